@@ -1,0 +1,28 @@
+//! The words for the two ends, for the two ways of a stream, and for the kinds of streams.
+
+/// An end of a session. The client opened the connection (RSocket 1.0, "Terminology").
+#[derive(Clone, Copy, Debug, PartialEq, Eq)]
+pub enum Side {
+    Client,
+    Server,
+}
+
+/// A direction of a stream: from the requester to the responder, or back.
+#[derive(Clone, Copy, Debug, PartialEq, Eq)]
+pub enum Way {
+    Request,
+    Reply,
+}
+
+/// The interaction that a stream carries (RSocket 1.0, "Request").
+#[derive(Clone, Copy, Debug, PartialEq, Eq)]
+pub enum Kind {
+    /// One request, one response.
+    Response,
+    /// One request, and no answer: fire-and-forget.
+    Fnf,
+    /// One request, a stream of payloads back.
+    Stream,
+    /// Streams of payloads in both directions.
+    Channel,
+}
