@@ -3,6 +3,8 @@
 /// Why a call is refused. Nothing changes but the tape, which has the call and this answer.
 #[derive(Clone, Copy, Debug, PartialEq, Eq)]
 pub enum Refusal {
+    /// The session is closed, for this cause.
+    Closed(Cause),
     /// The message has so many bytes, more than the settings allow.
     TooLarge(u64),
     /// Every stream id of this end that the settings allow is used (RSocket 1.0, "Stream
