@@ -1,26 +1,30 @@
 -- The rule that reading answers is the least that is broken.
-use Rattle.std.proofs.Common.{◌≡◌, ℕ, ◌^◌, Bool, true, false, cond, ltb, eqb, leb, List, [], ◌∷◌, length, drop, Option, Some, None, Result, Ok, refl, sym, ◌∙◌, arith, ◌⊎◌, inl, inr}
+use Rattle.std.proofs.Common.{◌≡◌, ℕ, ◌^◌, Bool, true, false, cond, ltb, eqb, leb, List, length, drop, Option, Some, None, Result, Ok, refl, sym, ◌∙◌, arith}
 use Rattle.std.specs.Prelude.{is_none}
 use Rattle.byteorder.specs.Endian.{big_number}
 use Rattle.rs_wire.specs.Ranges.{first_true}
 use Rattle.rs_wire.specs.declared.words.Kind.{Kind}
 use Rattle.rs_wire.specs.declared.words.Kind.TheVariants as kinds
-use Rattle.rs_frame.specs.declared.fault.FrameRule.{FrameRule}
-use Rattle.rs_frame.specs.declared.fault.FrameRule.TheVariants as rules
+use Rattle.rs_frame.specs.declared.fault.FrameFault.{FrameFault}
+use Rattle.rs_frame.specs.declared.fault.FrameFault.TheVariants as faults
 use Rattle.rs_frame.specs.declared.row.Row.{Row}
 use Rattle.rs_frame.specs.declared.row.Row.TheVariants as rows
 use Rattle.rs_frame.proofs.Rows.{made}
 use Rattle.rs_frame.specs.Table.{flag, row_of, type_number, stream_word, flags_word, body}
-use Rattle.rs_frame.specs.Rules.{broken_in, broken, message_of}
+use Rattle.rs_frame.specs.Rules.{broken, field_rules, message_of}
 use Rattle.rs_frame.specs.Reading.{refuse, found, rule_of, as_frame, setup_at, plain_at, counted_at, request_n_at, cancel_at, payload_at, error_at, row_at, frame_at, lease_at, keepalive_at, metadata_push_at, resume_at, as_resume, resume_ok_at, ext_at}
 
+-- the least rule of the fields
+abbrev pub broken_in : Row → ℕ → ℕ → List ℕ → Option FrameFault
+broken_in row stream flags body = first_true (field_rules row stream flags body)
+
 -- a test in front
-refuse_rule : {X : Type 0} (b : Bool) (r : FrameRule) (next : Result X FrameRule) (rest : Option FrameRule) → rule_of next ≡ rest → rule_of (refuse b r next) ≡ cond b (Some r) rest
+refuse_rule : {X : Type 0} (b : Bool) (r : FrameFault) (next : Result X FrameFault) (rest : Option FrameFault) → rule_of next ≡ rest → rule_of (refuse b r next) ≡ cond b (Some r) rest
 refuse_rule true r next rest e = refl
 refuse_rule false r next rest e = e
 
 -- a part that may be missing
-found_rule : {A X : Type 0} (o : Option A) (r : FrameRule) (next : A → Result X FrameRule) (rest : Option FrameRule) → ((x : A) → o ≡ Some x → rule_of (next x) ≡ rest) → rule_of (found r o next) ≡ cond (is_none o) (Some r) rest
+found_rule : {A X : Type 0} (o : Option A) (r : FrameFault) (next : A → Result X FrameFault) (rest : Option FrameFault) → ((x : A) → o ≡ Some x → rule_of (next x) ≡ rest) → rule_of (found r o next) ≡ cond (is_none o) (Some r) rest
 found_rule None r next rest e = refl
 found_rule (Some x) r next rest e = e x refl
 
@@ -40,8 +44,8 @@ plain_rule : (row : Row) (kind : Kind) (stream flags : ℕ) (body : List ℕ) �
 unfolding plain_at
 plain_rule row kind stream flags body e = rw e (grind arith)
 
-counted_shape : {A X : Type 0} (s l z h : Bool) (o : Option A) (f : A → X) → rule_of (refuse s rules.WrongStream (refuse l rules.ShortBody (refuse z rules.ZeroNumber (found rules.MetadataLength o (λ m. refuse h rules.HighBit (Ok (f m))))))) ≡
-    cond s (Some rules.WrongStream) (cond l (Some rules.ShortBody) (cond z (Some rules.ZeroNumber) (cond (is_none o) (Some rules.MetadataLength) (cond h (Some rules.HighBit) None))))
+counted_shape : {A X : Type 0} (s l z h : Bool) (o : Option A) (f : A → X) → rule_of (refuse s faults.WrongStream (refuse l faults.ShortBody (refuse z faults.ZeroNumber (found faults.MetadataLength o (λ m. refuse h faults.HighBit (Ok (f m))))))) ≡
+    cond s (Some faults.WrongStream) (cond l (Some faults.ShortBody) (cond z (Some faults.ZeroNumber) (cond (is_none o) (Some faults.MetadataLength) (cond h (Some faults.HighBit) None))))
 counted_shape true l z h o f = refl
 counted_shape false true z h o f = refl
 counted_shape false false true h o f = refl
@@ -109,32 +113,5 @@ pub frame_rule : (bytes : List ℕ) → rule_of (frame_at bytes) ≡ broken byte
 unfolding frame_at
 frame_rule bytes =
     let e = row_rule (row_of (type_number bytes)) (type_number bytes) (stream_word bytes) (flags_word bytes) (body bytes) in
-    refuse_rule (ltb (length bytes) 6) rules.ShortHeader (refuse (leb (2 ^ 31) (stream_word bytes)) rules.LeadingBit (row_at (row_of (type_number bytes)) (type_number bytes) (stream_word bytes) (flags_word bytes) (body bytes))) (cond (leb (2 ^ 31) (stream_word bytes)) (Some rules.LeadingBit) (broken_in (row_of (type_number bytes)) (stream_word bytes) (flags_word bytes) (body bytes)))
-    (refuse_rule (leb (2 ^ 31) (stream_word bytes)) rules.LeadingBit (row_at (row_of (type_number bytes)) (type_number bytes) (stream_word bytes) (flags_word bytes) (body bytes)) (broken_in (row_of (type_number bytes)) (stream_word bytes) (flags_word bytes) (body bytes)) e)
-
--- ---- the least of a list of tests
-
--- the first of the tests that is true, and those before it
-abbrev IsFirst : List (Bool × FrameRule) → FrameRule → Type 0
-IsFirst [] x = ⊥
-IsFirst (c ∷ cs) x = ((c.0 ≡ true) × (c.1 ≡ x)) ⊎ ((c.0 ≡ false) × IsFirst cs x)
-
-first_is : (cs : List (Bool × FrameRule)) (x : FrameRule) → first_true cs ≡ Some x → IsFirst cs x
-first_is [] x e = absurd cc
-first_is (c ∷ cs) x e = first_by c.0 c.1 cs x (first_is cs x) e
-  where
-    first_by : (b : Bool) (y : FrameRule) (cs : List (Bool × FrameRule)) (x : FrameRule) → (first_true cs ≡ Some x → IsFirst cs x) → cond b (Some y) (first_true cs) ≡ Some x → ((b ≡ true) × (y ≡ x)) ⊎ ((b ≡ false) × IsFirst cs x)
-    first_by true y cs x next e = inl (refl, cc)
-    first_by false y cs x next e = inr (refl, next e)
-
-abbrev in_order : Bool → Bool → Bool → Bool → Bool → Bool → Bool → Bool → Bool → Option FrameRule
-in_order b1 b2 b3 b4 b5 b6 b7 b8 b9 = first_true ((b1, rules.ShortHeader) ∷ (b2, rules.LeadingBit) ∷ (b3, rules.WrongStream) ∷ (b4, rules.ShortBody) ∷ (b5, rules.LongBody) ∷ (b6, rules.ZeroNumber) ∷ (b7, rules.NameLength) ∷ (b8, rules.MetadataLength) ∷ (b9, rules.HighBit) ∷ [])
-
-shape_1 : (b1 b2 b3 b4 b5 b6 b7 b8 b9 : Bool) → in_order b1 b2 b3 b4 b5 b6 b7 b8 b9 ≡ Some rules.ShortHeader → b1 ≡ true
-shape_1 b1 b2 b3 b4 b5 b6 b7 b8 b9 e = grind arith
-
-shape_4 : (b1 b2 b3 b4 b5 b6 b7 b8 b9 : Bool) → in_order b1 b2 b3 b4 b5 b6 b7 b8 b9 ≡ Some rules.ShortBody → (b1 ≡ false) × (b2 ≡ false) × (b3 ≡ false) × (b4 ≡ true)
-shape_4 b1 b2 b3 b4 b5 b6 b7 b8 b9 e = grind arith
-
-shape_9 : (b1 b2 b3 b4 b5 b6 b7 b8 b9 : Bool) → in_order b1 b2 b3 b4 b5 b6 b7 b8 b9 ≡ Some rules.HighBit → (b1 ≡ false) × (b2 ≡ false) × (b3 ≡ false) × (b4 ≡ false) × (b5 ≡ false) × (b6 ≡ false) × (b7 ≡ false) × (b8 ≡ false) × (b9 ≡ true)
-shape_9 b1 b2 b3 b4 b5 b6 b7 b8 b9 e = grind arith
+    refuse_rule (ltb (length bytes) 6) faults.ShortHeader (refuse (leb (2 ^ 31) (stream_word bytes)) faults.LeadingBit (row_at (row_of (type_number bytes)) (type_number bytes) (stream_word bytes) (flags_word bytes) (body bytes))) (cond (leb (2 ^ 31) (stream_word bytes)) (Some faults.LeadingBit) (broken_in (row_of (type_number bytes)) (stream_word bytes) (flags_word bytes) (body bytes)))
+    (refuse_rule (leb (2 ^ 31) (stream_word bytes)) faults.LeadingBit (row_at (row_of (type_number bytes)) (type_number bytes) (stream_word bytes) (flags_word bytes) (body bytes)) (broken_in (row_of (type_number bytes)) (stream_word bytes) (flags_word bytes) (body bytes)) e)

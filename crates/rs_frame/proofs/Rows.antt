@@ -8,8 +8,8 @@ use Rattle.byteorder.specs.Numbers.{big_from-lt}
 use Rattle.rs_wire.specs.declared.message.Message.{Message}
 use Rattle.rs_wire.specs.declared.words.Kind.{Kind}
 use Rattle.rs_wire.specs.declared.words.Kind.TheVariants as kinds
-use Rattle.rs_frame.specs.declared.fault.FrameRule.{FrameRule}
-use Rattle.rs_frame.specs.declared.fault.FrameRule.TheVariants as rules
+use Rattle.rs_frame.specs.declared.fault.FrameFault.{FrameFault}
+use Rattle.rs_frame.specs.declared.fault.FrameFault.TheVariants as faults
 use Rattle.rs_frame.specs.declared.frame.Frame.{Frame}
 use Rattle.rs_frame.specs.declared.frame.Frame.TheVariants as frames
 use Rattle.rs_frame.specs.declared.frame.Setup.{Setup}
@@ -29,7 +29,7 @@ pub record IsRow (f : Frame) (number stream flags : ℕ) (body : List ℕ) : Typ
   pub body_is : body ≡ body_of f
   pub fits : FieldsFit f
 
-abbrev done : {A : Type 0} → A → Result A FrameRule
+abbrev done : {A : Type 0} → A → Result A FrameFault
 done x = Ok x
 
 pub ok_is : {A : Type 0} (x y : A) → done x ≡ done y → x ≡ y
@@ -41,9 +41,9 @@ above_zero n e = let ne = eqb-false n 0 e in omega arith
 pub payload_takes : (stream flags : ℕ) (body : List ℕ) (f : Frame) → IsBytes body → stream < 2 ^ 31 → payload_at stream flags body ≡ Ok f → IsRow f 10 stream flags body
 unfolding payload_at
 payload_takes stream flags body f h low e =
-    let next : Message → Result Frame FrameRule = λ m. Ok (frames.Payload stream (flag 0x80 flags) (flag 0x40 flags) (flag 0x20 flags) m) in
-    let a = refuse_ok (eqb stream 0) rules.WrongStream (found rules.MetadataLength (message_of (flag 0x100 flags) body) next) f e in
-    let b = found_ok rules.MetadataLength (message_of (flag 0x100 flags) body) next f a.1 in
+    let next : Message → Result Frame FrameFault = λ m. Ok (frames.Payload stream (flag 0x80 flags) (flag 0x40 flags) (flag 0x20 flags) m) in
+    let a = refuse_ok (eqb stream 0) faults.WrongStream (found faults.MetadataLength (message_of (flag 0x100 flags) body) next) f e in
+    let b = found_ok faults.MetadataLength (message_of (flag 0x100 flags) body) next f a.1 in
     let m = message_takes (flag 0x100 flags) body b.0 h b.1 in
     subst (λ (x : Frame). IsRow x 10 stream flags body) (ok_is (frames.Payload stream (flag 0x80 flags) (flag 0x40 flags) (flag 0x20 flags) b.0) f b.2)
     (record { number_is = refl; stream_is = refl; named = (m.flag_is, refl, refl, refl); body_is = m.parts; fits = ((above_zero stream a.0, low), m.fits) })
@@ -62,7 +62,7 @@ pub request_n_takes : (stream flags : ℕ) (body : List ℕ) (f : Frame) → IsB
 unfolding request_n_at
 request_n_takes stream flags body f h low e =
     let n = big_number 4 body in
-    let p = refuse_all_ok ((eqb stream 0, rules.WrongStream) ∷ (ltb (length body) 4, rules.ShortBody) ∷ (ltb 4 (length body), rules.LongBody) ∷ (eqb n 0, rules.ZeroNumber) ∷ (leb (2 ^ 31) n, rules.HighBit) ∷ []) (Ok (frames.RequestN stream n)) f e in
+    let p = refuse_all_ok ((eqb stream 0, faults.WrongStream) ∷ (ltb (length body) 4, faults.ShortBody) ∷ (ltb 4 (length body), faults.LongBody) ∷ (eqb n 0, faults.ZeroNumber) ∷ (leb (2 ^ 31) n, faults.HighBit) ∷ []) (Ok (frames.RequestN stream n)) f e in
     let long : 4 ≤ length body = ltb-false _ _ p.0.1.0 in
     let short : length body ≤ 4 = ltb-false _ _ p.0.1.1.0 in
     let below : n < 2 ^ 31 = leb-false _ _ p.0.1.1.1.1.0 in
@@ -85,7 +85,7 @@ request_n_again stream n fits = request_n_of stream n (big_bytes 4 n) fits refl 
 pub cancel_takes : (stream flags : ℕ) (body : List ℕ) (f : Frame) → IsBytes body → stream < 2 ^ 31 → cancel_at stream body ≡ Ok f → IsRow f 9 stream flags body
 unfolding cancel_at
 cancel_takes stream flags body f h low e =
-    let p = refuse_all_ok ((eqb stream 0, rules.WrongStream) ∷ (ltb 0 (length body), rules.LongBody) ∷ []) (Ok (frames.Cancel stream)) f e in
+    let p = refuse_all_ok ((eqb stream 0, faults.WrongStream) ∷ (ltb 0 (length body), faults.LongBody) ∷ []) (Ok (frames.Cancel stream)) f e in
     let short : length body ≤ 0 = ltb-false _ _ p.0.1.0 in
     subst (λ (x : Frame). IsRow x 9 stream flags body) (ok_is (frames.Cancel stream) f p.1)
     (record { number_is = refl; stream_is = refl; named = tt; body_is = nil_from_length body (omega arith); fits = (above_zero stream p.0.0, low) })
@@ -98,7 +98,7 @@ pub error_takes : (stream flags : ℕ) (body : List ℕ) (f : Frame) → IsBytes
 unfolding error_at
 error_takes stream flags body f h low e =
     let n = big_number 4 body in
-    let p = refuse_all_ok ((ltb (length body) 4, rules.ShortBody) ∷ []) (Ok (frames.Error stream n (drop 4 body))) f e in
+    let p = refuse_all_ok ((ltb (length body) 4, faults.ShortBody) ∷ []) (Ok (frames.Error stream n (drop 4 body))) f e in
     let long : 4 ≤ length body = ltb-false _ _ p.0.0 in
     subst (λ (x : Frame). IsRow x 11 stream flags body) (ok_is (frames.Error stream n (drop 4 body)) f p.1)
     (record { number_is = refl; stream_is = refl; named = tt; body_is = number_front 4 body long h; fits = (low, big_from-lt 0 4 body h) })
@@ -120,9 +120,9 @@ made stream kind follows complete initial m = frames.Request (record { stream = 
 pub plain_takes : (kind : Kind) (stream flags : ℕ) (body : List ℕ) (f : Frame) → InitialFits kind None false → (kind ≡ kinds.Channel → ⊥) → IsBytes body → stream < 2 ^ 31 → plain_at kind stream flags body ≡ Ok f → IsRow f (kind_number kind) stream flags body
 unfolding plain_at
 plain_takes kind stream flags body f initial other h low e =
-    let next : Message → Result Frame FrameRule = λ m. Ok (made stream kind (flag 0x80 flags) false None m) in
-    let a = refuse_ok (eqb stream 0) rules.WrongStream (found rules.MetadataLength (message_of (flag 0x100 flags) body) next) f e in
-    let b = found_ok rules.MetadataLength (message_of (flag 0x100 flags) body) next f a.1 in
+    let next : Message → Result Frame FrameFault = λ m. Ok (made stream kind (flag 0x80 flags) false None m) in
+    let a = refuse_ok (eqb stream 0) faults.WrongStream (found faults.MetadataLength (message_of (flag 0x100 flags) body) next) f e in
+    let b = found_ok faults.MetadataLength (message_of (flag 0x100 flags) body) next f a.1 in
     let m = message_takes (flag 0x100 flags) body b.0 h b.1 in
     subst (λ (x : Frame). IsRow x (kind_number kind) stream flags body) (ok_is (made stream kind (flag 0x80 flags) false None b.0) f b.2)
     (record { number_is = refl; stream_is = refl; named = (m.flag_is, refl, λ is. absurd (other is)); body_is = m.parts; fits = ((above_zero stream a.0, low), initial, m.fits) })
@@ -137,11 +137,11 @@ pub counted_takes : (kind : Kind) (complete : Bool) (stream flags : ℕ) (body :
 unfolding counted_at
 counted_takes kind complete stream flags body f initial other h low e =
     let n = big_number 4 body in
-    let last : Message → Result Frame FrameRule = λ m. Ok (made stream kind (flag 0x80 flags) complete (Some n) m) in
-    let next : Message → Result Frame FrameRule = λ m. refuse (leb (2 ^ 31) n) rules.HighBit (last m) in
-    let p = refuse_all_ok ((eqb stream 0, rules.WrongStream) ∷ (ltb (length body) 4, rules.ShortBody) ∷ (eqb n 0, rules.ZeroNumber) ∷ []) (found rules.MetadataLength (message_of (flag 0x100 flags) (drop 4 body)) next) f e in
-    let b = found_ok rules.MetadataLength (message_of (flag 0x100 flags) (drop 4 body)) next f p.1 in
-    let q = refuse_ok (leb (2 ^ 31) n) rules.HighBit (last b.0) f b.2 in
+    let last : Message → Result Frame FrameFault = λ m. Ok (made stream kind (flag 0x80 flags) complete (Some n) m) in
+    let next : Message → Result Frame FrameFault = λ m. refuse (leb (2 ^ 31) n) faults.HighBit (last m) in
+    let p = refuse_all_ok ((eqb stream 0, faults.WrongStream) ∷ (ltb (length body) 4, faults.ShortBody) ∷ (eqb n 0, faults.ZeroNumber) ∷ []) (found faults.MetadataLength (message_of (flag 0x100 flags) (drop 4 body)) next) f e in
+    let b = found_ok faults.MetadataLength (message_of (flag 0x100 flags) (drop 4 body)) next f p.1 in
+    let q = refuse_ok (leb (2 ^ 31) n) faults.HighBit (last b.0) f b.2 in
     let long : 4 ≤ length body = ltb-false _ _ p.0.1.0 in
     let below : n < 2 ^ 31 = leb-false _ _ q.0 in
     let is : IsStream n = (above_zero n p.0.1.1.0, below) in
@@ -175,13 +175,13 @@ unfolding setup_at
 setup_takes stream flags body s h e =
     let keepalive = number_at 4 4 body in
     let lifetime = number_at 4 8 body in
-    let last : Names → Message → Result Setup FrameRule = λ names m. Ok (setup_made flags body names m) in
-    let third : Names → Message → Result Setup FrameRule = λ names m. refuse (leb (2 ^ 31) keepalive || leb (2 ^ 31) lifetime) rules.HighBit (last names m) in
-    let second : Names → Result Setup FrameRule = λ names. found rules.MetadataLength (message_of (flag 0x100 flags) names.rest) (third names) in
-    let p = refuse_all_ok ((not (eqb stream 0), rules.WrongStream) ∷ (ltb (length body) 12, rules.ShortBody) ∷ (eqb keepalive 0 || eqb lifetime 0, rules.ZeroNumber) ∷ []) (found rules.NameLength (names_of (flag 0x80 flags) (drop 12 body)) second) s e in
-    let a = found_ok rules.NameLength (names_of (flag 0x80 flags) (drop 12 body)) second s p.1 in
-    let b = found_ok rules.MetadataLength (message_of (flag 0x100 flags) a.0.rest) (third a.0) s a.2 in
-    let q = refuse_ok (leb (2 ^ 31) keepalive || leb (2 ^ 31) lifetime) rules.HighBit (last a.0 b.0) s b.2 in
+    let last : Names → Message → Result Setup FrameFault = λ names m. Ok (setup_made flags body names m) in
+    let third : Names → Message → Result Setup FrameFault = λ names m. refuse (leb (2 ^ 31) keepalive || leb (2 ^ 31) lifetime) faults.HighBit (last names m) in
+    let second : Names → Result Setup FrameFault = λ names. found faults.MetadataLength (message_of (flag 0x100 flags) names.rest) (third names) in
+    let p = refuse_all_ok ((not (eqb stream 0), faults.WrongStream) ∷ (ltb (length body) 12, faults.ShortBody) ∷ (eqb keepalive 0 || eqb lifetime 0, faults.ZeroNumber) ∷ []) (found faults.NameLength (names_of (flag 0x80 flags) (drop 12 body)) second) s e in
+    let a = found_ok faults.NameLength (names_of (flag 0x80 flags) (drop 12 body)) second s p.1 in
+    let b = found_ok faults.MetadataLength (message_of (flag 0x100 flags) a.0.rest) (third a.0) s a.2 in
+    let q = refuse_ok (leb (2 ^ 31) keepalive || leb (2 ^ 31) lifetime) faults.HighBit (last a.0 b.0) s b.2 in
     let zero_is : stream ≡ 0 = grind (arith, p.0.0) in
     let long : 12 ≤ length body = ltb-false _ _ p.0.1.0 in
     let z = or_false (eqb keepalive 0) (eqb lifetime 0) p.0.1.1.0 in
@@ -244,7 +244,7 @@ lease_takes stream flags body f h e =
     let count = number_at 4 4 body in
     let m = flag 0x100 flags in
     let made_lease : Frame = frames.Lease ttl count (if m then Some (drop 8 body) else None) in
-    let p = refuse_all_ok ((not (eqb stream 0), rules.WrongStream) ∷ (ltb (length body) 8, rules.ShortBody) ∷ (not m && ltb 8 (length body), rules.LongBody) ∷ (leb (2 ^ 31) ttl || leb (2 ^ 31) count, rules.HighBit) ∷ []) (Ok made_lease) f e in
+    let p = refuse_all_ok ((not (eqb stream 0), faults.WrongStream) ∷ (ltb (length body) 8, faults.ShortBody) ∷ (not m && ltb 8 (length body), faults.LongBody) ∷ (leb (2 ^ 31) ttl || leb (2 ^ 31) count, faults.HighBit) ∷ []) (Ok made_lease) f e in
     let zero_is : stream ≡ 0 = grind (arith, p.0.0) in
     let long : 8 ≤ length body = ltb-false _ _ p.0.1.0 in
     let t = or_false (leb (2 ^ 31) ttl) (leb (2 ^ 31) count) p.0.1.1.1.0 in
@@ -278,7 +278,7 @@ pub keepalive_takes : (stream flags : ℕ) (body : List ℕ) (f : Frame) → IsB
 unfolding keepalive_at
 keepalive_takes stream flags body f h e =
     let n = big_number 8 body in
-    let p = refuse_all_ok ((not (eqb stream 0), rules.WrongStream) ∷ (ltb (length body) 8, rules.ShortBody) ∷ (leb (2 ^ 63) n, rules.HighBit) ∷ []) (Ok (frames.Keepalive (flag 0x80 flags) n (drop 8 body))) f e in
+    let p = refuse_all_ok ((not (eqb stream 0), faults.WrongStream) ∷ (ltb (length body) 8, faults.ShortBody) ∷ (leb (2 ^ 63) n, faults.HighBit) ∷ []) (Ok (frames.Keepalive (flag 0x80 flags) n (drop 8 body))) f e in
     let zero_is : stream ≡ 0 = grind (arith, p.0.0) in
     subst (λ (x : Frame). IsRow x 3 stream flags body) (ok_is (frames.Keepalive (flag 0x80 flags) n (drop 8 body)) f p.1)
     (record { number_is = refl; stream_is = sym zero_is; named = refl; body_is = number_front 8 body (ltb-false _ _ p.0.1.0) h; fits = leb-false _ _ p.0.1.1.0 })
@@ -298,7 +298,7 @@ pub resume_ok_takes : (stream flags : ℕ) (body : List ℕ) (f : Frame) → IsB
 unfolding resume_ok_at
 resume_ok_takes stream flags body f h e =
     let n = big_number 8 body in
-    let p = refuse_all_ok ((not (eqb stream 0), rules.WrongStream) ∷ (ltb (length body) 8, rules.ShortBody) ∷ (ltb 8 (length body), rules.LongBody) ∷ (leb (2 ^ 63) n, rules.HighBit) ∷ []) (Ok (frames.ResumeOk n)) f e in
+    let p = refuse_all_ok ((not (eqb stream 0), faults.WrongStream) ∷ (ltb (length body) 8, faults.ShortBody) ∷ (ltb 8 (length body), faults.LongBody) ∷ (leb (2 ^ 63) n, faults.HighBit) ∷ []) (Ok (frames.ResumeOk n)) f e in
     let zero_is : stream ≡ 0 = grind (arith, p.0.0) in
     let long : 8 ≤ length body = ltb-false _ _ p.0.1.0 in
     let short : length body ≤ 8 = ltb-false _ _ p.0.1.1.0 in
@@ -319,7 +319,7 @@ pub ext_takes : (stream flags : ℕ) (body : List ℕ) (f : Frame) → IsBytes b
 unfolding ext_at
 ext_takes stream flags body f h low few e =
     let n = big_number 4 body in
-    let p = refuse_all_ok ((ltb (length body) 4, rules.ShortBody) ∷ (leb (2 ^ 31) n, rules.HighBit) ∷ []) (Ok (frames.Ext stream flags n (drop 4 body))) f e in
+    let p = refuse_all_ok ((ltb (length body) 4, faults.ShortBody) ∷ (leb (2 ^ 31) n, faults.HighBit) ∷ []) (Ok (frames.Ext stream flags n (drop 4 body))) f e in
     subst (λ (x : Frame). IsRow x 63 stream flags body) (ok_is (frames.Ext stream flags n (drop 4 body)) f p.1)
     (record { number_is = refl; stream_is = refl; named = refl; body_is = number_front 4 body (ltb-false _ _ p.0.0) h; fits = (low, few, leb-false _ _ p.0.1.0) })
 
@@ -336,7 +336,7 @@ ext_again stream flags n rest fits = ext_of stream flags n rest (big_bytes 4 n +
 pub metadata_push_takes : (stream flags : ℕ) (body : List ℕ) (f : Frame) → metadata_push_at stream body ≡ Ok f → IsRow f 12 stream flags body
 unfolding metadata_push_at
 metadata_push_takes stream flags body f e =
-    let p = refuse_all_ok ((not (eqb stream 0), rules.WrongStream) ∷ []) (Ok (frames.MetadataPush body)) f e in
+    let p = refuse_all_ok ((not (eqb stream 0), faults.WrongStream) ∷ []) (Ok (frames.MetadataPush body)) f e in
     let zero_is : stream ≡ 0 = grind (arith, p.0.0) in
     subst (λ (x : Frame). IsRow x 12 stream flags body) (ok_is (frames.MetadataPush body) f p.1)
     (record { number_is = refl; stream_is = sym zero_is; named = tt; body_is = refl; fits = tt })
@@ -358,7 +358,7 @@ resume_takes stream flags body r h e =
     let len = number_at 2 4 body in
     let server = long_at (6 + len) body in
     let client = long_at (14 + len) body in
-    let p = refuse_all_ok ((not (eqb stream 0), rules.WrongStream) ∷ (ltb (length body) 22, rules.ShortBody) ∷ (ltb (22 + len) (length body), rules.LongBody) ∷ (ltb (length body) (22 + len), rules.NameLength) ∷ (leb (2 ^ 63) server || leb (2 ^ 63) client, rules.HighBit) ∷ []) (Ok (resume_made body)) r e in
+    let p = refuse_all_ok ((not (eqb stream 0), faults.WrongStream) ∷ (ltb (length body) 22, faults.ShortBody) ∷ (ltb (22 + len) (length body), faults.LongBody) ∷ (ltb (length body) (22 + len), faults.NameLength) ∷ (leb (2 ^ 63) server || leb (2 ^ 63) client, faults.HighBit) ∷ []) (Ok (resume_made body)) r e in
     let zero_is : stream ≡ 0 = grind (arith, p.0.0) in
     let least : 22 ≤ length body = ltb-false _ _ p.0.1.0 in
     let short : length body ≤ 22 + len = ltb-false _ _ p.0.1.1.0 in

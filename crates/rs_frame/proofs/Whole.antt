@@ -7,8 +7,8 @@ use Rattle.byteorder.specs.Numbers.{big_from-lt}
 use Rattle.rs_wire.specs.declared.message.Message.{Message}
 use Rattle.rs_wire.specs.declared.words.Kind.{Kind}
 use Rattle.rs_wire.specs.declared.words.Kind.TheVariants as kinds
-use Rattle.rs_frame.specs.declared.fault.FrameRule.{FrameRule}
-use Rattle.rs_frame.specs.declared.fault.FrameRule.TheVariants as rules
+use Rattle.rs_frame.specs.declared.fault.FrameFault.{FrameFault}
+use Rattle.rs_frame.specs.declared.fault.FrameFault.TheVariants as faults
 use Rattle.rs_frame.specs.declared.frame.Frame.{Frame}
 use Rattle.rs_frame.specs.declared.frame.Frame.TheVariants as frames
 use Rattle.rs_frame.specs.declared.frame.Setup.{Setup}
@@ -71,11 +71,11 @@ row_11 n e = grind arith
 
 -- ---- rows
 
-as_frame_ok : (r : Result Setup FrameRule) (f : Frame) → as_frame r ≡ Ok f → (s : Setup) × (r ≡ Ok s) × (frames.Setup s ≡ f)
+as_frame_ok : (r : Result Setup FrameFault) (f : Frame) → as_frame r ≡ Ok f → (s : Setup) × (r ≡ Ok s) × (frames.Setup s ≡ f)
 as_frame_ok (Ok s) f e = (s, refl, cc)
 as_frame_ok (Err r) f e = absurd cc
 
-as_resume_ok : (r : Result Resume FrameRule) (f : Frame) → as_resume r ≡ Ok f → (s : Resume) × (r ≡ Ok s) × (frames.Resume s ≡ f)
+as_resume_ok : (r : Result Resume FrameFault) (f : Frame) → as_resume r ≡ Ok f → (s : Resume) × (r ≡ Ok s) × (frames.Resume s ≡ f)
 as_resume_ok (Ok s) f e = (s, refl, cc)
 as_resume_ok (Err r) f e = absurd cc
 
@@ -134,7 +134,7 @@ row_again (frames.Unknown stream number kept rest) flags named fits = rw (fits.2
 pub frame_takes : (bytes : List ℕ) (f : Frame) → IsBytes bytes → frame_at bytes ≡ Ok f → Spells f bytes
 unfolding frame_at
 frame_takes bytes f h e =
-    let p = refuse_all_ok ((ltb (length bytes) 6, rules.ShortHeader) ∷ (leb (2 ^ 31) (stream_word bytes), rules.LeadingBit) ∷ []) (row_at (row_of (type_number bytes)) (type_number bytes) (stream_word bytes) (flags_word bytes) (body bytes)) f e in
+    let p = refuse_all_ok ((ltb (length bytes) 6, faults.ShortHeader) ∷ (leb (2 ^ 31) (stream_word bytes), faults.LeadingBit) ∷ []) (row_at (row_of (type_number bytes)) (type_number bytes) (stream_word bytes) (flags_word bytes) (body bytes)) f e in
     let long : 6 ≤ length bytes = ltb-false _ _ p.0.0 in
     let low : stream_word bytes < 2 ^ 31 = leb-false _ _ p.0.1.0 in
     let word : type_word bytes < 256 ^ 2 = big_from-lt 0 2 (drop 4 bytes) (IsBytes-drop 4 bytes h) in

@@ -1,5 +1,6 @@
--- What a frame is spelled by: the row of its type, field by field.
-use Rattle.std.specs.Prelude.{◌≡◌, ℕ, ◌+◌, ◌*◌, ◌^◌, ◌<◌, Bool, false, List, [], ◌++◌, length, Option, Some, None, is_some, IfSome, if◌then◌else◌}
+-- The grammar: which bytes spell a frame, by the row of its type, field by field (RSocket 1.0, "Framing
+-- Format" and "Frame Types", with RESUME and RESUME_OK of "Resuming Operation").
+use Rattle.std.specs.Prelude.{◌≡◌, ℕ, ◌+◌, ◌*◌, ◌^◌, ◌<◌, Bool, true, false, nat_lt, List, [], ◌++◌, length, Option, Some, None, is_some, IfSome, if◌then◌else◌}
 use Rattle.byteorder.specs.Endian.{big_bytes}
 use Rattle.rs_wire.specs.declared.message.Message.{Message}
 use Rattle.rs_wire.specs.declared.words.Kind.{Kind}
@@ -9,13 +10,14 @@ use Rattle.rs_frame.specs.declared.frame.Frame.TheVariants as frames
 use Rattle.rs_frame.specs.declared.row.Row.TheVariants as rows
 use Rattle.rs_frame.specs.Table.{flag, row_of}
 
--- the type number
+-- the type number of a request
 abbrev pub kind_number : Kind → ℕ
 kind_number kinds.Response = 0x04
 kind_number kinds.Fnf = 0x05
 kind_number kinds.Stream = 0x06
 kind_number kinds.Channel = 0x07
 
+-- the type number of a frame
 abbrev pub number_of : Frame → ℕ
 number_of (frames.Setup s) = 0x01
 number_of (frames.Lease ttl count metadata) = 0x02
@@ -31,6 +33,7 @@ number_of (frames.Payload stream follows complete next message) = 0x0a
 number_of (frames.Error stream code content) = 0x0b
 number_of (frames.Unknown stream number flags rest) = number
 
+-- the stream id of a frame; 0 is the connection
 abbrev pub stream_of : Frame → ℕ
 stream_of (frames.Setup s) = 0
 stream_of (frames.Lease ttl count metadata) = 0
@@ -71,9 +74,11 @@ abbrev pub if_there : ℕ → Option (List ℕ) → List ℕ
 if_there n None = []
 if_there n (Some bytes) = counted_bytes n bytes
 
+-- metadata after its length, where there is any, and content to the end ("Metadata Optional Header")
 abbrev pub payload : Message → List ℕ
 payload m = if_there 3 m.metadata ++ m.content
 
+-- a number of four bytes, where there is one
 abbrev pub number_there : Option ℕ → List ℕ
 number_there None = []
 number_there (Some n) = big_bytes 4 n
@@ -99,10 +104,11 @@ body_of (frames.ResumeOk position) = big_bytes 8 position
 body_of (frames.Ext stream flags extended rest) = big_bytes 4 extended ++ rest
 body_of (frames.Unknown stream number flags rest) = rest
 
--- a number of 31 bits, and one that is above 0
+-- above 0, and of 31 bits
 abbrev pub IsStream : ℕ → Type 0
 IsStream n = (0 < n) × (n < 2 ^ 31)
 
+-- the length of the metadata fits in three bytes
 abbrev pub MessageFits : Message → Type 0
 MessageFits m = IfSome m.metadata (λ metadata. length metadata < 2 ^ 24)
 
@@ -141,10 +147,11 @@ pub record Spells (f : Frame) (bytes : List ℕ) : Type 0 where
   pub named : HasFlags f flags
   pub bytes_are : bytes ≡ framed (stream_of f) (number_of f) flags (body_of f)
 
--- the flags that the row names, and 0 in the others
+-- a bit where it is set
 abbrev pub bit_if : Bool → ℕ → ℕ
 bit_if b n = if b then n else 0
 
+-- the flags that the row names, and 0 in the others; METADATA_PUSH has M
 abbrev pub flags_of : Frame → ℕ
 flags_of (frames.Setup s) = bit_if (is_some s.message.metadata) 0x100 + bit_if (is_some s.resume) 0x80 + bit_if s.lease 0x40
 flags_of (frames.Request r) = bit_if (is_some r.message.metadata) 0x100 + bit_if r.follows 0x80 + bit_if r.complete 0x40
@@ -156,12 +163,24 @@ flags_of (frames.Ext stream flags extended rest) = flags
 flags_of (frames.Unknown stream number flags rest) = flags
 flags_of _ = 0
 
+-- the spelling that is written
 abbrev pub canonical : Frame → List ℕ
 canonical f = framed (stream_of f) (number_of f) (flags_of f) (body_of f)
 
+-- the length of a frame
 abbrev pub length_of : Frame → ℕ
 length_of f = 6 + length (body_of f)
 
+-- the frame can be written
 pub record IsSpellable (f : Frame) : Type 0 where
   pub fields : FieldsFit f
   pub short : length_of f < 2 ^ 24
+
+-- whether the frame counts in the positions of a session: the frames of streams ("Resuming Operation")
+abbrev pub is_resumable : Frame → Bool
+is_resumable (frames.Request r) = true
+is_resumable (frames.RequestN stream n) = true
+is_resumable (frames.Cancel stream) = true
+is_resumable (frames.Payload stream follows complete next message) = true
+is_resumable (frames.Error stream code content) = nat_lt 0 stream
+is_resumable _ = false

@@ -1,0 +1,18 @@
+use Rattle.std.proofs.Common.{rules, IsSome, ◌+◌, ◌∙◌, refl, ap, sym}
+use Rattle.conn_lock.specs.Rule.{slot_list}
+use Rattle.conn_lock.proofs.NumberSteps.{counts, names}
+use Rattle.conn_lock.proofs.lock.Lock.draw_number.Goals as goal
+
+pub load-seen-requires : goal.load-seen-requires
+load-seen-requires g c = (c.requires.of ∙ sym c.self.view_is, search rules, counts (slot_list g.S.Stands.list) IsSome g.S.Stands.number c.self.inside.table.shared.table_id.slots c.args.token.now.id c.args.token.now.me c.requires.idle.2)
+
+pub compare_exchange-found-requires : goal.compare_exchange-found-requires
+compare_exchange-found-requires g c =
+    let kept = c.loop.invariant in
+    let same = kept.4 in
+    let idle = c.requires.idle in (
+      kept.2 ∙ (c.requires.of ∙ sym c.self.view_is),
+      search rules,
+      names (slot_list g.S.Stands.list) IsSome g.S.Stands.number c.self.inside.table.shared.table_id.slots c.loop.token.id c.loop.token.me c.loop.seen (c.loop.seen + 1) refl
+          (search rules) (ap (λ m. m.0.turn) same ∙ idle.2) (rw same idle.3),
+    )

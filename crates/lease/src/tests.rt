@@ -1,0 +1,68 @@
+use super::*;
+use rs_wire::Amount;
+use std::test::Fail;
+
+#[test]
+fn a_lease_is_used_up_by_its_count(rt: HostRuntime) {
+    let mut lease = Lease::new();
+    assert_eq!(rt; lease.may(0), Err(LeaseFault::Used(0)));
+    lease.grant(0, 1_000, 2);
+    assert_eq!(rt; lease.may(0), Ok(()));
+    lease.use_one();
+    assert_eq!(rt; lease.may(0), Ok(()));
+    lease.use_one();
+    assert_eq!(rt; lease.may(0), Err(LeaseFault::Used(2)));
+}
+
+#[test]
+fn a_lease_is_over_at_its_end(rt: HostRuntime) {
+    let mut lease = Lease::new();
+    lease.grant(100, 50, 10);
+    assert_eq!(rt; lease.may(149), Ok(()));
+    assert_eq!(rt; lease.may(150), Err(LeaseFault::Over(150)));
+    assert_eq!(rt; lease.may(151), Err(LeaseFault::Over(150)));
+}
+
+#[test]
+fn a_lease_used_up_and_over_in_one_moment_is_used_up(rt: HostRuntime) {
+    let mut lease = Lease::new();
+    lease.grant(100, 50, 1);
+    lease.use_one();
+    assert_eq!(rt; lease.may(150), Err(LeaseFault::Used(1)));
+}
+
+#[test]
+fn a_lease_of_no_time_or_no_count_lets_nothing_through(rt: HostRuntime) {
+    let mut lease = Lease::new();
+    lease.grant(0, 0, 5);
+    assert_eq!(rt; lease.may(0), Err(LeaseFault::Over(0)));
+    lease.grant(0, 1_000, 0);
+    assert_eq!(rt; lease.may(0), Err(LeaseFault::Used(0)));
+}
+
+#[test]
+fn a_lease_replaces_the_former_one_and_ends_with_its_connection(rt: HostRuntime) {
+    let mut lease = Lease::new();
+    lease.grant(0, 1_000, 1);
+    lease.use_one();
+    lease.grant(u64::MAX, u32::MAX, 1);
+    assert_eq!(rt; lease.may(u64::MAX), Ok(()));
+    lease.gone();
+    assert_eq!(rt; lease.may(0), Err(LeaseFault::Used(0)));
+    assert_eq!(rt; lease, Lease::new());
+}
+
+#[test]
+fn a_responder_admits_as_many_as_it_granted_in_sum(rt: HostRuntime) -> Result<(), Fail> {
+    let mut granted = Granted::new();
+    assert!(rt; !granted.would_admit() && !granted.admit());
+    granted.grant(Amount::of(1).ok_or("an amount")?);
+    assert!(rt; granted.would_admit());
+    assert_eq!(rt; (granted.admit(), granted.admit()), (true, false));
+    granted.grant(Amount::of(2).ok_or("an amount")?);
+    assert_eq!(rt;
+        (granted.admit(), granted.admit(), granted.admit()),
+        (true, true, false)
+    );
+    Ok(())
+}

@@ -1,0 +1,22 @@
+-- What one read and one write do to the content that is told.
+use Rattle.std.specs.Prelude.{◌≡◌, ℕ, ◌<◌, ◌≤◌, List, [], length, take, Option, IfSome}
+use Rattle.std.specs.Io.KnownBytes.{prepend_known, append_known}
+use Rattle.outside.specs.declared.source.Read.{Read}
+use Rattle.outside.specs.declared.source.Read.TheVariants as reads
+use Rattle.outside.specs.declared.sink.Wrote.{Wrote}
+use Rattle.outside.specs.declared.sink.Wrote.TheVariants as writes
+
+-- how many of so many bytes one call moves
+abbrev pub IsPartOf : ℕ → ℕ → Type 0
+IsPartOf n most = (0 < n) × (n ≤ most)
+
+-- the bytes left before and after a read: it took the first of them, or there were none, or it took none
+abbrev pub IsRead : Option (List ℕ) → Option (List ℕ) → List ℕ → Read → Type 0
+IsRead left rest buffer (reads.Took n) = IsPartOf n (length buffer) × (left ≡ prepend_known (take n buffer) rest)
+IsRead left rest buffer reads.End = IfSome left (λ bytes. bytes ≡ []) × (rest ≡ left)
+IsRead left rest buffer reads.Failed = rest ≡ left
+
+-- the bytes written before and after a write: the first of the piece are added, or none
+abbrev pub IsWrite : Option (List ℕ) → Option (List ℕ) → List ℕ → Wrote → Type 0
+IsWrite old new piece (writes.Took n) = IsPartOf n (length piece) × (new ≡ append_known old (take n piece))
+IsWrite old new piece writes.Failed = new ≡ old

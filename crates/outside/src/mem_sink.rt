@@ -1,0 +1,84 @@
+//! A sink in memory.
+
+ghost use Rattle.std.specs.Prelude.{◌≡◌, ◌≤◌, ◌<◌, ◌++◌, IsTrue, Some, length, true, []};
+ghost use Rattle.outside.specs.Causes.{Rose, one_more};
+ghost use Rattle.outside.specs.Memory.{next_fails};
+ghost use Rattle.outside.specs.Streams.{IsWrite};
+
+use crate::calls::Calls;
+use crate::sink::{Sink, Wrote};
+use std::alloc::Global;
+use std::marker::Model;
+
+/// A sink in memory, which tells what was written. A write takes the whole piece, and fails in the
+/// calls that it was told to and where there is no memory. Contracts see the bytes written, the
+/// counts, and those calls.
+#[derive(Drop)]
+pub struct MemSink {
+    bytes: Vec<u8>,
+    calls: Calls,
+}
+
+impl Model for MemSink {
+    ghost use Rattle.outside.specs.Memory.{Memory};
+
+    ghost Value = { Memory };
+
+    ghost view = { λ s. record {
+      content = s.bytes.items;
+      calls = s.calls.count;
+      faults = s.calls.faults;
+      fails = s.calls.fails.items;
+    } };
+}
+
+impl MemSink {
+    /// A sink with nothing written. `fails` has the numbers, from 1, of the writes that are to fail.
+    /// Takes no memory.
+    pub fn new(alloc: Global, fails: Vec<u64>) -> MemSink
+        ensures { result ≡ record { content = []; calls = 0; faults = 0; fails = fails.items } }
+    {
+        MemSink {
+            bytes: Vec::new(alloc),
+            calls: Calls::new(fails),
+        }
+    }
+
+    /// The bytes written. Takes no memory.
+    pub fn written(&self) -> &[u8]
+        ensures { result.now ≡ self.now.content }
+    {
+        self.bytes.as_slice()
+    }
+}
+
+impl Sink for MemSink {
+    ghost use Rattle.std.specs.Prelude.{Some};
+
+    ghost told = { λ s. Some s.content };
+
+    ghost faults = { λ s. s.faults };
+
+    fn write(&mut self, piece: &[u8]) -> Wrote
+        requires { 0 < length piece.now }
+        ensures write { IsWrite (Some self.old.content) (Some self.new.content) piece.now result }
+        ensures counted { self.old.faults ≤ self.new.faults }
+        ensures cause { result ≡ Wrote.Failed → Rose self.old.faults self.new.faults }
+
+        // It fails in the calls that it was told to, and else writes the whole piece, unless there
+        // is no memory.
+        ensures failed { IsTrue (next_fails self.old) → result ≡ Wrote.Failed }
+        ensures calls { self.new.calls ≡ one_more self.old.calls }
+        ensures fails { self.new.fails ≡ self.old.fails }
+    {
+        if self.calls.begin() {
+            self.calls.fault();
+            return Wrote::Failed;
+        }
+        if self.bytes.extend_from_slice(piece).is_err() {
+            self.calls.fault();
+            return Wrote::Failed;
+        }
+        Wrote::Took(piece.len())
+    }
+}

@@ -1,0 +1,3 @@
+pub mod Cut
+pub mod Cuts
+pub mod Lengths

@@ -1,0 +1,112 @@
+//! RESUME: the client goes on with a session (RSocket 1.0, "RESUME Frame (0x0D)").
+//!
+//! | type | flags | stream | fields after the header |
+//! |---|---|---|---|
+//! | 0x0d | | 0 | major and minor of 16 bits; a token after its length of 16 bits; last received server position and first available client position of 63 bits |
+
+ghost use Rattle.std.specs.Prelude.{◌≡◌, ◌+◌, ◌<◌, ◌≤◌, ◌^◌, ◌++◌, ◌↔◌, IfErr, IfOk, IsTrue, Ok, Err, length, vec_len, vec_capacity};
+ghost use Rattle.std.specs.Result.{result_map_both};
+ghost use Rattle.rs_frame.specs.Rules.{Gives, IsRule};
+ghost use Rattle.rs_frame.specs.Reading.{as_resume, resume_at};
+ghost use Rattle.rs_frame.specs.Spelling.{FieldsFit, body_of};
+ghost use Rattle.rs_frame.specs.Views.{resume_view};
+
+use crate::cursor::{is_63, put_counted, put_u16, put_u64, u64_at};
+use crate::fault::FrameFault;
+use crate::frame::{Frame, Resume};
+use crate::header::Header;
+use byteorder::{BigEndian, ByteOrder};
+use rs_wire::{Blob, OutOfMemory};
+use std::alloc::Global;
+
+/// A RESUME that lies in its bytes.
+#[derive(Clone, Copy)]
+struct ResumeAt<'a> {
+    major: u16,
+    minor: u16,
+    token: &'a [u8],
+    server_position: u64,
+    client_position: u64,
+}
+
+#[tactic(auto, unfolding(crate::specs::Reading::resume_at))]
+fn find(header: Header, body: &[u8]) -> Result<ResumeAt<'_>, FrameFault>
+    ensures found { result_map_both resume_view (λ fault. fault) result ≡ resume_at header.stream body.now }
+    ensures rule { IfErr result IsRule }
+{
+    if header.stream != 0 {
+        return Err(FrameFault::WrongStream);
+    }
+    if body.len() < 22 {
+        return Err(FrameFault::ShortBody);
+    }
+    let len = BigEndian::read_u16(&body[4..]) as usize;
+    if body.len() > 22 + len {
+        return Err(FrameFault::LongBody);
+    }
+    if body.len() < 22 + len {
+        return Err(FrameFault::NameLength);
+    }
+    let server_position = u64_at(body, 6 + len);
+    let client_position = u64_at(body, 14 + len);
+    if server_position >= 0x8000_0000_0000_0000 || client_position >= 0x8000_0000_0000_0000 {
+        return Err(FrameFault::HighBit);
+    }
+    let (_, rest) = body.split_at(6);
+    let (token, _) = rest.split_at(len);
+    Ok(ResumeAt {
+        major: BigEndian::read_u16(body),
+        minor: BigEndian::read_u16(&body[2..]),
+        token,
+        server_position,
+        client_position,
+    })
+}
+
+fn owned_resume(alloc: Global, at: &ResumeAt<'_>) -> Result<Resume, OutOfMemory>
+    ensures { IfOk result (λ r. r ≡ resume_view at.now) }
+{
+    let token = Blob::from_slice(alloc, at.token)?;
+    Ok(Resume {
+        major: at.major,
+        minor: at.minor,
+        token,
+        server_position: at.server_position,
+        client_position: at.client_position,
+    })
+}
+
+/// The RESUME with this header and these fields, or the least rule that is broken.
+pub fn read(alloc: Global, header: Header, body: &[u8]) -> Result<Frame, FrameFault>
+    ensures { Gives result (as_resume (resume_at header.stream body.now)) }
+{
+    match find(header, body) {
+        Err(fault) => Err(fault),
+        Ok(at) => {
+            let fields = owned_resume(alloc, &at)?;
+            Ok(Frame::Resume(fields))
+        }
+    }
+}
+
+/// Whether each field is in its range.
+pub fn fits(fields: &Resume) -> bool
+    ensures { IsTrue result ↔ FieldsFit (Frame.Resume fields.now) }
+{
+    let _major = fields.major;
+    let _minor = fields.minor;
+    fields.token.len() < 0x1_0000 && is_63(fields.server_position) && is_63(fields.client_position)
+}
+
+/// Appends the fields, for which there is room.
+pub fn write(out: &mut Vec<u8>, fields: &Resume)
+    requires fits { FieldsFit (Frame.Resume fields.now) }
+    requires has_room { vec_len out.old + length (body_of (Frame.Resume fields.now)) ≤ vec_capacity out.old }
+    ensures { out.new.items ≡ out.old.items ++ body_of (Frame.Resume fields.now) }
+{
+    put_u16(out, fields.major);
+    put_u16(out, fields.minor);
+    put_counted(out, &fields.token);
+    put_u64(out, fields.server_position);
+    put_u64(out, fields.client_position);
+}

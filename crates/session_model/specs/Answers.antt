@@ -1,0 +1,165 @@
+-- The answer to an event, behind the entries so far.
+use Rattle.std.specs.Prelude.{◌≡◌, ℕ, ◌+◌, ◌%◌, ◌==◌, ◌&&◌, Bool, true, false, not, nat_le, nat_lt, min, if◌then◌else◌, List, [], ◌∷◌, length, Option, Some, None, is_none}
+use Rattle.rs_wire.specs.Message.{size_of}
+use Rattle.rs_wire.specs.Ranges.{first_true}
+use Rattle.rs_wire.specs.Settings.{out_limit_of}
+use Rattle.rs_wire.specs.declared.words.Kind.{Kind}
+use Rattle.rs_wire.specs.declared.words.Kind.TheVariants as kind
+use Rattle.rs_wire.specs.declared.fault.Cause.{Cause}
+use Rattle.rs_wire.specs.declared.fault.Refusal.{Refusal}
+use Rattle.rs_wire.specs.declared.fault.Refusal.TheVariants as refusal
+use Rattle.rs_wire.specs.declared.fault.Rule.{Rule}
+use Rattle.rs_wire.specs.declared.fault.Rule.TheVariants as rule
+use Rattle.rs_wire.specs.declared.fault.SetupFault.{SetupFault}
+use Rattle.rs_wire.specs.declared.fault.SetupFault.TheVariants as fault
+use Rattle.rs_wire.specs.declared.settings.Settings.{Settings}
+use Rattle.rs_wire.specs.declared.call.Call.{Call}
+use Rattle.rs_wire.specs.declared.call.Call.TheVariants as call
+use Rattle.rs_frame.specs.declared.frame.Frame.{Frame}
+use Rattle.rs_frame.specs.declared.frame.Frame.TheVariants as frame
+use Rattle.rs_frame.specs.declared.frame.Request.{Request}
+use Rattle.rs_frame.specs.declared.frame.Setup.{Setup}
+use Rattle.rs_frame.specs.Spelling.{length_of}
+use Rattle.setup_core.specs.Setup.{setup_fault}
+use Rattle.tape.specs.declared.event.Event.{Event}
+use Rattle.tape.specs.declared.event.Event.TheVariants as event
+use Rattle.tape.specs.declared.answer.Answer.{Answer}
+use Rattle.tape.specs.declared.answer.Answer.TheVariants as answer
+use Rattle.tape.specs.declared.entry.Entry.{Entry}
+use Rattle.session_model.specs.Life.{openings, live, is_live, begun, setup, closed}
+use Rattle.session_model.specs.Positions.{pos}
+use Rattle.session_model.specs.Streams.{highest, next_id, is_peers_next}
+use Rattle.session_model.specs.Frames.{request_frame, made, handled, queued}
+
+-- what an answer is made of
+pub record Facts : Type 0 where
+  -- how many openings there were
+  pub openings : ℕ
+  -- the live connection, 0 for none
+  pub live : ℕ
+  pub begun : Bool
+  pub setup : Option Setup
+  pub closed : Option Cause
+  -- how many frames were made and handled, their positions, and the largest stream ids that they open
+  pub made_frames : ℕ
+  pub made : ℕ
+  pub own : ℕ
+  pub handled_frames : ℕ
+  pub handled : ℕ
+  pub peer : ℕ
+  -- how many bytes wait to be drawn
+  pub queued : ℕ
+
+-- the facts behind these entries
+unfoldable pub facts : Settings → List Entry → Facts
+facts g past = record {
+  openings = openings past;
+  live = live past;
+  begun = begun past;
+  setup = setup past;
+  closed = closed past;
+  made_frames = length (made past);
+  made = pos (made past);
+  own = highest (made past);
+  handled_frames = length (handled past);
+  handled = pos (handled past);
+  peer = highest (handled past);
+  queued = queued g past;
+}
+
+-- ---- an opening
+
+abbrev pub opened_unless : Option SetupFault → ℕ → Answer
+opened_unless None number = answer.Opened number
+opened_unless (Some f) number = answer.SetupRefused f
+
+-- a client begins once; a server judges the first frame of a session that is not begun
+abbrev pub to_first : Settings → Facts → Option Frame → Bool → Answer
+to_first g t None taken = if t.begun then answer.Stale t.live else answer.Opened (t.openings + 1)
+to_first g t (Some first) taken = if t.begun then answer.SetupRefused fault.TokenTaken else opened_unless (setup_fault first g taken) (t.openings + 1)
+
+abbrev pub unless_closed : Option Cause → Answer → Answer
+unless_closed (Some why) next = answer.Closed why
+unless_closed None next = next
+
+abbrev pub to_open : Settings → Facts → Option Frame → Bool → Answer
+to_open g t first taken = unless_closed t.closed (to_first g t first taken)
+
+-- ---- a draw
+
+abbrev pub on_live : Facts → ℕ → Answer → Answer
+on_live t conn next = if is_live t.live conn then next else answer.Stale t.live
+
+abbrev pub to_draw : Facts → ℕ → ℕ → Answer
+to_draw t conn room = on_live t conn (if t.queued == 0 then answer.NotYet else answer.Drawn (min room t.queued))
+
+-- ---- what comes
+
+-- room stays for an answer of 67 bytes at most behind what comes
+abbrev pub unless_busy : Settings → Facts → ℕ → Answer → Answer
+unless_busy g t len next = if nat_lt (out_limit_of g) (t.queued + len + 67) then answer.OutBusy t.queued else next
+
+-- a request that this end knows: a whole fire-and-forget without metadata
+abbrev pub is_fnf : Kind → Bool
+is_fnf kind.Fnf = true
+is_fnf _ = false
+
+abbrev pub is_known : Request → Bool
+is_known r = (is_fnf r.kind && not r.follows) && is_none r.message.metadata
+
+-- the least rule that a frame breaks
+abbrev pub broken_rule : Settings → Facts → Frame → Option Rule
+broken_rule g t (frame.Request r) = first_true (
+    (not (is_known r), rule.NotNow)
+    ∷ (not (is_peers_next g.side t.peer r.stream), rule.StreamId r.stream)
+    ∷ (nat_lt g.max_payload (size_of r.message), rule.TooLarge (size_of r.message))
+    ∷ (nat_lt g.top_position (t.handled + length_of (frame.Request r)), rule.PositionSpent)
+    ∷ [])
+broken_rule g t _ = Some rule.NotNow
+
+abbrev pub handled_unless : Option Rule → Answer
+handled_unless None = answer.Handled
+handled_unless (Some r) = answer.Violation r
+
+abbrev pub to_frame : Settings → Facts → ℕ → Frame → Answer
+to_frame g t conn f = on_live t conn (unless_closed t.closed (unless_busy g t (length_of f) (handled_unless (broken_rule g t f))))
+
+abbrev pub to_bad : Settings → Facts → ℕ → ℕ → Answer
+to_bad g t conn number = on_live t conn (unless_closed t.closed (unless_busy g t 0 (answer.Violation (rule.BadFrame number))))
+
+-- ---- a call
+
+-- the first refusal of a request
+abbrev pub refused_request : Settings → Facts → ℕ → Frame → ℕ → Option Refusal
+refused_request g t size f id = first_true (
+    (nat_lt g.max_payload size, refusal.TooLarge size)
+    ∷ (nat_lt g.last_id id, refusal.IdsGone)
+    ∷ (not t.begun, refusal.NotConnected)
+    ∷ (not (t.live == 0) && nat_lt (out_limit_of g) (t.queued + (3 + length_of f)), refusal.OutFull t.queued)
+    ∷ (nat_lt g.top_position (t.made + length_of f), refusal.PositionSpent)
+    ∷ [])
+
+abbrev pub started_unless : Option Refusal → ℕ → Answer
+started_unless None id = answer.Started id
+started_unless (Some r) id = answer.Refused r
+
+abbrev pub refused_if_closed : Option Cause → Answer → Answer
+refused_if_closed (Some why) next = answer.Refused (refusal.Closed why)
+refused_if_closed None next = next
+
+abbrev pub to_call : Settings → Facts → Call → Answer
+to_call g t (call.Request kind initial message complete) =
+    refused_if_closed t.closed (started_unless (refused_request g t (size_of message) (request_frame (next_id g.side t.own) kind initial message complete) (next_id g.side t.own)) (next_id g.side t.own))
+
+-- ---- any event
+
+abbrev pub answer_by : Settings → Facts → Event → Answer
+answer_by g t (event.Open first taken) = to_open g t first taken
+answer_by g t (event.Draw conn room) = to_draw t conn room
+answer_by g t (event.Came conn f) = to_frame g t conn f
+answer_by g t (event.Bad conn number) = to_bad g t conn number
+answer_by g t (event.Asked asked) = to_call g t asked
+
+-- the answer to an event behind these entries
+abbrev pub answer_to : Settings → List Entry → Event → Answer
+answer_to g past e = answer_by g (facts g past) e

@@ -1,0 +1,141 @@
+-- The frames of a session, over its entries, the newest first: made, due, come and handled.
+use Rattle.std.specs.Prelude.{ℕ, ◌+◌, ◌-◌, ◌==◌, ◌&&◌, ◌||◌, Bool, true, false, not, nat_le, nat_lt, if◌then◌else◌, List, [], ◌∷◌, ◌++◌, length, take, map, Option, Some, None, is_none}
+use Rattle.rs_wire.specs.declared.words.Kind.{Kind}
+use Rattle.rs_wire.specs.declared.message.Message.{Message}
+use Rattle.rs_wire.specs.declared.settings.Settings.{Settings}
+use Rattle.rs_wire.specs.declared.call.Call.TheVariants as call
+use Rattle.rs_frame.specs.declared.frame.Frame.{Frame}
+use Rattle.rs_frame.specs.declared.frame.Frame.TheVariants as frame
+use Rattle.rs_frame.specs.Spelling.{is_resumable}
+use Rattle.rs_chunk.specs.Framed.{framed_all}
+use Rattle.tape.specs.declared.event.Event.{Event}
+use Rattle.tape.specs.declared.event.Event.TheVariants as event
+use Rattle.tape.specs.declared.answer.Answer.{Answer}
+use Rattle.tape.specs.declared.answer.Answer.TheVariants as answer
+use Rattle.tape.specs.declared.entry.Entry.{Entry}
+use Rattle.session_model.specs.Lists.{first_of}
+use Rattle.session_model.specs.Life.{openings, live, is_live, carrying, begun}
+
+-- the SETUP of a client: version 1.0, its intervals, its token where it resumes, its MIME texts, no payload
+abbrev pub setup_frame : Settings → Frame
+setup_frame g = frame.Setup (record {
+  resume = if g.resume then Some g.token else None;
+  lease = g.lease;
+  major = 1;
+  minor = 0;
+  keepalive = g.keepalive_ms;
+  lifetime = g.lifetime_ms;
+  metadata_mime = g.metadata_mime;
+  content_mime = g.content_mime;
+  message = record { metadata = None; content = [] };
+})
+
+-- the frame of a request, whole
+abbrev pub request_frame : ℕ → Kind → Option ℕ → Message → Bool → Frame
+request_frame id kind initial message complete = frame.Request (record {
+  stream = id;
+  kind = kind;
+  follows = false;
+  complete = complete;
+  initial = initial;
+  message = message;
+})
+
+-- ---- made
+
+-- the resumable frames that an entry makes
+abbrev pub makes : Answer → Event → List Frame
+makes (answer.Started id) (event.Asked (call.Request kind initial message complete)) = request_frame id kind initial message complete ∷ []
+makes _ _ = []
+
+-- the resumable frames that this end made, in order, over all connections
+unfoldable pub made : List Entry → List Frame
+made [] = []
+made (x ∷ past) = made past ++ makes x.answer x.event
+
+-- ---- due
+
+-- the frames that an accepted opening begins with: a client's SETUP
+abbrev pub greets : Settings → Event → List Frame
+greets g (event.Open None taken) = setup_frame g ∷ []
+greets g _ = []
+
+-- what an entry adds to the frames due on connection c, behind the entries before it
+abbrev pub owes : Settings → List Entry → ℕ → Answer → Event → List Frame
+owes g past c (answer.Opened n) e = if n == c then greets g e else []
+owes g past c a e = if is_live (live past) c then makes a e else []
+
+-- the frames due on connection c, in order
+unfoldable pub due : Settings → List Entry → ℕ → List Frame
+due g [] c = []
+due g (x ∷ past) c = due g past c ++ owes g past c x.answer x.event
+
+abbrev pub draws : ℕ → Answer → Event → ℕ
+draws c (answer.Drawn n) (event.Draw conn room) = if conn == c then n else 0
+draws c _ _ = 0
+
+-- how many bytes were drawn on connection c
+unfoldable pub drawn : List Entry → ℕ → ℕ
+drawn [] c = 0
+drawn (x ∷ past) c = drawn past c + draws c x.answer x.event
+
+-- the bytes that this end gave on connection c
+abbrev pub given : Settings → List Entry → ℕ → List ℕ
+given g past c = take (drawn past c) (framed_all (due g past c))
+
+-- how many bytes wait on the live connection to be drawn
+unfoldable pub queued : Settings → List Entry → ℕ
+queued g past = length (framed_all (due g past (live past))) - drawn past (live past)
+
+-- ---- come
+
+-- opening c was made before these entries
+abbrev pub was_opened : List Entry → ℕ → Bool
+was_opened past c = nat_lt 0 c && nat_le c (openings past)
+
+abbrev pub bad_in : List Entry → ℕ → Event → Option ℕ
+bad_in past c (event.Bad conn rule) = if (conn == c) && was_opened past c then Some rule else None
+bad_in past c _ = None
+
+-- the rule that the first bytes on opening c break that spelled no frame, where some did
+unfoldable pub first_bad : List Entry → ℕ → Option ℕ
+first_bad [] c = None
+first_bad (x ∷ past) c = first_of (first_bad past c) (bad_in past c x.event)
+
+-- what an entry brings on opening c
+abbrev pub brings : List Entry → ℕ → Event → List Frame
+brings past c (event.Open (Some f) taken) = if openings past + 1 == c then f ∷ [] else []
+brings past c (event.Came conn f) = if ((conn == c) && was_opened past c) && is_none (first_bad past c) then f ∷ [] else []
+brings past c _ = []
+
+-- the frames that came on opening c, whatever was answered, up to the first that was none
+unfoldable pub came : List Entry → ℕ → List Frame
+came [] c = []
+came (x ∷ past) c = came past c ++ brings past c x.event
+
+-- ---- handled
+
+-- the resumable frames that an entry handles (RSocket 1.0, "Resuming Operation")
+abbrev pub handles : Answer → Event → List Frame
+handles answer.Handled (event.Came conn f) = if is_resumable f then f ∷ [] else []
+handles _ _ = []
+
+-- the resumable frames that this end handled, in order, over all connections
+unfoldable pub handled : List Entry → List Frame
+handled [] = []
+handled (x ∷ past) = handled past ++ handles x.answer x.event
+
+-- ---- seen
+
+-- a frame that this end made, or one that it handled
+pub data Mark : Type 0 where
+  Sent : Frame → Mark
+  Got : Frame → Mark
+
+abbrev pub marks : Answer → Event → List Mark
+marks a e = map Mark.Got (handles a e) ++ map Mark.Sent (makes a e)
+
+-- all resumable frames of this end in the order of the entries, each marked
+unfoldable pub seen : List Entry → List Mark
+seen [] = []
+seen (x ∷ past) = seen past ++ marks x.answer x.event

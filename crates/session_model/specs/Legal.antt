@@ -1,0 +1,54 @@
+-- Which lists of entries are a session's.
+use Rattle.std.specs.Prelude.{◌≡◌, ◌≤◌, ◌<◌, ◌^◌, ℕ, Bool, true, false, List, [], ◌∷◌, Option, Some, None}
+use Rattle.rs_wire.specs.declared.words.Side.TheVariants.{Client, Server}
+use Rattle.rs_wire.specs.declared.words.Kind.TheVariants as kind
+use Rattle.rs_wire.specs.declared.settings.Settings.{Settings}
+use Rattle.rs_wire.specs.declared.call.Call.{Call}
+use Rattle.rs_wire.specs.declared.call.Call.TheVariants as call
+use Rattle.rs_wire.specs.Settings.{IsChecked}
+use Rattle.rs_frame.specs.Spelling.{IsSpellable}
+use Rattle.tape.specs.declared.event.Event.{Event}
+use Rattle.tape.specs.declared.event.Event.TheVariants as event
+use Rattle.tape.specs.declared.answer.Answer.{Answer}
+use Rattle.tape.specs.declared.answer.Answer.TheVariants as answer
+use Rattle.tape.specs.declared.entry.Entry.{Entry}
+use Rattle.session_model.specs.Answers.{answer_to}
+
+-- settings that were tested, of an end without resumption, leases and fragments
+pub record IsPlain (g : Settings) : Type 0 where
+  pub checked : IsChecked g
+  pub no_resumption : g.resume ≡ false
+  pub no_leases : g.lease ≡ false
+  pub no_fragments : g.mtu ≡ 0
+
+-- a call that can be made: a fire-and-forget without metadata
+abbrev pub IsAskable : Call → Type 0
+IsAskable (call.Request k initial message complete) = (k ≡ kind.Fnf) × (initial ≡ None) × (message.metadata ≡ None) × (complete ≡ false)
+
+-- what whoever brings an event ensures: a first frame exactly on a server, frames that can be spelled, rules that there are
+abbrev pub IsFair : Settings → Event → Type 0
+IsFair g (event.Open None taken) = g.side ≡ Client
+IsFair g (event.Open (Some f) taken) = (g.side ≡ Server) × IsSpellable f
+IsFair g (event.Draw conn room) = (0 < room) × (room < 2 ^ 32)
+IsFair g (event.Came conn f) = IsSpellable f
+IsFair g (event.Bad conn number) = (0 < number) × (number ≤ 10)
+IsFair g (event.Asked asked) = IsAskable asked
+
+-- an answer that leaves an entry
+abbrev pub LeavesEntry : Answer → Type 0
+LeavesEntry answer.NotYet = ⊥
+LeavesEntry (answer.OutBusy waiting) = ⊥
+LeavesEntry answer.TapeFull = ⊥
+LeavesEntry answer.OutOfMemory = ⊥
+LeavesEntry _ = Unit {0}
+
+-- an entry behind these
+pub record IsLegal (g : Settings) (past : List Entry) (x : Entry) : Type 0 where
+  pub answered : x.answer ≡ answer_to g past x.event
+  pub leaves : LeavesEntry x.answer
+  pub fair : IsFair g x.event
+
+-- each answer is the one to the entries before it
+unfoldable pub Legal : Settings → List Entry → Type 0
+Legal g [] = Unit {0}
+Legal g (x ∷ past) = Legal g past × IsLegal g past x
