@@ -1,5 +1,5 @@
 -- The answer to an event, behind the entries so far.
-use Rattle.std.specs.Prelude.{◌≡◌, ℕ, ◌+◌, ◌%◌, ◌==◌, ◌&&◌, Bool, true, false, not, nat_le, nat_lt, min, if◌then◌else◌, List, [], ◌∷◌, length, Option, Some, None, is_none}
+use Rattle.std.specs.Prelude.{ℕ, ◌+◌, ◌==◌, ◌&&◌, Bool, true, false, not, nat_lt, min, if◌then◌else◌, List, [], ◌∷◌, length, Option, Some, None, is_none}
 use Rattle.rs_wire.specs.Message.{size_of}
 use Rattle.rs_wire.specs.Ranges.{first_true}
 use Rattle.rs_wire.specs.Settings.{out_limit_of}

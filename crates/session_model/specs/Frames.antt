@@ -1,5 +1,5 @@
 -- The frames of a session, over its entries, the newest first: made, due, come and handled.
-use Rattle.std.specs.Prelude.{ℕ, ◌+◌, ◌-◌, ◌==◌, ◌&&◌, ◌||◌, Bool, true, false, not, nat_le, nat_lt, if◌then◌else◌, List, [], ◌∷◌, ◌++◌, length, take, map, Option, Some, None, is_none}
+use Rattle.std.specs.Prelude.{ℕ, ◌+◌, ◌-◌, ◌==◌, ◌&&◌, Bool, false, nat_le, nat_lt, if◌then◌else◌, List, [], ◌∷◌, ◌++◌, length, take, map, Option, Some, None, is_none}
 use Rattle.rs_wire.specs.declared.words.Kind.{Kind}
 use Rattle.rs_wire.specs.declared.message.Message.{Message}
 use Rattle.rs_wire.specs.declared.settings.Settings.{Settings}
@@ -14,7 +14,7 @@ use Rattle.tape.specs.declared.answer.Answer.{Answer}
 use Rattle.tape.specs.declared.answer.Answer.TheVariants as answer
 use Rattle.tape.specs.declared.entry.Entry.{Entry}
 use Rattle.session_model.specs.Lists.{first_of}
-use Rattle.session_model.specs.Life.{openings, live, is_live, carrying, begun}
+use Rattle.session_model.specs.Life.{openings, live, is_live}
 
 -- the SETUP of a client: version 1.0, its intervals, its token where it resumes, its MIME texts, no payload
 abbrev pub setup_frame : Settings → Frame

@@ -1,0 +1,5 @@
+mod LineFeeds
+mod Parts
+mod Texts
+mod Reading
+mod OneLine
