@@ -1,0 +1,11 @@
+use Rattle.session_laws.proofs.Spelled.{made_spelled, due_spelled, came_spelled}
+use Rattle.session_laws.proofs.one_end.frames_are_spellable.Goals as goal
+
+pub returns-clause-made : goal.returns-clause-made
+returns-clause-made c = made_spelled
+
+pub returns-clause-due : goal.returns-clause-due
+returns-clause-due c = due_spelled
+
+pub returns-clause-came : goal.returns-clause-came
+returns-clause-came c = came_spelled

@@ -1,0 +1,23 @@
+//! The laws of a session, proved from its definitions alone.
+//!
+//! Each function here does nothing: its clauses are laws of the entries of one end (`one_end`), or
+//! of two ends whose bytes crossed (`two_ends`), for sessions without resumption, leases and
+//! fragments. The frames that count are those of streams, and positions count their bytes
+//! (RSocket 1.0, "Resuming Operation").
+//!
+//! The promise to the rooms above: what holds here holds of every list of entries that the core
+//! leaves, since each of them is legal. First of all, what an end has handled is the beginning of
+//! what the other made, in order, with nothing lost and nothing twice.
+//!
+//! Left out: how the entries come about (the core), and what only time decides, such as that all
+//! that is due comes in the end.
+#![tactic(auto)]
+
+mod one_end;
+mod two_ends;
+
+pub use one_end::{
+    closed_stays_closed, frames_are_spellable, frames_only_grow, nothing_more_is_agreed,
+    queued_is_what_is_left, seen_is_made_and_handled,
+};
+pub use two_ends::{drained_is_equal, handled_begins_made, handled_is_a_boundary};

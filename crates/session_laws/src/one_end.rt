@@ -1,0 +1,62 @@
+//! Laws of the entries of one end, the newest first.
+
+ghost use Rattle.std.specs.Prelude.{◌≡◌, ◌≤◌, ◌+◌, ◌++◌, ℕ, List, length, Some, false};
+ghost use Rattle.std.specs.List.{AllByRecursion};
+ghost use Rattle.rs_wire.specs.declared.fault.Cause.{Cause};
+ghost use Rattle.rs_wire.specs.declared.settings.Settings.{Settings};
+ghost use Rattle.rs_frame.specs.Spelling.{IsSpellable};
+ghost use Rattle.rs_chunk.specs.Framed.{framed_all};
+ghost use Rattle.tape.specs.declared.entry.Entry.{Entry};
+ghost use Rattle.session_model.specs.Life.{closed, leases_agreed, live, resumption_agreed};
+ghost use Rattle.session_model.specs.Lists.{IsPrefix};
+ghost use Rattle.session_model.specs.Frames.{came, drawn, due, handled, made, queued, seen};
+ghost use Rattle.session_model.specs.Legal.{IsPlain, Legal};
+ghost use Rattle.session_laws.specs.Marks.{got, sent};
+
+/// A closed session stays closed, for the cause that closed it first.
+pub fn closed_stays_closed()
+    ensures stays { (more past : List Entry) (why : Cause) →
+        closed past ≡ Some why → closed (more ++ past) ≡ Some why }
+{}
+
+/// What an end made and what it handled only grow: further entries append to them (RSocket 1.0,
+/// "Resuming Operation", counts both).
+pub fn frames_only_grow()
+    ensures made { (more past : List Entry) → IsPrefix (made past) (made (more ++ past)) }
+    ensures handled { (more past : List Entry) → IsPrefix (handled past) (handled (more ++ past)) }
+{}
+
+/// The frames seen are those made and those handled, each kind in its order.
+pub fn seen_is_made_and_handled()
+    ensures made { (past : List Entry) → sent (seen past) ≡ made past }
+    ensures handled { (past : List Entry) → got (seen past) ≡ handled past }
+{}
+
+/// The bytes queued on the live connection are those due there, framed, less those drawn. So no
+/// more is drawn on a connection than is due there.
+pub fn queued_is_what_is_left()
+    ensures exact { (g : Settings) (past : List Entry) → Legal g past →
+        drawn past (live past) + queued g past ≡ length (framed_all (due g past (live past))) }
+    ensures never_past { (g : Settings) (past : List Entry) (c : ℕ) → Legal g past →
+        drawn past c ≤ length (framed_all (due g past c)) }
+{}
+
+/// An end whose settings have no resumption agrees to none, and likewise leases: a server refuses
+/// a SETUP that asks for them (RSocket 1.0, "SETUP Frame").
+pub fn nothing_more_is_agreed()
+    ensures resumption { (g : Settings) (past : List Entry) → Legal g past →
+        g.resume ≡ false → resumption_agreed g past ≡ false }
+    ensures leases { (g : Settings) (past : List Entry) → Legal g past →
+        g.lease ≡ false → leases_agreed g past ≡ false }
+{}
+
+/// Every frame that a plain end makes, owes or is brought has its fields in range and a length
+/// below 2^24 bytes, so it can be written (RSocket 1.0, "Framing Format").
+pub fn frames_are_spellable()
+    ensures made { (g : Settings) (past : List Entry) → IsPlain g → Legal g past →
+        AllByRecursion IsSpellable (made past) }
+    ensures due { (g : Settings) (past : List Entry) (c : ℕ) → IsPlain g → Legal g past →
+        AllByRecursion IsSpellable (due g past c) }
+    ensures came { (g : Settings) (past : List Entry) (c : ℕ) → Legal g past →
+        AllByRecursion IsSpellable (came past c) }
+{}
