@@ -3,6 +3,9 @@
 -- The words are the next ticket, the ticket that is served, and how many numbers were drawn. The one
 -- slot holds the value. A view is what a seat knows (src/view.rt). Each seat has one, and so has each
 -- seat that was dropped, or that was joined into another and is spent.
+--
+-- `list_of` gives the list that the slot's value stands for, `IsThere` says that there is one, and
+-- `number` is the number that an entry carries.
 use Rattle.std.specs.Prelude.{◌≡◌, ◌≢◌, ℕ, ◌+◌, ◌-◌, ◌<◌, ◌≤◌, List, [], ◌∷◌, ◌++◌, true, false, cond, nat_lt, max, ◌⊎◌, None, Some}
 use Rattle.std.specs.Prelude as std
 use mathlib.Core.List.{IsPrefix}

@@ -54,7 +54,7 @@ impl<S: Stands> Lock<S> {
         }) }
         ensures parts { IfOk result (λ r. r.0.parts + r.1.parts ≡ seat.parts) }
 
-        // So many numbers had been drawn, and none of them was this one.
+        // The new number is how many were drawn before: no fewer than the seat had found, not all.
         ensures drawn { IfOk result (λ r. (seat.found ≤ r.1.number) × (r.1.number < most_numbers)) }
         ensures fresh { IfOk result (λ r. times r.1.number seat.names ≡ 0) }
         ensures unused { IfOk result (λ r. calls S.number r.1.number seat.front ≡ 0) }

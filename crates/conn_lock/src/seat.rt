@@ -16,9 +16,9 @@ pub(crate) type Token<S> = atomic_table::Seat<Option<S>, View<<S as Stands>::Ent
 ///
 /// The number, from 0 to 4,294,967,294, is that of no other seat of the lock, ever. The names are
 /// the number and those of the seats that were joined into this one. The parts are from 1 to 2^62,
-/// the parts of all seats of a lock are 2^62 in sum, and only [`split`](crate::Lock::split) and
-/// [`join`](crate::Lock::join) change names and parts. What it has found and how often it missed
-/// never fall.
+/// the parts of all seats of a lock, dropped ones too, are 2^62 in sum, and only
+/// [`split`](crate::Lock::split) and [`join`](crate::Lock::join) change names and parts. What it has
+/// found and how often it missed never fall.
 ///
 /// A seat that is dropped takes its parts with it, and then nobody can close the lock.
 #[derive(Drop)]

@@ -120,6 +120,40 @@ fn write_in_two<R: Threads + Wait + Sync>(
     lock.join(first, second)
 }
 
+// A turn in which nothing changes.
+fn look<S: Stands, R: Wait>(rt: &R, lock: &Lock<S>, seat: Seat<S>) -> Seat<S>
+    requires { seat.lock ≡ lock.now }
+    ensures { result.lock ≡ lock.now }
+{
+    let turn = lock.enter(rt, seat);
+    lock.leave(turn)
+}
+
+// A turn each of two callers, in two threads, round any value that may cross threads.
+fn look_in_two<S: Stands + Send, R: Threads + Wait + Sync>(
+    rt: &R,
+    lock: &Lock<S>,
+    first: Seat<S>,
+    second: Seat<S>,
+) -> Seat<S>
+    requires first { first.lock ≡ lock.now }
+    requires second { second.lock ≡ lock.now }
+    ensures { result.lock ≡ lock.now }
+{
+    let (first, second) = join(
+        rt,
+        || -> Seat<S>
+            requires { first.lock ≡ lock.now }
+            ensures { result.lock ≡ lock.entry.now }
+        { look(rt, lock, first) },
+        || -> Seat<S>
+            requires { second.lock ≡ lock.now }
+            ensures { result.lock ≡ lock.entry.now }
+        { look(rt, lock, second) },
+    );
+    lock.join(first, second)
+}
+
 // Each of so many callers has written so many notes, in its order.
 fn check_all<R: Abort>(rt: &R, notes: &[Note], callers: u32, count: u32) {
     let mut next = [0; 4];
@@ -168,7 +202,7 @@ fn closes_only_with_all_parts(rt: HostRuntime) {
         panic!(rt; "closed without the other's parts");
     };
     let other = write_one(&rt, &lock, other, 0);
-    let seat = lock.join(seat, other);
+    let seat = look_in_two(&rt, &lock, seat, other);
     let Ok(closed) = lock.close(seat) else {
         panic!(rt; "not closed with all parts");
     };

@@ -1,3 +1,7 @@
 pub mod Causes
+pub mod Links
 pub mod Memory
+pub mod MemoryLink
+pub mod MemoryNet
+pub mod Nets
 pub mod Streams

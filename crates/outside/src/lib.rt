@@ -1,29 +1,47 @@
-//! What stands outside of the program, as traits: where bytes come from, and where they go.
+//! What stands outside of the program, as traits: where bytes come from, where they go, links to
+//! peers, where links come from, and the time.
 //!
-//! A [`Source`] gives bytes and a [`Sink`] takes them, as many in a call as it can. Each has a
-//! meaning that contracts see: the bytes left, or written, where it tells them, and the count of its
-//! faults, which never falls. The promise to the crates above: a call fails only where that count
-//! rose in the call, and whatever is told of the content is exact.
+//! A [`Source`] gives bytes and a [`Sink`] takes them, as many in a call as it can. A [`Link`] does
+//! both, and says when nothing can move for now; a [`Net`] hands links out and takes them back; a
+//! [`Clock`] tells the moment. Each has a meaning that contracts see: the bytes left, written, taken
+//! or given, the calls asked of a net and the links put back, the moments of a clock, where it tells
+//! them, and the counts of its faults and lulls, which never fall. The promise to the crates above:
+//! a call fails or lulls only where the count of that rose in the call, and whatever is told of the
+//! content is exact.
 //!
-//! [`MemSource`] and [`MemSink`] tell everything, and fail in the calls that they are told to.
-//! [`StdSource`] and [`StdSink`] are standard input and output; they tell nothing of content, since
-//! no contract knows what the system gives or takes.
+//! [`MemSource`], [`MemSink`], [`MemLink`], [`MemNet`] and [`MemClock`] tell everything, and fail in
+//! the calls that they are told to. [`StdSource`] and [`StdSink`] are standard input and output; they
+//! tell nothing of content, since no contract knows what the system gives or takes.
 //!
-//! Left out: network links and clocks, and what the bytes mean.
+//! Left out: links over sockets, the clock of the system, and what the bytes mean.
 #![tactic(auto)]
 
 mod calls;
+mod clock;
+mod link;
+mod mem_clock;
+mod mem_link;
+mod mem_net;
 mod mem_sink;
 mod mem_source;
+mod net;
 mod sink;
 mod source;
 mod std_streams;
 
+pub use clock::Clock;
+pub use link::{Given, Link, Taken};
+pub use mem_clock::MemClock;
+pub use mem_link::{After, MemLink};
+pub use mem_net::MemNet;
 pub use mem_sink::MemSink;
 pub use mem_source::MemSource;
+pub use net::{Ask, Net, NetFault};
 pub use sink::{Sink, Wrote};
 pub use source::{Read, Source};
 pub use std_streams::{StdSink, StdSource};
 
+#[cfg(test)]
+mod link_tests;
 #[cfg(test)]
 mod tests;

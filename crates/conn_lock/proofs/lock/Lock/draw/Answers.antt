@@ -1,4 +1,4 @@
-use Rattle.std.proofs.Common.{rules, IsSome, None, ◌+◌, ◌∙◌, [], ◌∷◌, refl, ap, sym}
+use Rattle.std.proofs.Common.{rules, IsSome, ◌+◌, ◌∙◌, refl, ap, sym}
 use Rattle.conn_lock.specs.Rule.{slot_list}
 use Rattle.conn_lock.proofs.TurnSteps.{draws}
 use Rattle.conn_lock.proofs.lock.Lock.draw.Goals as goal
@@ -13,8 +13,3 @@ compare_exchange-found-requires g c =
       draws (slot_list g.S.Stands.list) IsSome g.S.Stands.number c.self.inside.table.shared.table_id.slots c.loop.token.id c.loop.token.me c.loop.seen (c.loop.seen + 1) refl
           (ap (λ m. m.0.tickets) same ∙ idle.1) (ap (λ m. m.0.turn) same ∙ idle.2) (rw same idle.3),
     )
-
-pub returns-then-found-seen-clause-ticket : goal.returns-then-found-seen-clause-ticket
-returns-then-found-seen-clause-ticket g c =
-    let found = c.compare_exchange-found.result in
-    c.compare_exchange-found.ensures.2.0 c.if-found-seen.true ∙ (ap (λ m. (record m.0 { tickets = found ∷ []; note = None }, m.1)) c.loop.invariant.4 ∙ ap (λ l. (record c.args.token.now.me.0 { tickets = found ∷ []; note = None }, l)) c.requires.idle.0)

@@ -1,5 +1,0 @@
-mod LineFeeds
-mod Parts
-mod Texts
-mod Reading
-mod OneLine

@@ -1,0 +1,58 @@
+use Rattle.std.proofs.Common.{◌≡◌, ◌<◌, ◌≤◌, ◌⊎◌, inl, inr, [], ◌∷◌, ◌++◌, ap, sym, ◌∙◌, arith, subst}
+use Rattle.std.specs.Prelude.{All}
+use Rattle.rs_frame.specs.Spelling.{IsSpellable, length_of}
+use Rattle.fragment.specs.Splitting.{split_of, first_fragment}
+use Rattle.fragment.specs.Views.{frame_in}
+use Rattle.fragment.proofs.Cuts.{IsLong, rest_length, rest_whole, rest_spellable}
+use Rattle.fragment.proofs.Splits.{cut_more, cut_ends, all_spellable, all_short}
+use Rattle.fragment.proofs.splitting.split.Goals as goal
+use Rattle.fragment.proofs.splitting.split.Goals.{then-loop-rest-test+else-length-most, else-loop-rest-test}
+
+pub loop-rest-smaller : goal.loop-rest-smaller
+loop-rest-smaller c =
+    let long : IsLong c.args.mtu (frame_in c.loop-rest.rest) = record {
+      whole = c.loop-rest.invariant.whole;
+      least = c.requires.limit.1 (omega arith);
+      longer = omega arith;
+    } in
+    subst (λ g. length_of g < length_of (frame_in c.loop-rest.rest)) (sym c.after-rest.ensures) (rest_length c.args.mtu (frame_in c.loop-rest.rest) long)
+
+pub loop-rest-preserved : goal.loop-rest-preserved
+loop-rest-preserved c =
+    let rest = frame_in c.loop-rest.rest in
+    let long : IsLong c.args.mtu rest = record {
+      whole = c.loop-rest.invariant.whole;
+      least = c.requires.limit.1 (omega arith);
+      longer = omega arith;
+    } in
+    let items : c.push.new.self.items ≡ c.loop-rest.frames.items ++ (first_fragment c.args.mtu rest ∷ []) =
+    c.in_ok-push.ensures.items ∙ ap (λ g. c.loop-rest.frames.items ++ (g ∷ [])) c.in_ok-first.ensures in
+    record {
+      split =
+          ap (λ fs. fs ++ split_of (frame_in c.after-rest.result) c.args.mtu) items
+          ∙ (ap (λ g. (c.loop-rest.frames.items ++ (first_fragment c.args.mtu rest ∷ [])) ++ split_of g c.args.mtu) c.after-rest.ensures
+          ∙ cut_more c.args.frame.now rest c.loop-rest.frames.items c.args.mtu long c.loop-rest.invariant.split);
+      whole = rw c.after-rest.ensures (rest_whole c.args.mtu rest c.loop-rest.invariant.whole);
+      spellable = subst IsSpellable (sym c.after-rest.ensures) (rest_spellable c.args.mtu rest long c.loop-rest.invariant.spellable);
+    }
+
+pub returns-clause-split : goal.returns-clause-split
+returns-clause-split c =
+    let rest = frame_in c.loop-rest.rest in
+    let last : (c.args.mtu ≡ 0) ⊎ (length_of rest ≤ c.args.mtu) =
+    elim c.loop-rest-test.branch [
+      | then-loop-rest-test+else-length-most w ↦ inr (omega arith)
+      | else-loop-rest-test w ↦ inl (omega arith)
+    ] in
+    cut_ends c.args.frame.now rest c.in_ok-whole.field-0 c.loop-rest.frames.items c.push-2.new.self.items c.from_vec.result c.args.mtu
+    c.from_vec.ensures c.in_ok-push-2.ensures.items c.in_ok-whole.ensures last c.loop-rest.invariant.split
+
+pub returns-clause-spellable : goal.returns-clause-spellable
+returns-clause-spellable c =
+    subst (All IsSpellable) (sym (returns-clause-split c))
+    (all_spellable c.args.frame.now c.args.mtu c.requires.spellable c.requires.whole c.requires.limit)
+
+pub returns-clause-short : goal.returns-clause-short
+returns-clause-short c = λ limited.
+    subst (All (λ g. length_of g ≤ c.args.mtu)) (sym (returns-clause-split c))
+    (all_short c.args.frame.now c.args.mtu c.requires.whole (c.requires.limit.1 (omega arith)))

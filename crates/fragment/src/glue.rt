@@ -1,0 +1,196 @@
+//! Joining the fragments that came.
+
+ghost use Rattle.std.specs.Prelude.{◌≡◌, ◌<◌, ◌≤◌, ◌^◌, false, IfOk, OnOk, OnErr, IfErr};
+ghost use Rattle.rs_wire.specs.Message.{size_of};
+ghost use Rattle.fragment.specs.Joining.{nothing, empty_glue, grown, glued_of, left_held, IsFaultOf};
+
+use rs_wire::{Blob, Message, OutOfMemory};
+use std::alloc::{AllocError, Global};
+use std::marker::Model;
+use std::mem;
+
+/// What a push gives.
+#[derive(Debug, Drop, PartialEq, Eq)]
+pub enum Glued {
+    /// More fragments of the message follow.
+    Part,
+    /// The message is whole. Its metadata is present where a fragment had M, and `complete` and
+    /// `next` are set where a fragment had C and N.
+    Whole {
+        message: Message,
+        complete: bool,
+        next: bool,
+    },
+}
+
+/// Why a push is refused. The glue then holds what it held before.
+#[derive(Clone, Copy, Debug, PartialEq, Eq)]
+pub enum GlueFault {
+    /// The message would have so many bytes of metadata and content, more than the glue takes.
+    TooLarge(u64),
+    /// There was not enough memory.
+    OutOfMemory,
+}
+
+impl From<OutOfMemory> for GlueFault {
+    ghost use Rattle.std.specs.Prelude.{◌≡◌};
+    ghost use Rattle.fragment.specs.declared.glue.GlueFault.TheVariants as faults;
+
+    ghost from_gives = { λ _ fault. fault ≡ faults.OutOfMemory };
+
+    fn from(_error: OutOfMemory) -> GlueFault {
+        GlueFault::OutOfMemory
+    }
+}
+
+/// The fragments of a message that came so far, joined: for one direction of one stream (RSocket
+/// 1.0, "Fragmentation and Reassembly"). Contracts see what it holds, and the most bytes of
+/// metadata and content that a message may have.
+#[derive(Debug, Drop)]
+pub struct Glue {
+    max_payload: u32,
+    // Whether a fragment had M; without, the metadata is empty.
+    has_metadata: bool,
+    metadata: Vec<u8>,
+    content: Vec<u8>,
+    complete: bool,
+    next: bool,
+}
+
+impl Model for Glue {
+    ghost use Rattle.std.specs.Prelude.{◌≡◌, ◌≤◌, ◌+◌, false, Some, None, vec_len, if◌then◌else◌};
+    ghost use Rattle.fragment.specs.Joining.{Held, Holding};
+
+    ghost Value = { Holding };
+
+    ghost view = { λ g. record {
+      max_payload = g.max_payload;
+      held = record {
+        message = record {
+          metadata = (if g.has_metadata then Some g.metadata.items else None);
+          content = g.content.items;
+        };
+        complete = g.complete;
+        next = g.next;
+      };
+    } };
+
+    ghost invariant = { λ g.
+        (g.has_metadata ≡ false → vec_len g.metadata ≡ 0)
+        × (vec_len g.metadata + vec_len g.content ≤ g.max_payload) };
+}
+
+impl Glue {
+    /// An empty glue, for messages of at most `max_payload` bytes of metadata and content. Takes
+    /// no memory.
+    pub fn new(alloc: Global, max_payload: u32) -> Glue
+        ensures { result ≡ empty_glue max_payload }
+    {
+        Glue {
+            max_payload,
+            has_metadata: false,
+            metadata: Vec::new(alloc),
+            content: Vec::new(alloc),
+            complete: false,
+            next: false,
+        }
+    }
+
+    // How many bytes it holds.
+    fn size(&self) -> u64
+        ensures value { result ≡ size_of self.now.held.message }
+        ensures bound { result ≤ self.now.max_payload }
+    {
+        self.metadata.len() as u64 + self.content.len() as u64
+    }
+
+    // Takes a part in, for which the limit has room.
+    fn append(&mut self, message: &Message, complete: bool, next: bool) -> Result<(), OutOfMemory>
+        requires { size_of (grown self.old message.now complete next).message ≤ self.old.max_payload }
+        ensures grown { OnOk result (self.new.held ≡ grown self.old message.now complete next) }
+        ensures limit { self.new.max_payload ≡ self.old.max_payload }
+        ensures kept { OnErr result (self.new ≡ self.old) }
+    {
+        if let Some(metadata) = &message.metadata {
+            self.metadata.reserve(metadata.len())?;
+        }
+        self.content.extend_from_slice(message.content.as_slice())?;
+        if let Some(metadata) = &message.metadata {
+            let _ = self.metadata.extend_from_slice(metadata.as_slice());
+            self.has_metadata = true;
+        }
+        self.complete = self.complete || complete;
+        self.next = self.next || next;
+        Ok(())
+    }
+
+    // Gives what it holds, and is empty then.
+    fn give(&mut self) -> Glued
+        ensures whole { result ≡ glued_of false self.old.held }
+        ensures empty { self.new.held ≡ nothing }
+        ensures limit { self.new.max_payload ≡ self.old.max_payload }
+    {
+        let empty = Glue::new(*self.content.allocator(), self.max_payload);
+        let Glue {
+            max_payload: _,
+            has_metadata,
+            metadata,
+            content,
+            complete,
+            next,
+        } = mem::replace(self, empty);
+        let metadata = if has_metadata {
+            Some(Blob::from_vec(metadata))
+        } else {
+            None
+        };
+        Glued::Whole {
+            message: Message {
+                metadata,
+                content: Blob::from_vec(content),
+            },
+            complete,
+            next,
+        }
+    }
+
+    /// Takes in the next fragment: whether it has F, what it carries, and whether it has C and N, each
+    /// as it came, since every choice of M, C and N is taken. Where none follows it gives the whole
+    /// message, and is empty then. A fragment's metadata and content are below 2^63 bytes. Over all
+    /// pushes it costs what the fragments carry.
+    ///
+    /// `TooLarge` says how many bytes of metadata and content the message would have then, and comes
+    /// exactly where that is above `max_payload`. After a refusal the glue is as before.
+    pub fn push(
+        &mut self,
+        follows: bool,
+        message: &Message,
+        complete: bool,
+        next: bool,
+    ) -> Result<Glued, GlueFault>
+        requires { size_of message.now < 2 ^ 63 }
+        // Part where more follows, else all that was joined.
+        ensures glued { IfOk result
+            (λ glued. glued ≡ glued_of follows (grown self.old message.now complete next)) }
+        // What is held then: nothing after the whole.
+        ensures held { OnOk result
+            (self.new.held ≡ left_held follows (grown self.old message.now complete next)) }
+        // It is taken only where it fits, and the fault says where it does not.
+        ensures fits { OnOk result
+            (size_of (grown self.old message.now complete next).message ≤ self.old.max_payload) }
+        ensures fault { IfErr result (λ fault.
+            IsFaultOf fault (size_of (grown self.old message.now complete next).message) self.old.max_payload) }
+        ensures limit { self.new.max_payload ≡ self.old.max_payload }
+        ensures kept { OnErr result (self.new ≡ self.old) }
+    {
+        let size = self.size() + message.size();
+        if size > u64::from(self.max_payload) {
+            return Err(GlueFault::TooLarge(size));
+        }
+        self.append(message, complete, next)?;
+        if follows {
+            return Ok(Glued::Part);
+        }
+        Ok(self.give())
+    }
+}

@@ -1,0 +1,61 @@
+-- What a link in memory shows.
+use Rattle.std.specs.Prelude.{◌≡◌, ℕ, Bool, List, [], Some}
+use Rattle.outside.specs.Causes.{one_more}
+use Rattle.outside.specs.Links.{Counts, Shown, no_counts}
+use Rattle.outside.specs.Memory.{is_to_fail}
+use Rattle.outside.specs.declared.link.Taken.{Taken}
+use Rattle.outside.specs.declared.link.Taken.TheVariants as takes
+use Rattle.outside.specs.declared.link.Given.{Given}
+use Rattle.outside.specs.declared.link.Given.TheVariants as gives
+use Rattle.outside.specs.declared.mem_link.After.{After}
+
+-- the bytes taken, left and given, what comes after the last, the most bytes of one call, how many
+-- calls came, what was counted, and the numbers of the calls that are to fail
+pub record MemoryLink : Type 0 where
+  pub taken : List ℕ
+  pub left : List ℕ
+  pub given : List ℕ
+  pub after : After
+  pub most : ℕ
+  pub calls : ℕ
+  pub counts : Counts
+  pub fails : List ℕ
+
+abbrev pub shown_of : MemoryLink → Shown
+shown_of l = record { taken = Some l.taken; given = Some l.given; counts = l.counts }
+
+-- whether the next call is to fail
+abbrev pub link_fails_next : MemoryLink → Bool
+link_fails_next l = is_to_fail l.fails (one_more l.calls)
+
+-- the counts once a take gave this answer
+abbrev pub counts_after_take : Taken → Counts → Counts
+counts_after_take (takes.Took n) c = c
+counts_after_take takes.Lull c = record c { lulls = one_more c.lulls }
+counts_after_take takes.End c = record c { ends = one_more c.ends }
+counts_after_take takes.Failed c = record c { faults = one_more c.faults }
+
+-- the counts once a give gave this answer
+abbrev pub counts_after_give : Given → Counts → Counts
+counts_after_give (gives.Took n) c = c
+counts_after_give gives.Lull c = record c { stalls = one_more c.stalls }
+counts_after_give gives.Failed c = record c { faults = one_more c.faults }
+
+-- what the link was made with is the same
+pub record IsSetAlike (old new : MemoryLink) : Type 0 where
+  pub after : new.after ≡ old.after
+  pub most : new.most ≡ old.most
+  pub fails : new.fails ≡ old.fails
+
+-- a link with these bytes
+abbrev pub fresh : List ℕ → After → ℕ → List ℕ → MemoryLink
+fresh bytes after most fails = record {
+  taken = [];
+  left = bytes;
+  given = [];
+  after = after;
+  most = most;
+  calls = 0;
+  counts = no_counts;
+  fails = fails;
+}

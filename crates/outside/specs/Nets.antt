@@ -1,0 +1,12 @@
+-- What a net was asked for.
+use Rattle.std.specs.Prelude.{List, Option, Result, Ok, Err}
+use Rattle.outside.specs.Links.{and_then_one}
+use Rattle.outside.specs.declared.net.Ask.{Ask}
+use Rattle.outside.specs.declared.net.NetFault.{NetFault}
+use Rattle.outside.specs.declared.net.NetFault.TheVariants as faults
+
+-- what was asked once a call gave this answer: a call that finds no memory is not told
+abbrev pub asked_after : {X : Type 0} → Result X NetFault → Option (List Ask) → Ask → Option (List Ask)
+asked_after (Ok x) asked ask = and_then_one asked ask
+asked_after (Err faults.Failed) asked ask = and_then_one asked ask
+asked_after (Err faults.OutOfMemory) asked ask = asked

@@ -1,0 +1,79 @@
+use super::*;
+use rs_wire::Blob;
+use std::test::Fail;
+
+fn blob(rt: &HostRuntime, bytes: &[u8]) -> Result<Blob, Fail> {
+    Blob::from_slice(rt.alloc(), bytes).map_err(|_| Fail::from("memory"))
+}
+
+fn numbers(rt: &HostRuntime, fails: &[u64]) -> Result<Vec<u64>, Fail> {
+    Ok(Vec::from_slice(rt.alloc(), fails)?)
+}
+
+#[test]
+fn a_link_in_memory_gives_its_bytes_and_then_lulls(rt: HostRuntime) -> Result<(), Fail> {
+    let mut link = MemLink::new(
+        rt.alloc(),
+        blob(&rt, &[1, 2, 3])?,
+        After::Lulls,
+        2,
+        numbers(&rt, &[2])?,
+    );
+    let mut buffer = [0; 4];
+    assert_eq!(rt; link.take(&mut buffer), Taken::Took(2));
+    assert_eq!(rt; link.take(&mut buffer), Taken::Failed);
+    assert_eq!(rt; link.take(&mut buffer), Taken::Took(1));
+    assert_eq!(rt; link.take(&mut buffer), Taken::Lull);
+    assert!(rt; link.taken() == [1, 2, 3].as_slice());
+    assert_eq!(rt; link.give(&[7, 8, 9]), Given::Took(2));
+    assert!(rt; link.given() == [7, 8].as_slice());
+    Ok(())
+}
+
+#[test]
+fn a_link_in_memory_ends(rt: HostRuntime) -> Result<(), Fail> {
+    let mut link = MemLink::new(
+        rt.alloc(),
+        blob(&rt, &[])?,
+        After::Ends,
+        1,
+        numbers(&rt, &[])?,
+    );
+    assert_eq!(rt; link.take(&mut [0]), Taken::End);
+    Ok(())
+}
+
+#[test]
+fn a_clock_in_memory_repeats_its_last_moment(rt: HostRuntime) -> Result<(), Fail> {
+    let moments = numbers(&rt, &[5, 9])?;
+    assert_eq!(rt; moments.len(), 2);
+    let clock = MemClock::new(moments);
+    assert_eq!(rt; [clock.now(), clock.now(), clock.now()], [5, 9, 9]);
+    Ok(())
+}
+
+#[test]
+fn a_net_in_memory_hands_out_its_links_and_takes_them_back(rt: HostRuntime) -> Result<(), Fail> {
+    let address = blob(&rt, b"here")?;
+    let link = MemLink::new(
+        rt.alloc(),
+        blob(&rt, &[1])?,
+        After::Ends,
+        1,
+        numbers(&rt, &[])?,
+    );
+    let mut links = Vec::new(rt.alloc());
+    links.push(link)?;
+    let mut net = MemNet::new(rt.alloc(), links, numbers(&rt, &[2])?);
+    assert_eq!(rt; net.listen(&address), Ok(()));
+    assert!(rt; matches!(net.accept(false), Err(NetFault::Failed)));
+    let Ok(mut link) = net.dial(&address, true) else {
+        return Err(Fail::from("dial"));
+    };
+    assert_eq!(rt; link.take(&mut [0]), Taken::Took(1));
+    net.put_back(link);
+    assert!(rt; matches!(net.accept(false), Err(NetFault::Failed)));
+    assert_eq!(rt; net.back().len(), 1);
+    assert!(rt; net.back()[0].taken() == [1].as_slice());
+    Ok(())
+}

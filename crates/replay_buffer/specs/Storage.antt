@@ -1,0 +1,40 @@
+-- How what is held lies in the fields.
+use Rattle.std.specs.Prelude.{◌≡◌, ℕ, ◌+◌, ◌-◌, ◌*◌, ◌≤◌, List, [], ◌∷◌, length, take, drop, vec_len, vec_capacity}
+use Rattle.std.specs.VecDeque.{deque_len, deque_capacity}
+use Rattle.std.specs.List.{AllByRecursion}
+use Rattle.replay_buffer.specs.Positions.{pos, framed_all}
+use Rattle.replay_buffer.specs.Held.{Buffer}
+use Rattle.replay_buffer.specs.declared.replay.Replay.TheInside.{Inside}
+
+-- the positions where the frames end, the first of which starts at `at`
+abbrev pub ends_of : ℕ → List (List ℕ) → List ℕ
+ends_of at [] = []
+ends_of at (f ∷ fs) = (at + length f) ∷ ends_of (at + length f) fs
+
+-- the frames that end at these positions, cut out of their framed bytes
+abbrev pub frames_in : ℕ → List ℕ → List ℕ → List (List ℕ)
+frames_in at [] bytes = []
+frames_in at (e ∷ ends) bytes = take (e - at) (drop 3 bytes) ∷ frames_in e ends (drop (3 + (e - at)) bytes)
+
+-- the frames lie in these bytes and end at these positions
+pub record Stores (at : ℕ) (ends bytes : List ℕ) (frames : List (List ℕ)) : Type 0 where
+  pub bytes_are : bytes ≡ framed_all frames
+  pub ends_are : ends ≡ ends_of at frames
+  pub longer : AllByRecursion (λ f. 6 ≤ length f) frames
+
+abbrev pub frames_of : Inside → List (List ℕ)
+frames_of r = frames_in r.first r.ends.items (drop r.start r.bytes.items)
+
+abbrev pub buffer_of : Inside → Buffer
+buffer_of r = record {
+  held = record { first = r.first; frames = frames_of r; hold = r.hold };
+  room = record { frames = r.spare_frames; bytes = r.spare_bytes };
+}
+
+pub record IsStored (r : Inside) : Type 0 where
+  pub stored : Stores r.first r.ends.items (drop r.start r.bytes.items) (frames_of r)
+  pub end : r.end ≡ r.first + pos (frames_of r)
+  pub top : r.end ≤ 9223372036854775807
+  pub start : r.start ≤ vec_len r.bytes
+  pub room_of_bytes : vec_len r.bytes + (r.spare_bytes + 3 * r.spare_frames) ≤ vec_capacity r.bytes
+  pub room_of_frames : deque_len r.ends + r.spare_frames ≤ deque_capacity r.ends

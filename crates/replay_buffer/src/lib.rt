@@ -1,0 +1,26 @@
+//! What an end still holds of the frames that it made, so that a resumed session can send them
+//! again (RSocket 1.0, "Resuming Operation").
+//!
+//! Frames are kept in the order in which they were made. A *position* counts the bytes of the
+//! frames from the session's first on, without their 24-bit length fields; a *boundary* is a
+//! position where a frame starts or the newest one ends. The oldest frames are forgotten as whole
+//! frames, when the bytes held pass a limit or when the peer has told that it has them.
+//!
+//! Promise to the room above: what is held is the list of the frames kept, from the position
+//! [`Replay::first`] on, and [`Replay::copy`] gives their bytes as they go onto a stream, each
+//! frame after its length. `first` rises as far as the limit and the peer's words say, and no
+//! frame further. Only [`Replay::reserve`] takes memory.
+//!
+//! It leaves out which frames are resumable, how they are spelled, and whether a peer's position
+//! may be believed.
+#![tactic(auto)]
+
+mod laws;
+mod pieces;
+mod replay;
+
+pub use laws::held_of_made;
+pub use replay::Replay;
+
+#[cfg(test)]
+mod tests;
