@@ -1,0 +1,46 @@
+-- What a report is made of.
+use Rattle.std.proofs.Common.{◌≡◌, ℕ, List, [], ◌∷◌, ◌++◌, reverse, Some, None, ap, subst, sym, ◌∙◌, append_assoc}
+use Rattle.std.specs.List.{AllByRecursion}
+use Rattle.std.proofs.lemmas.List.{reverse-append, reverse-reverse}
+use Rattle.rs_wire.specs.declared.words.Side.TheVariants as side
+use Rattle.rs_wire.specs.declared.settings.Settings.{Settings}
+use Rattle.tape.specs.declared.event.Event.{Event}
+use Rattle.tape.specs.declared.event.Event.TheVariants as event
+use Rattle.tape.specs.declared.entry.Entry.{Entry}
+use Rattle.session_model.specs.Legal.{IsFair, Legal}
+use Rattle.cable.specs.Lines.{AreTellable, CanBeTold}
+use Rattle.cable.specs.Report.{counts_of, entry_lines, report_of}
+
+fair_told : (g : Settings) (e : Event) → IsFair g e → CanBeTold e
+fair_told g (event.Open None taken) h = tt
+fair_told g (event.Open (Some f) taken) h = h.1
+fair_told g (event.Draw conn room) h = tt
+fair_told g (event.Came conn f) h = h
+fair_told g (event.Bad conn number) h = tt
+fair_told g (event.Asked asked) h = tt
+
+all_legal : (g : Settings) (past : List Entry) → Legal g past → AreTellable past
+unfolding Legal
+all_legal g [] h = tt
+all_legal g (x ∷ past) h = (fair_told g x.event h.1.fair, all_legal g past h.0)
+
+all_behind : {X : Type 0} (P : X → Type 0) (xs ys : List X) → AllByRecursion P xs → AllByRecursion P ys → AllByRecursion P (xs ++ ys)
+all_behind {X} P [] ys h k = k
+all_behind {X} P (x ∷ xs) ys h k = (h.0, all_behind P xs ys h.1 k)
+
+all_back : {X : Type 0} (P : X → Type 0) (xs : List X) → AllByRecursion P xs → AllByRecursion P (reverse xs)
+all_back {X} P [] h = tt
+all_back {X} P (x ∷ xs) h = subst (AllByRecursion P) (sym (reverse-append (x ∷ []) xs)) (all_behind P (reverse xs) (x ∷ []) (all_back P xs h.1) (h.0, tt))
+
+-- the entries of a session can be told
+pub tellable : (g : Settings) (T : List Entry) → Legal g (reverse T) → AreTellable T
+tellable g T h = subst AreTellable (reverse-reverse T) (all_back (λ (x : Entry). CanBeTold x.event) (reverse T) (all_legal g (reverse T) h))
+
+four : (a b c d e u v w z : List ℕ) → b ≡ a ++ u → c ≡ b ++ v → d ≡ c ++ w → e ≡ d ++ z → e ≡ a ++ (u ++ (v ++ (w ++ z)))
+four a b c d e u v w z p q r s =
+    s ∙ (ap (λ (l : List ℕ). l ++ z) (r ∙ ap (λ (l : List ℕ). l ++ w) (q ∙ ap (λ (l : List ℕ). l ++ v) p))
+    ∙ (append_assoc ((a ++ u) ++ v) w z ∙ (append_assoc (a ++ u) v (w ++ z) ∙ append_assoc a u (v ++ (w ++ z)))))
+
+-- the four parts of a report
+pub parts : (a b c d e : List ℕ) (client server : List Entry) → b ≡ a ++ counts_of side.Client (reverse client) → c ≡ b ++ counts_of side.Server (reverse server) → d ≡ c ++ entry_lines side.Client client → e ≡ d ++ entry_lines side.Server server → e ≡ a ++ report_of client server
+parts a b c d e client server p q r s = four a b c d e (counts_of side.Client (reverse client)) (counts_of side.Server (reverse server)) (entry_lines side.Client client) (entry_lines side.Server server) p q r s

@@ -1,0 +1,10 @@
+use Rattle.cable.proofs.Results.{on_ok}
+use Rattle.cable.proofs.Carrying.{up_of}
+use Rattle.cable.proofs.cable.Cable.up.Goals as goal
+
+pub returns-clause-carried : goal.returns-clause-carried
+returns-clause-carried g c = λ t C S j.
+    let b = c.in_ok-carry.ensures.drew t C S j in
+    let new = c.arrive.new.self in
+    on_ok _ _ c.arrive.result (c.arrive.ensures.came t b.client b.server b.joint)
+    (λ d. up_of t c.args.most C S b.client b.server new.client new.server new.crossing new.begun b.related d)

@@ -1,0 +1,64 @@
+//! The report of a run.
+
+ghost use Rattle.std.specs.Prelude.{◌≡◌, ◌++◌, List, Some, OnOk, OnErr, reverse};
+ghost use Rattle.tape.specs.declared.entry.Entry.{Entry as Line};
+ghost use Rattle.cable.specs.Report.{counts_of, entry_lines, report_of};
+
+use crate::entries::{put_counts, put_entries};
+use crate::run::Ran;
+use rs_wire::{OutOfMemory, Side};
+use session_core::Session;
+use std::alloc::Global;
+use tape::Tape;
+
+fn put_end_counts<T: Tape>(
+    out: &mut Vec<u8>,
+    side: Side,
+    end: &Session<T>,
+) -> Result<(), OutOfMemory>
+    ensures { (entries : List Line) → end.now.told ≡ Some entries →
+        OnOk result (out.new.items ≡ out.old.items ++ counts_of side (reverse entries)) }
+{
+    let counts = end.counts();
+    let made = (counts.made_frames, counts.made);
+    let handled = (counts.handled_frames, counts.handled);
+    put_counts(out, side, made, handled)
+}
+
+fn put_end_entries<T: Tape>(
+    out: &mut Vec<u8>,
+    side: Side,
+    end: &Session<T>,
+) -> Result<(), OutOfMemory>
+    ensures { (entries : List Line) → end.now.told ≡ Some entries →
+        OnOk result (out.new.items ≡ out.old.items ++ entry_lines side entries) }
+{
+    end.stands();
+    put_entries(out, side, end.tape())
+}
+
+fn put_report<T: Tape>(out: &mut Vec<u8>, ran: &Ran<T>) -> Result<(), OutOfMemory>
+    ensures { (client server : List Line) →
+        ran.now.client.told ≡ Some client → ran.now.server.told ≡ Some server →
+        OnOk result (out.new.items ≡ out.old.items ++ report_of client server) }
+{
+    put_end_counts(out, Side::Client, &ran.client)?;
+    put_end_counts(out, Side::Server, &ran.server)?;
+    put_end_entries(out, Side::Client, &ran.client)?;
+    put_end_entries(out, Side::Server, &ran.server)
+}
+
+/// Appends the report of a run: two lines of counts, then a line for each entry of the client and
+/// of the server, but for the draws that gave bytes. Of an end whose tape tells no entries there
+/// are only the counts. Where memory runs out, nothing is appended.
+pub fn report<T: Tape>(alloc: Global, ran: &Ran<T>, out: &mut Vec<u8>) -> Result<(), OutOfMemory>
+    ensures ok { (client server : List Line) →
+        ran.now.client.told ≡ Some client → ran.now.server.told ≡ Some server →
+        OnOk result (out.new.items ≡ out.old.items ++ report_of client server) }
+    ensures err { OnErr result (out.new.items ≡ out.old.items) }
+{
+    let mut text = Vec::new(alloc);
+    put_report(&mut text, ran)?;
+    out.extend_from_slice(&text)?;
+    Ok(())
+}

@@ -1,0 +1,5 @@
+pub mod Words
+pub mod Lines
+pub mod Spelled
+pub mod Fields
+pub mod Reading
