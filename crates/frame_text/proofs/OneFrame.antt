@@ -1,10 +1,10 @@
 -- A line is that of one frame.
-use Rattle.std.proofs.Common.{◌≡◌, ℕ, zero, suc, ◌<◌, ◌^◌, Bool, true, false, not, if◌then◌else◌, List, [], ◌∷◌, ◌++◌, Option, Some, None, refl, sym, ap, ◌∙◌, arith}
+use Rattle.std.proofs.Common.{◌≡◌, ℕ, zero, suc, ◌<◌, ◌^◌, Bool, true, false, ltb, if◌then◌else◌, List, [], ◌∷◌, ◌++◌, Option, Some, None, refl, sym, ap, ◌∙◌, arith}
 use Rattle.std.specs.Prelude.{bytes_eq, codes, decimal, is_some}
 use Rattle.std.specs.List.{list_all}
 use Rattle.std.specs.Str.Parse.{digits_value}
 use Rattle.std.proofs.lemmas.Fmt.{decimal_is_IsNumeral}
-use Rattle.std.proofs.lemmas.Bool.{and_parts}
+use Rattle.std.proofs.lemmas.Bool.{and_parts, ltb-true}
 use Rattle.hex.specs.Hex.{IsBytes}
 use Rattle.rs_wire.specs.declared.message.Message.{Message}
 use Rattle.rs_wire.specs.declared.words.Kind.{Kind}
@@ -13,9 +13,9 @@ use Rattle.rs_frame.specs.Spelling.{FieldsFit, InitialFits}
 use Rattle.rs_frame.specs.declared.frame.Frame.{Frame}
 use Rattle.rs_frame.specs.declared.frame.Frame.TheVariants as frames
 use Rattle.frame_text.specs.Lines.{HasBytes, HasOption, fields_of, kind_name, line_of, name_of}
-use Rattle.frame_text.specs.Spelled.{bytes_of, channel_words, found, is_space, option_of, payload_words, respond_words, setup_words}
+use Rattle.frame_text.specs.Spelled.{bytes_of, channel_words, found, option_of, payload_words, respond_words, setup_words}
 use Rattle.frame_text.specs.Words.{blob_word, flags_word, letter_if, option_word}
-use Rattle.frame_text.proofs.Steps.{AllNoSpace, NoSpace, NoSpace-blob, NoSpace-decimal, NoSpace-option, bytes_again, option_again, same_words}
+use Rattle.frame_text.proofs.Steps.{AllAboveSpace, AboveSpace, AboveSpace-blob, AboveSpace-decimal, AboveSpace-option, bytes_again, option_again, same_words}
 
 -- ---- a frame from the words of its line
 
@@ -254,35 +254,31 @@ again (frames.Error stream code content) fits has = error_is (back stream (omega
 again (frames.Unknown stream kind flags rest) fits has =
     unknown_is (back stream (omega (arith, fits.0))) (back kind (omega (arith, fits.1))) (back flags (omega (arith, fits.3))) (bytes_again rest has)
 
--- ---- no word has a space
+-- ---- each word is above the space
 
-is_not : (b : Bool) → not b ≡ true → b ≡ false
-is_not true e = absurd cc
-is_not false e = refl
-
-clean : (w : List ℕ) → list_all (λ b. not (is_space b)) w ≡ true → NoSpace w
+clean : (w : List ℕ) → list_all (λ b. ltb 32 b) w ≡ true → AboveSpace w
 clean [] h = tt
 clean (b ∷ w) h =
-    let p = and_parts (not (is_space b)) (list_all (λ b. not (is_space b)) w) h in
-    (is_not (is_space b) p.0, clean w p.1)
+    let p = and_parts (ltb 32 b) (list_all (λ b. ltb 32 b) w) h in
+    (ltb-true 32 b p.0, clean w p.1)
 
-pub setup_clean : (r l : Bool) → NoSpace (flags_word (letter_if r (codes "R") ++ letter_if l (codes "L")))
+pub setup_clean : (r l : Bool) → AboveSpace (flags_word (letter_if r (codes "R") ++ letter_if l (codes "L")))
 setup_clean false false = clean (codes "-") refl
 setup_clean true false = clean (codes "R") refl
 setup_clean false true = clean (codes "L") refl
 setup_clean true true = clean (codes "RL") refl
 
-pub respond_clean : (r : Bool) → NoSpace (flags_word (letter_if r (codes "R")))
+pub respond_clean : (r : Bool) → AboveSpace (flags_word (letter_if r (codes "R")))
 respond_clean false = clean (codes "-") refl
 respond_clean true = clean (codes "R") refl
 
-pub channel_clean : (f c : Bool) → NoSpace (flags_word (letter_if f (codes "F") ++ letter_if c (codes "C")))
+pub channel_clean : (f c : Bool) → AboveSpace (flags_word (letter_if f (codes "F") ++ letter_if c (codes "C")))
 channel_clean false false = clean (codes "-") refl
 channel_clean true false = clean (codes "F") refl
 channel_clean false true = clean (codes "C") refl
 channel_clean true true = clean (codes "FC") refl
 
-pub payload_clean : (f c n : Bool) → NoSpace (flags_word (letter_if f (codes "F") ++ (letter_if c (codes "C") ++ letter_if n (codes "N"))))
+pub payload_clean : (f c n : Bool) → AboveSpace (flags_word (letter_if f (codes "F") ++ (letter_if c (codes "C") ++ letter_if n (codes "N"))))
 payload_clean false false false = clean (codes "-") refl
 payload_clean true false false = clean (codes "F") refl
 payload_clean false true false = clean (codes "C") refl
@@ -292,13 +288,13 @@ payload_clean true false true = clean (codes "FN") refl
 payload_clean false true true = clean (codes "CN") refl
 payload_clean true true true = clean (codes "FCN") refl
 
-kind_clean : (kind : Kind) → NoSpace (kind_name kind)
+kind_clean : (kind : Kind) → AboveSpace (kind_name kind)
 kind_clean kinds.Response = clean (codes "REQUEST_RESPONSE") refl
 kind_clean kinds.Fnf = clean (codes "REQUEST_FNF") refl
 kind_clean kinds.Stream = clean (codes "REQUEST_STREAM") refl
 kind_clean kinds.Channel = clean (codes "REQUEST_CHANNEL") refl
 
-pub name_clean : (f : Frame) → NoSpace (name_of f)
+pub name_clean : (f : Frame) → AboveSpace (name_of f)
 name_clean (frames.Setup s) = clean (codes "SETUP") refl
 name_clean (frames.Lease ttl count metadata) = clean (codes "LEASE") refl
 name_clean (frames.Keepalive respond position content) = clean (codes "KEEPALIVE") refl
@@ -313,11 +309,11 @@ name_clean (frames.Payload stream follows complete next message) = clean (codes 
 name_clean (frames.Error stream code content) = clean (codes "ERROR") refl
 name_clean (frames.Unknown stream number flags rest) = clean (codes "UNKNOWN") refl
 
-decimal_clean : (n : ℕ) → n < 2 ^ 63 → NoSpace (decimal n)
-decimal_clean n small = NoSpace-decimal n (omega (arith, small))
+decimal_clean : (n : ℕ) → n < 2 ^ 63 → AboveSpace (decimal n)
+decimal_clean n small = AboveSpace-decimal n (omega (arith, small))
 
-message_clean : (m : Message) → HasOption m.metadata → IsBytes m.content → AllNoSpace (option_word m.metadata ∷ blob_word m.content ∷ [])
-message_clean m has all = (NoSpace-option m.metadata has, (NoSpace-blob m.content all, tt))
+message_clean : (m : Message) → HasOption m.metadata → IsBytes m.content → AllAboveSpace (option_word m.metadata ∷ blob_word m.content ∷ [])
+message_clean m has all = (AboveSpace-option m.metadata has, (AboveSpace-blob m.content all, tt))
 
 initial_below : (kind : Kind) (n : ℕ) (complete : Bool) → InitialFits kind (Some n) complete → n < 2 ^ 63
 initial_below kinds.Response n complete fits = absurd (no_some n fits.0)
@@ -325,11 +321,11 @@ initial_below kinds.Fnf n complete fits = absurd (no_some n fits.0)
 initial_below kinds.Stream n complete fits = omega (arith, same_below n fits.0 fits.1 fits.2.1)
 initial_below kinds.Channel n complete fits = omega (arith, same_below n fits.0 fits.1 fits.2.1)
 
-kind_fields_clean : (kind : Kind) (stream : ℕ) (follows complete : Bool) (initial : Option ℕ) (m : Message) → FieldsFit (made kind stream follows complete initial m) → HasBytes (made kind stream follows complete initial m) → AllNoSpace (fields_of (made kind stream follows complete initial m))
+kind_fields_clean : (kind : Kind) (stream : ℕ) (follows complete : Bool) (initial : Option ℕ) (m : Message) → FieldsFit (made kind stream follows complete initial m) → HasBytes (made kind stream follows complete initial m) → AllAboveSpace (fields_of (made kind stream follows complete initial m))
 kind_fields_clean kind stream follows complete None m fits has = (decimal_clean stream (omega (arith, fits.0.1)), (channel_clean follows complete, message_clean m has.0 has.1))
 kind_fields_clean kind stream follows complete (Some n) m fits has = (decimal_clean stream (omega (arith, fits.0.1)), (channel_clean follows complete, (decimal_clean n (initial_below kind n complete fits.1), message_clean m has.0 has.1)))
 
-words_clean : (f : Frame) → FieldsFit f → HasBytes f → AllNoSpace (fields_of f)
+pub words_clean : (f : Frame) → FieldsFit f → HasBytes f → AllAboveSpace (fields_of f)
 words_clean (frames.Setup s) fits has = (
   clean (codes "0") refl,
   (
@@ -342,29 +338,29 @@ words_clean (frames.Setup s) fits has = (
           decimal_clean s.keepalive (omega (arith, fits.2.1)),
           (
             decimal_clean s.lifetime (omega (arith, fits.3.1)),
-            (NoSpace-option s.resume has.0, (NoSpace-blob s.metadata_mime has.1, (NoSpace-blob s.content_mime has.2, message_clean s.message has.3.0 has.3.1))),
+            (AboveSpace-option s.resume has.0, (AboveSpace-blob s.metadata_mime has.1, (AboveSpace-blob s.content_mime has.2, message_clean s.message has.3.0 has.3.1))),
           ),
         ),
       ),
     ),
   ),
 )
-words_clean (frames.Lease ttl count metadata) fits has = (clean (codes "0") refl, (decimal_clean ttl (omega (arith, fits.0)), (decimal_clean count (omega (arith, fits.1)), (NoSpace-option metadata has, tt))))
-words_clean (frames.Keepalive respond position content) fits has = (clean (codes "0") refl, (respond_clean respond, (decimal_clean position fits, (NoSpace-blob content has, tt))))
-words_clean (frames.MetadataPush metadata) fits has = (clean (codes "0") refl, (NoSpace-blob metadata has, tt))
+words_clean (frames.Lease ttl count metadata) fits has = (clean (codes "0") refl, (decimal_clean ttl (omega (arith, fits.0)), (decimal_clean count (omega (arith, fits.1)), (AboveSpace-option metadata has, tt))))
+words_clean (frames.Keepalive respond position content) fits has = (clean (codes "0") refl, (respond_clean respond, (decimal_clean position fits, (AboveSpace-blob content has, tt))))
+words_clean (frames.MetadataPush metadata) fits has = (clean (codes "0") refl, (AboveSpace-blob metadata has, tt))
 words_clean (frames.Resume r) fits has =
-    (clean (codes "0") refl, (decimal_clean r.major (omega (arith, fits.0)), (decimal_clean r.minor (omega (arith, fits.1)), (NoSpace-blob r.token has, (decimal_clean r.server_position fits.3, (decimal_clean r.client_position fits.4, tt))))))
+    (clean (codes "0") refl, (decimal_clean r.major (omega (arith, fits.0)), (decimal_clean r.minor (omega (arith, fits.1)), (AboveSpace-blob r.token has, (decimal_clean r.server_position fits.3, (decimal_clean r.client_position fits.4, tt))))))
 words_clean (frames.ResumeOk position) fits has = (clean (codes "0") refl, (decimal_clean position fits, tt))
 words_clean (frames.Ext stream flags extended rest) fits has =
-    (decimal_clean stream (omega (arith, fits.0)), (decimal_clean flags (omega (arith, fits.1)), (decimal_clean extended (omega (arith, fits.2)), (NoSpace-blob rest has, tt))))
+    (decimal_clean stream (omega (arith, fits.0)), (decimal_clean flags (omega (arith, fits.1)), (decimal_clean extended (omega (arith, fits.2)), (AboveSpace-blob rest has, tt))))
 words_clean (frames.Request r) fits has = kind_fields_clean r.kind r.stream r.follows r.complete r.initial r.message fits has
 words_clean (frames.RequestN stream n) fits has = (decimal_clean stream (omega (arith, fits.0.1)), (decimal_clean n (omega (arith, fits.1.1)), tt))
 words_clean (frames.Cancel stream) fits has = (decimal_clean stream (omega (arith, fits.1)), tt)
 words_clean (frames.Payload stream follows complete next message) fits has =
     (decimal_clean stream (omega (arith, fits.0.1)), (payload_clean follows complete next, message_clean message has.0 has.1))
-words_clean (frames.Error stream code content) fits has = (decimal_clean stream (omega (arith, fits.0)), (decimal_clean code (omega (arith, fits.1)), (NoSpace-blob content has, tt)))
+words_clean (frames.Error stream code content) fits has = (decimal_clean stream (omega (arith, fits.0)), (decimal_clean code (omega (arith, fits.1)), (AboveSpace-blob content has, tt)))
 words_clean (frames.Unknown stream number flags rest) fits has =
-    (decimal_clean stream (omega (arith, fits.0)), (decimal_clean number (omega (arith, fits.1)), (decimal_clean flags (omega (arith, fits.3)), (NoSpace-blob rest has, tt))))
+    (decimal_clean stream (omega (arith, fits.0)), (decimal_clean number (omega (arith, fits.1)), (decimal_clean flags (omega (arith, fits.3)), (AboveSpace-blob rest has, tt))))
 
 -- ---- the law
 

@@ -21,7 +21,7 @@ use Rattle.frame_text.specs.Words.{blob_word, flags_word, letter_if, option_word
 use Rattle.frame_text.proofs.OneFrame.{channel_clean, made, name_clean, payload_clean, respond_clean, setup_clean}
 use Rattle.frame_text.proofs.Numbers.{number_again}
 use Rattle.frame_text.proofs.Parts.{blob_again}
-use Rattle.frame_text.proofs.Steps.{NoSpace, NoSpace-option, bytes_again, no_dash, NoSpace-blob, NoSpace-decimal, cut_spaced, rest_of}
+use Rattle.frame_text.proofs.Steps.{AboveSpace, AboveSpace-option, bytes_again, no_dash, AboveSpace-blob, AboveSpace-decimal, cut_spaced, rest_of}
 
 passed : (b : Bool) (fault : Wrong) (rest : Option (List ℕ)) → b ≡ true → tested b fault rest ≡ Ok rest
 passed true fault rest e = refl
@@ -30,7 +30,7 @@ passed false fault rest e = absurd cc
 number_step : (place low high n : ℕ) (ws : List (List ℕ)) → n < 2 ^ 64 → low ≤ n → n ≤ high → number_at place low high (rest_of (decimal n ∷ ws)) ≡ Ok (rest_of ws)
 unfolding number_at
 number_step place low high n ws small l h =
-    ap (λ (c : List ℕ × Option (List ℕ)). tested (is_some (number_of low high c.0)) (wrongs.Number place) c.1) (cut_spaced (decimal n) ws (NoSpace-decimal n small))
+    ap (λ (c : List ℕ × Option (List ℕ)). tested (is_some (number_of low high c.0)) (wrongs.Number place) c.1) (cut_spaced (decimal n) ws (AboveSpace-decimal n small))
     ∙ passed (is_some (number_of low high (decimal n))) (wrongs.Number place) (rest_of ws) (ap (λ (o : Option ℕ). is_some o) (number_again low high n small l h))
 
 abbrev Rest : Type 0
@@ -41,9 +41,9 @@ Left = Result (Option (List ℕ)) Wrong
 
 zero_step : (ws : List (List ℕ)) → zero_at (rest_of (codes "0" ∷ ws)) ≡ Ok (rest_of ws)
 unfolding zero_at
-zero_step ws = ap (λ (c : Rest). tested (bytes_eq c.0 (codes "0")) (wrongs.Number 1) c.1) (cut_spaced (codes "0") ws (refl, tt))
+zero_step ws = ap (λ (c : Rest). tested (bytes_eq c.0 (codes "0")) (wrongs.Number 1) c.1) (cut_spaced (codes "0") ws (omega arith, tt))
 
-flags_step : {A : Type 0} (place : ℕ) (table : List (List ℕ × A)) (w : List ℕ) (ws : List (List ℕ)) → NoSpace w → is_some (found table w) ≡ true → flags_at place table (rest_of (w ∷ ws)) ≡ Ok (rest_of ws)
+flags_step : {A : Type 0} (place : ℕ) (table : List (List ℕ × A)) (w : List ℕ) (ws : List (List ℕ)) → AboveSpace w → is_some (found table w) ≡ true → flags_at place table (rest_of (w ∷ ws)) ≡ Ok (rest_of ws)
 unfolding flags_at
 flags_step place table w ws clean is =
     ap (λ (c : Rest). tested (is_some (found table c.0)) (wrongs.Word place) c.1) (cut_spaced w ws clean) ∙ passed (is_some (found table w)) (wrongs.Word place) (rest_of ws) is
@@ -51,7 +51,7 @@ flags_step place table w ws clean is =
 blob_step : (place : ℕ) (bytes : List ℕ) (ws : List (List ℕ)) → IsBytes bytes → blob_at place (rest_of (blob_word bytes ∷ ws)) ≡ Ok (rest_of ws)
 unfolding blob_at
 blob_step place bytes ws all =
-    ap (λ (c : Rest). tested (is_blob c.0) (wrongs.Hex place) c.1) (cut_spaced (blob_word bytes) ws (NoSpace-blob bytes all)) ∙ passed (is_blob (blob_word bytes)) (wrongs.Hex place) (rest_of ws) (blob_again bytes all)
+    ap (λ (c : Rest). tested (is_blob c.0) (wrongs.Hex place) c.1) (cut_spaced (blob_word bytes) ws (AboveSpace-blob bytes all)) ∙ passed (is_blob (blob_word bytes)) (wrongs.Hex place) (rest_of ws) (blob_again bytes all)
 
 both : (a b : Bool) → a ≡ true → b ≡ true → (a && b) ≡ true
 both true b e f = f
@@ -69,7 +69,7 @@ is_short_again most bytes all le =
 short_step : (place most : ℕ) (bytes : List ℕ) (ws : List (List ℕ)) → IsBytes bytes → length bytes ≤ most → short_at place most (rest_of (blob_word bytes ∷ ws)) ≡ Ok (rest_of ws)
 unfolding short_at
 short_step place most bytes ws all le =
-    ap (λ (c : Rest). tested (is_short most c.0) (wrongs.Hex place) c.1) (cut_spaced (blob_word bytes) ws (NoSpace-blob bytes all)) ∙ passed (is_short most (blob_word bytes)) (wrongs.Hex place) (rest_of ws) (is_short_again most bytes all le)
+    ap (λ (c : Rest). tested (is_short most c.0) (wrongs.Hex place) c.1) (cut_spaced (blob_word bytes) ws (AboveSpace-blob bytes all)) ∙ passed (is_short most (blob_word bytes)) (wrongs.Hex place) (rest_of ws) (is_short_again most bytes all le)
 
 is_option_again : (o : Option (List ℕ)) → HasOption o → (is_dash (option_word o) || is_blob (option_word o)) ≡ true
 is_option_again None all = refl
@@ -78,7 +78,7 @@ is_option_again (Some bytes) all = or_right (is_dash (blob_word bytes)) (is_blob
 option_step : (place : ℕ) (o : Option (List ℕ)) (ws : List (List ℕ)) → HasOption o → option_at place (rest_of (option_word o ∷ ws)) ≡ Ok (rest_of ws)
 unfolding option_at
 option_step place o ws all =
-    ap (λ (c : Rest). tested (is_dash c.0 || is_blob c.0) (wrongs.Hex place) c.1) (cut_spaced (option_word o) ws (NoSpace-option o all)) ∙ passed (is_dash (option_word o) || is_blob (option_word o)) (wrongs.Hex place) (rest_of ws) (is_option_again o all)
+    ap (λ (c : Rest). tested (is_dash c.0 || is_blob c.0) (wrongs.Hex place) c.1) (cut_spaced (option_word o) ws (AboveSpace-option o all)) ∙ passed (is_dash (option_word o) || is_blob (option_word o)) (wrongs.Hex place) (rest_of ws) (is_option_again o all)
 
 is_short_option : (most : ℕ) (o : Option (List ℕ)) → HasOption o → IfSome o (λ b. length b < suc most) → (is_dash (option_word o) || is_short most (option_word o)) ≡ true
 is_short_option most None all le = refl
@@ -87,7 +87,7 @@ is_short_option most (Some bytes) all le = or_right (is_dash (blob_word bytes)) 
 short_option_step : (place most : ℕ) (o : Option (List ℕ)) (ws : List (List ℕ)) → HasOption o → IfSome o (λ b. length b < suc most) → short_option_at place most (rest_of (option_word o ∷ ws)) ≡ Ok (rest_of ws)
 unfolding short_option_at
 short_option_step place most o ws all le =
-    ap (λ (c : Rest). tested (is_dash c.0 || is_short most c.0) (wrongs.Hex place) c.1) (cut_spaced (option_word o) ws (NoSpace-option o all)) ∙ passed (is_dash (option_word o) || is_short most (option_word o)) (wrongs.Hex place) (rest_of ws) (is_short_option most o all le)
+    ap (λ (c : Rest). tested (is_dash c.0 || is_short most c.0) (wrongs.Hex place) c.1) (cut_spaced (option_word o) ws (AboveSpace-option o all)) ∙ passed (is_dash (option_word o) || is_short most (option_word o)) (wrongs.Hex place) (rest_of ws) (is_short_option most o all le)
 
 fits_again : (o : Option (List ℕ)) → fits_asked (is_some o) (is_dash (option_word o)) ≡ true
 fits_again None = refl
@@ -96,7 +96,7 @@ fits_again (Some bytes) = ap (λ (d : Bool). not d) (no_dash bytes)
 token_step : (place : ℕ) (o : Option (List ℕ)) (ws : List (List ℕ)) → HasOption o → IfSome o (λ b. length b < suc 65535) → token_at place (is_some o) (rest_of (option_word o ∷ ws)) ≡ Ok (rest_of ws)
 unfolding token_at
 token_step place o ws all le =
-    ap (λ (c : Rest). tested (is_dash c.0 || is_short 65535 c.0) (wrongs.Hex place) c.1 >>= λ rest. tested (fits_asked (is_some o) (is_dash c.0)) (wrongs.Word place) rest) (cut_spaced (option_word o) ws (NoSpace-option o all))
+    ap (λ (c : Rest). tested (is_dash c.0 || is_short 65535 c.0) (wrongs.Hex place) c.1 >>= λ rest. tested (fits_asked (is_some o) (is_dash c.0)) (wrongs.Word place) rest) (cut_spaced (option_word o) ws (AboveSpace-option o all))
     ∙ ap (λ (r : Left). r >>= λ rest. tested (fits_asked (is_some o) (is_dash (option_word o))) (wrongs.Word place) rest) (passed (is_dash (option_word o) || is_short 65535 (option_word o)) (wrongs.Hex place) (rest_of ws) (is_short_option 65535 o all le))
     ∙ passed (fits_asked (is_some o) (is_dash (option_word o))) (wrongs.Word place) (rest_of ws) (fits_again o)
 
@@ -140,7 +140,7 @@ unnamed_again n lt is = left_is (is_unnamed (Some n)) (is_unknown (row_of n)) (r
 unnamed_step : (place n : ℕ) (ws : List (List ℕ)) → n < 64 → row_of n ≡ rows.Unknown → unnamed_at place (rest_of (decimal n ∷ ws)) ≡ Ok (rest_of ws)
 unfolding unnamed_at
 unnamed_step place n ws lt is =
-    ap (λ (c : Rest). tested (is_unnamed (number_of 0 63 c.0)) (wrongs.Number place) c.1) (cut_spaced (decimal n) ws (NoSpace-decimal n (omega (arith, lt))))
+    ap (λ (c : Rest). tested (is_unnamed (number_of 0 63 c.0)) (wrongs.Number place) c.1) (cut_spaced (decimal n) ws (AboveSpace-decimal n (omega (arith, lt))))
     ∙ passed (is_unnamed (number_of 0 63 (decimal n))) (wrongs.Number place) (rest_of ws) (ap is_unnamed (number_again 0 63 n (omega (arith, lt)) (omega arith) (omega (arith, lt))) ∙ unnamed_again n lt is)
 
 -- ---- words of flags

@@ -13,24 +13,27 @@ use Rattle.frame_text.specs.Words.{blob_word, option_word}
 use Rattle.frame_text.specs.Spelled.{bytes_of, cut_word, decoded, is_dash, is_dot, is_lower, is_space, option_of}
 use Rattle.frame_text.proofs.Parts.{encode_is_lower, pick}
 
--- no byte is a space
-abbrev pub NoSpace : List ℕ → Type 0
-NoSpace bytes = AllByRecursion (λ b. is_space b ≡ false) bytes
+-- each byte is above the space, and so neither a space nor a line feed
+abbrev pub AboveSpace : List ℕ → Type 0
+AboveSpace bytes = AllByRecursion (λ b. 32 < b) bytes
 
-pos_at : (w rest : List ℕ) → NoSpace w → position_or_len is_space (w ++ (32 ∷ rest)) ≡ length w
+no_space : (b : ℕ) → 32 < b → is_space b ≡ false
+no_space b above = grind (arith, nat_tests)
+
+pos_at : (w rest : List ℕ) → AboveSpace w → position_or_len is_space (w ++ (32 ∷ rest)) ≡ length w
 pos_at [] rest h = refl
-pos_at (b ∷ w) rest h = rw (h.0, pos_at w rest h.1) (omega arith)
+pos_at (b ∷ w) rest h = rw (no_space b h.0, pos_at w rest h.1) (omega arith)
 
-pos_none : (w : List ℕ) → NoSpace w → position_or_len is_space w ≡ length w
+pos_none : (w : List ℕ) → AboveSpace w → position_or_len is_space w ≡ length w
 pos_none [] h = refl
-pos_none (b ∷ w) h = rw (h.0, pos_none w h.1) (omega arith)
+pos_none (b ∷ w) h = rw (no_space b h.0, pos_none w h.1) (omega arith)
 
-cut_again : (w rest : List ℕ) → NoSpace w → cut_word (w ++ (32 ∷ rest)) ≡ (w, Some rest)
+cut_again : (w rest : List ℕ) → AboveSpace w → cut_word (w ++ (32 ∷ rest)) ≡ (w, Some rest)
 cut_again w rest h =
     let long : ltb (length w) (length (w ++ (32 ∷ rest))) ≡ true = lt-ltb _ _ (omega (arith, length-append w (32 ∷ rest))) in
     rw (pos_at w rest h, long, take_at w (32 ∷ rest) (length w) refl, drop_at w (32 ∷ rest) (length w) refl) refl
 
-cut_last : (w : List ℕ) → NoSpace w → cut_word w ≡ (w, None)
+cut_last : (w : List ℕ) → AboveSpace w → cut_word w ≡ (w, None)
 cut_last w h =
     let short : ltb (length w) (length w) ≡ false = le-ltb _ _ (omega arith) in
     rw (pos_none w h, short) refl
@@ -40,38 +43,38 @@ abbrev pub rest_of : List (List ℕ) → Option (List ℕ)
 rest_of [] = None
 rest_of (w ∷ ws) = Some (w ++ spaced ws)
 
-pub cut_spaced : (w : List ℕ) (ws : List (List ℕ)) → NoSpace w → cut_word (w ++ spaced ws) ≡ (w, rest_of ws)
+pub cut_spaced : (w : List ℕ) (ws : List (List ℕ)) → AboveSpace w → cut_word (w ++ spaced ws) ≡ (w, rest_of ws)
 cut_spaced w [] h = ap cut_word (append-nil w) ∙ cut_last w h
 cut_spaced w (v ∷ ws) h = cut_again w (v ++ spaced ws) h
 
--- ---- words without a space
+-- ---- words above the space
 
-NoSpace-append : (v w : List ℕ) → NoSpace v → NoSpace w → NoSpace (v ++ w)
-NoSpace-append [] w h k = k
-NoSpace-append (b ∷ v) w h k = (h.0, NoSpace-append v w h.1 k)
+AboveSpace-append : (v w : List ℕ) → AboveSpace v → AboveSpace w → AboveSpace (v ++ w)
+AboveSpace-append [] w h k = k
+AboveSpace-append (b ∷ v) w h k = (h.0, AboveSpace-append v w h.1 k)
 
-digit_no_space : (n : ℕ) → n < 10 → is_space (48 + n) ≡ false
-digit_no_space n lt = grind arith
+digit_above : (n : ℕ) → n < 10 → 32 < 48 + n
+digit_above n lt = omega arith
 
-pub NoSpace-decimal : (n : ℕ) → n < 2 ^ 64 → NoSpace (decimal n)
-NoSpace-decimal n small = decimal_by_steps (λ k ds. NoSpace ds) (λ k lt. (digit_no_space k lt, tt)) (λ k ds le h. NoSpace-append ds ((48 + k % 10) ∷ []) h (digit_no_space (k % 10) (omega arith), tt)) n small
+pub AboveSpace-decimal : (n : ℕ) → n < 2 ^ 64 → AboveSpace (decimal n)
+AboveSpace-decimal n small = decimal_by_steps (λ k ds. AboveSpace ds) (λ k lt. (digit_above k lt, tt)) (λ k ds le h. AboveSpace-append ds ((48 + k % 10) ∷ []) h (digit_above (k % 10) (omega arith), tt)) n small
 
-lower_no_space : (b : ℕ) → is_lower b ≡ true → is_space b ≡ false
-lower_no_space b lower = grind (arith, nat_tests)
+lower_above : (b : ℕ) → is_lower b ≡ true → 32 < b
+lower_above b lower = grind (arith, nat_tests)
 
-all_lower : (word : List ℕ) → list_all is_lower word ≡ true → NoSpace word
+all_lower : (word : List ℕ) → list_all is_lower word ≡ true → AboveSpace word
 all_lower [] h = tt
 all_lower (b ∷ word) h =
     let p = and_parts (is_lower b) (list_all is_lower word) h in
-    (lower_no_space b p.0, all_lower word p.1)
+    (lower_above b p.0, all_lower word p.1)
 
-pub NoSpace-blob : (bytes : List ℕ) → IsBytes bytes → NoSpace (blob_word bytes)
-NoSpace-blob [] all = (refl, tt)
-NoSpace-blob (b ∷ bytes) all = all_lower (encode_lower (b ∷ bytes)) (encode_is_lower (b ∷ bytes) all)
+pub AboveSpace-blob : (bytes : List ℕ) → IsBytes bytes → AboveSpace (blob_word bytes)
+AboveSpace-blob [] all = (omega arith, tt)
+AboveSpace-blob (b ∷ bytes) all = all_lower (encode_lower (b ∷ bytes)) (encode_is_lower (b ∷ bytes) all)
 
-pub NoSpace-option : (bytes : Option (List ℕ)) → HasOption bytes → NoSpace (option_word bytes)
-NoSpace-option None all = (refl, tt)
-NoSpace-option (Some bytes) all = NoSpace-blob bytes all
+pub AboveSpace-option : (bytes : Option (List ℕ)) → HasOption bytes → AboveSpace (option_word bytes)
+AboveSpace-option None all = (omega arith, tt)
+AboveSpace-option (Some bytes) all = AboveSpace-blob bytes all
 
 -- ---- bytes from their words
 
@@ -108,9 +111,9 @@ option_again (Some bytes) all = pick_option (is_dash (blob_word bytes)) (bytes_o
 
 -- ---- one line, one list of words
 
-abbrev pub AllNoSpace : List (List ℕ) → Type 0
-AllNoSpace [] = Unit {0}
-AllNoSpace (w ∷ ws) = NoSpace w × AllNoSpace ws
+abbrev pub AllAboveSpace : List (List ℕ) → Type 0
+AllAboveSpace [] = Unit {0}
+AllAboveSpace (w ∷ ws) = AboveSpace w × AllAboveSpace ws
 
 same_some : (x y : List ℕ) → Some x ≡ Some y → x ≡ y
 same_some x y e = cc
@@ -118,7 +121,7 @@ same_some x y e = cc
 cons_is : (w v : List ℕ) (ws vs : List (List ℕ)) → w ≡ v → ws ≡ vs → (w ∷ ws) ≡ (v ∷ vs)
 cons_is w v ws vs a b = cc
 
-same_rest : (ws vs : List (List ℕ)) → AllNoSpace ws → AllNoSpace vs → rest_of ws ≡ rest_of vs → ws ≡ vs
+same_rest : (ws vs : List (List ℕ)) → AllAboveSpace ws → AllAboveSpace vs → rest_of ws ≡ rest_of vs → ws ≡ vs
 same_rest [] [] h k e = refl
 same_rest [] (v ∷ vs) h k e = absurd cc
 same_rest (w ∷ ws) [] h k e = absurd cc
@@ -128,5 +131,5 @@ same_rest (w ∷ ws) (v ∷ vs) h k e =
     let others : rest_of ws ≡ rest_of vs = ap (λ (p : List ℕ × Option (List ℕ)). p.1) cut in
     cons_is w v ws vs first (same_rest ws vs h.1 k.1 others)
 
-pub same_words : (w v : List ℕ) (ws vs : List (List ℕ)) → NoSpace w → NoSpace v → AllNoSpace ws → AllNoSpace vs → w ++ spaced ws ≡ v ++ spaced vs → (w ∷ ws) ≡ (v ∷ vs)
+pub same_words : (w v : List ℕ) (ws vs : List (List ℕ)) → AboveSpace w → AboveSpace v → AllAboveSpace ws → AllAboveSpace vs → w ++ spaced ws ≡ v ++ spaced vs → (w ∷ ws) ≡ (v ∷ vs)
 same_words w v ws vs hw hv hws hvs e = same_rest (w ∷ ws) (v ∷ vs) (hw, hws) (hv, hvs) (ap (λ (x : List ℕ). Some x) e)
