@@ -2,6 +2,7 @@
 use Rattle.std.specs.Prelude.{◌≡◌, ℕ, ◌≤◌, List, [], ◌∷◌, ◌++◌, length, take, Option, IfSome}
 use Rattle.std.specs.Io.KnownBytes.{append_known}
 use Rattle.std.specs.Option.{option_map}
+use Rattle.outside.specs.Causes.{one_more}
 use Rattle.outside.specs.Streams.{IsPartOf}
 use Rattle.outside.specs.declared.link.Taken.{Taken}
 use Rattle.outside.specs.declared.link.Taken.TheVariants as takes
@@ -40,6 +41,19 @@ abbrev pub IsGive : Option (List ℕ) → Option (List ℕ) → List ℕ → Giv
 IsGive old new piece (gives.Took n) = IsPartOf n (length piece) × (new ≡ append_known old (take n piece))
 IsGive old new piece gives.Lull = new ≡ old
 IsGive old new piece gives.Failed = new ≡ old
+
+-- the counts once a take gave this answer
+abbrev pub counts_after_take : Taken → Counts → Counts
+counts_after_take (takes.Took n) c = c
+counts_after_take takes.Lull c = record c { lulls = one_more c.lulls }
+counts_after_take takes.End c = record c { ends = one_more c.ends }
+counts_after_take takes.Failed c = record c { faults = one_more c.faults }
+
+-- the counts once a give gave this answer
+abbrev pub counts_after_give : Given → Counts → Counts
+counts_after_give (gives.Took n) c = c
+counts_after_give gives.Lull c = record c { stalls = one_more c.stalls }
+counts_after_give gives.Failed c = record c { faults = one_more c.faults }
 
 abbrev pub no_counts : Counts
 no_counts = record { faults = 0; lulls = 0; stalls = 0; ends = 0 }

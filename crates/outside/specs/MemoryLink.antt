@@ -3,10 +3,6 @@ use Rattle.std.specs.Prelude.{◌≡◌, ℕ, Bool, List, [], Some}
 use Rattle.outside.specs.Causes.{one_more}
 use Rattle.outside.specs.Links.{Counts, Shown, no_counts}
 use Rattle.outside.specs.Memory.{is_to_fail}
-use Rattle.outside.specs.declared.link.Taken.{Taken}
-use Rattle.outside.specs.declared.link.Taken.TheVariants as takes
-use Rattle.outside.specs.declared.link.Given.{Given}
-use Rattle.outside.specs.declared.link.Given.TheVariants as gives
 use Rattle.outside.specs.declared.mem_link.After.{After}
 
 -- the bytes taken, left and given, what comes after the last, the most bytes of one call, how many
@@ -27,19 +23,6 @@ shown_of l = record { taken = Some l.taken; given = Some l.given; counts = l.cou
 -- whether the next call is to fail
 abbrev pub link_fails_next : MemoryLink → Bool
 link_fails_next l = is_to_fail l.fails (one_more l.calls)
-
--- the counts once a take gave this answer
-abbrev pub counts_after_take : Taken → Counts → Counts
-counts_after_take (takes.Took n) c = c
-counts_after_take takes.Lull c = record c { lulls = one_more c.lulls }
-counts_after_take takes.End c = record c { ends = one_more c.ends }
-counts_after_take takes.Failed c = record c { faults = one_more c.faults }
-
--- the counts once a give gave this answer
-abbrev pub counts_after_give : Given → Counts → Counts
-counts_after_give (gives.Took n) c = c
-counts_after_give gives.Lull c = record c { stalls = one_more c.stalls }
-counts_after_give gives.Failed c = record c { faults = one_more c.faults }
 
 -- what the link was made with is the same
 pub record IsSetAlike (old new : MemoryLink) : Type 0 where

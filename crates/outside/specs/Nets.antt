@@ -1,5 +1,6 @@
 -- What a net was asked for.
-use Rattle.std.specs.Prelude.{List, Option, Result, Ok, Err}
+use Rattle.std.specs.Prelude.{ℕ, List, Option, Result, Ok, Err}
+use Rattle.outside.specs.Causes.{one_more}
 use Rattle.outside.specs.Links.{and_then_one}
 use Rattle.outside.specs.declared.net.Ask.{Ask}
 use Rattle.outside.specs.declared.net.NetFault.{NetFault}
@@ -10,3 +11,9 @@ abbrev pub asked_after : {X : Type 0} → Result X NetFault → Option (List Ask
 asked_after (Ok x) asked ask = and_then_one asked ask
 asked_after (Err faults.Failed) asked ask = and_then_one asked ask
 asked_after (Err faults.OutOfMemory) asked ask = asked
+
+-- the faults once a call gave this answer: one that finds no memory is none
+abbrev pub faults_after : {X : Type 0} → Result X NetFault → ℕ → ℕ
+faults_after (Ok x) count = count
+faults_after (Err faults.Failed) count = one_more count
+faults_after (Err faults.OutOfMemory) count = count

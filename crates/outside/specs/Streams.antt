@@ -1,6 +1,7 @@
 -- What one read and one write do to the content that is told.
 use Rattle.std.specs.Prelude.{◌≡◌, ℕ, ◌<◌, ◌≤◌, List, [], length, take, Option, IfSome}
 use Rattle.std.specs.Io.KnownBytes.{prepend_known, append_known}
+use Rattle.outside.specs.Causes.{one_more}
 use Rattle.outside.specs.declared.source.Read.{Read}
 use Rattle.outside.specs.declared.source.Read.TheVariants as reads
 use Rattle.outside.specs.declared.sink.Wrote.{Wrote}
@@ -20,3 +21,14 @@ IsRead left rest buffer reads.Failed = rest ≡ left
 abbrev pub IsWrite : Option (List ℕ) → Option (List ℕ) → List ℕ → Wrote → Type 0
 IsWrite old new piece (writes.Took n) = IsPartOf n (length piece) × (new ≡ append_known old (take n piece))
 IsWrite old new piece writes.Failed = new ≡ old
+
+-- the faults once a read gave this answer
+abbrev pub faults_after_read : Read → ℕ → ℕ
+faults_after_read (reads.Took n) faults = faults
+faults_after_read reads.End faults = faults
+faults_after_read reads.Failed faults = one_more faults
+
+-- the faults once a write gave this answer
+abbrev pub faults_after_write : Wrote → ℕ → ℕ
+faults_after_write (writes.Took n) faults = faults
+faults_after_write writes.Failed faults = one_more faults

@@ -5,9 +5,8 @@
 //! both, and says when nothing can move for now; a [`Net`] hands links out and takes them back; a
 //! [`Clock`] tells the moment. Each has a meaning that contracts see: the bytes left, written, taken
 //! or given, the calls asked of a net and the links put back, the moments of a clock, where it tells
-//! them, and the counts of its faults and lulls, which never fall. The promise to the crates above:
-//! a call fails or lulls only where the count of that rose in the call, and whatever is told of the
-//! content is exact.
+//! them, and the counts of its faults and lulls. The promise to the crates above: a call that fails
+//! or lulls is counted once, no other call is, and whatever is told of the content is exact.
 //!
 //! [`MemSource`], [`MemSink`], [`MemLink`], [`MemNet`] and [`MemClock`] tell everything, and fail in
 //! the calls that they are told to. [`StdSource`] and [`StdSink`] are standard input and output; they

@@ -2,7 +2,7 @@
 
 ghost use Rattle.std.specs.Prelude.{◌≡◌, ◌<◌, length};
 ghost use Rattle.outside.specs.Causes.{Rose};
-ghost use Rattle.outside.specs.Links.{IsGive, IsTake, NoneFell, Shown};
+ghost use Rattle.outside.specs.Links.{IsGive, IsTake, NoneFell, Shown, counts_after_give, counts_after_take};
 
 /// What one take gave.
 #[derive(Clone, Copy, Debug, PartialEq, Eq)]
@@ -43,7 +43,8 @@ pub trait Link {
         ensures counted { NoneFell (shown self.old).counts (shown self.new).counts }
         ensures failed { result ≡ Taken.Failed → Rose (shown self.old).counts.faults (shown self.new).counts.faults }
         ensures lull { result ≡ Taken.Lull → Rose (shown self.old).counts.lulls (shown self.new).counts.lulls }
-        ensures end { result ≡ Taken.End → Rose (shown self.old).counts.ends (shown self.new).counts.ends };
+        ensures end { result ≡ Taken.End → Rose (shown self.old).counts.ends (shown self.new).counts.ends }
+        ensures counts { (shown self.new).counts ≡ counts_after_take result (shown self.old).counts };
 
     /// Gives bytes from the front of the piece, which is not empty: as many as there is room for now,
     /// and at least 1. Giving nothing is a fault.
@@ -53,5 +54,6 @@ pub trait Link {
         ensures taken { (shown self.new).taken ≡ (shown self.old).taken }
         ensures counted { NoneFell (shown self.old).counts (shown self.new).counts }
         ensures failed { result ≡ Given.Failed → Rose (shown self.old).counts.faults (shown self.new).counts.faults }
-        ensures lull { result ≡ Given.Lull → Rose (shown self.old).counts.stalls (shown self.new).counts.stalls };
+        ensures lull { result ≡ Given.Lull → Rose (shown self.old).counts.stalls (shown self.new).counts.stalls }
+        ensures counts { (shown self.new).counts ≡ counts_after_give result (shown self.old).counts };
 }

@@ -1,3 +1,7 @@
+ghost use Rattle.std.specs.Prelude.{IfOk};
+ghost use Rattle.outside.specs.Links.{IsNew};
+ghost use Rattle.outside.specs.MemoryLink.{shown_of};
+
 use super::*;
 use rs_wire::Blob;
 use std::test::Fail;
@@ -8,6 +12,15 @@ fn blob(rt: &HostRuntime, bytes: &[u8]) -> Result<Blob, Fail> {
 
 fn numbers(rt: &HostRuntime, fails: &[u64]) -> Result<Vec<u64>, Fail> {
     Ok(Vec::from_slice(rt.alloc(), fails)?)
+}
+
+// A link that gives this byte and then ends.
+fn fresh(rt: &HostRuntime, byte: u8) -> Result<MemLink, Fail>
+    ensures { IfOk result (λ link. IsNew (shown_of link)) }
+{
+    let bytes = blob(rt, &[byte])?;
+    let fails = numbers(rt, &[])?;
+    Ok(MemLink::new(rt.alloc(), bytes, After::Ends, 1, fails))
 }
 
 #[test]
@@ -45,25 +58,20 @@ fn a_link_in_memory_ends(rt: HostRuntime) -> Result<(), Fail> {
 
 #[test]
 fn a_clock_in_memory_repeats_its_last_moment(rt: HostRuntime) -> Result<(), Fail> {
-    let moments = numbers(&rt, &[5, 9])?;
-    assert_eq!(rt; moments.len(), 2);
+    let moments = numbers(&rt, &[5, 9, 7])?;
+    assert_eq!(rt; moments.len(), 3);
     let clock = MemClock::new(moments);
-    assert_eq!(rt; [clock.now(), clock.now(), clock.now()], [5, 9, 9]);
+    let told = [clock.now(), clock.now(), clock.now(), clock.now()];
+    assert_eq!(rt; told, [5, 9, 7, 7]);
     Ok(())
 }
 
 #[test]
 fn a_net_in_memory_hands_out_its_links_and_takes_them_back(rt: HostRuntime) -> Result<(), Fail> {
     let address = blob(&rt, b"here")?;
-    let link = MemLink::new(
-        rt.alloc(),
-        blob(&rt, &[1])?,
-        After::Ends,
-        1,
-        numbers(&rt, &[])?,
-    );
     let mut links = Vec::new(rt.alloc());
-    links.push(link)?;
+    links.push(fresh(&rt, 1)?)?;
+    links.push(fresh(&rt, 2)?)?;
     let mut net = MemNet::new(rt.alloc(), links, numbers(&rt, &[2])?);
     assert_eq!(rt; net.listen(&address), Ok(()));
     assert!(rt; matches!(net.accept(false), Err(NetFault::Failed)));
@@ -72,6 +80,12 @@ fn a_net_in_memory_hands_out_its_links_and_takes_them_back(rt: HostRuntime) -> R
     };
     assert_eq!(rt; link.take(&mut [0]), Taken::Took(1));
     net.put_back(link);
+    let Ok(mut link) = net.accept(false) else {
+        return Err(Fail::from("accept"));
+    };
+    let mut buffer = [0];
+    assert_eq!(rt; link.take(&mut buffer), Taken::Took(1));
+    assert_eq!(rt; buffer, [2]);
     assert!(rt; matches!(net.accept(false), Err(NetFault::Failed)));
     assert_eq!(rt; net.back().len(), 1);
     assert!(rt; net.back()[0].taken() == [1].as_slice());

@@ -1,9 +1,9 @@
 //! A link in memory.
 
-ghost use Rattle.std.specs.Prelude.{◌≡◌, ◌≤◌, ◌<◌, ◌↔◌, ℕ, IsTrue, false, length, drop, min, []};
+ghost use Rattle.std.specs.Prelude.{◌≡◌, ◌≤◌, ◌<◌, ◌↔◌, ℕ, IsTrue, false, length, drop, min, [], ◌++◌};
 ghost use Rattle.outside.specs.Causes.{one_more, Rose};
-ghost use Rattle.outside.specs.Links.{IsGive, IsTake, NoneFell};
-ghost use Rattle.outside.specs.MemoryLink.{IsSetAlike, counts_after_give, counts_after_take, fresh, link_fails_next, shown_of};
+ghost use Rattle.outside.specs.Links.{IsGive, IsTake, NoneFell, counts_after_give, counts_after_take};
+ghost use Rattle.outside.specs.MemoryLink.{IsSetAlike, fresh, link_fails_next, shown_of};
 
 use crate::calls::Calls;
 use crate::link::{Given, Link, Taken};
@@ -111,6 +111,7 @@ impl Link for MemLink {
         ensures told_to { (result ≡ Taken.Failed) ↔ IsTrue (link_fails_next self.old) }
         ensures most { link_fails_next self.old ≡ false →
             self.new.left ≡ drop (min (length buffer.new) self.old.most) self.old.left }
+        ensures same_bytes { self.new.taken ++ self.new.left ≡ self.old.taken ++ self.old.left }
         ensures lulls { result ≡ Taken.Lull → (self.old.left ≡ []) × (self.old.after ≡ After.Lulls) }
         ensures ends { result ≡ Taken.End → (self.old.left ≡ []) × (self.old.after ≡ After.Ends) }
         ensures counts { self.new.counts ≡ counts_after_take result self.old.counts }

@@ -3,7 +3,7 @@
 ghost use Rattle.std.specs.Prelude.{◌≡◌, ◌-◌, ◌≤◌, ◌<◌, [], ◌∷◌, ◌++◌, ◌||◌, ◌==◌, IsTrue, false, Some, Err, IfOk, MatchResult, is_ok, if◌then◌else◌, length, map};
 ghost use Rattle.outside.specs.Causes.{one_more, Rose};
 ghost use Rattle.outside.specs.Links.{and_then_one, IsNew};
-ghost use Rattle.outside.specs.Nets.{asked_after};
+ghost use Rattle.outside.specs.Nets.{asked_after, faults_after};
 ghost use Rattle.outside.specs.MemoryLink.{shown_of};
 ghost use Rattle.outside.specs.MemoryNet.{AllNew, calls_after, net_fails_next, net_of};
 
@@ -81,6 +81,7 @@ impl MemNet {
         ensures back { self.new.back ≡ self.old.back }
         ensures counted { self.old.faults ≤ self.new.faults }
         ensures cause { result ≡ Err NetFault.Failed → Rose self.old.faults self.new.faults }
+        ensures faults { self.new.faults ≡ faults_after result self.old.faults }
         ensures failed { result ≡ Err NetFault.Failed → IsTrue (net_fails_next self.old || length self.old.links == 0) }
         ensures told_to { IsTrue (net_fails_next self.old) → is_ok result ≡ false }
         ensures calls { self.new.calls ≡ calls_after result self.old.calls }
@@ -122,6 +123,7 @@ impl Net for MemNet {
         ensures back { Some (map shown_of self.new.back) ≡ Some (map shown_of self.old.back) }
         ensures counted { self.old.faults ≤ self.new.faults }
         ensures cause { result ≡ Err NetFault.Failed → Rose self.old.faults self.new.faults }
+        ensures faults { self.new.faults ≡ faults_after result self.old.faults }
 
         // It hands out the next link, and fails only where it was told to or no link is left.
         ensures next { MatchResult result (λ link. self.old.links ≡ link ∷ self.new.links) (λ _. self.new.links ≡ self.old.links) }
@@ -140,6 +142,7 @@ impl Net for MemNet {
         ensures back { Some (map shown_of self.new.back) ≡ Some (map shown_of self.old.back) }
         ensures counted { self.old.faults ≤ self.new.faults }
         ensures cause { result ≡ Err NetFault.Failed → Rose self.old.faults self.new.faults }
+        ensures faults { self.new.faults ≡ faults_after result self.old.faults }
 
         // It fails only where it was told to.
         ensures failed { result ≡ Err NetFault.Failed → IsTrue (net_fails_next self.old) }
@@ -164,6 +167,7 @@ impl Net for MemNet {
         ensures back { Some (map shown_of self.new.back) ≡ Some (map shown_of self.old.back) }
         ensures counted { self.old.faults ≤ self.new.faults }
         ensures cause { result ≡ Err NetFault.Failed → Rose self.old.faults self.new.faults }
+        ensures faults { self.new.faults ≡ faults_after result self.old.faults }
 
         // It hands out the next link, and fails only where it was told to or no link is left.
         ensures next { MatchResult result (λ link. self.old.links ≡ link ∷ self.new.links) (λ _. self.new.links ≡ self.old.links) }

@@ -1,9 +1,9 @@
 //! A sink in memory.
 
-ghost use Rattle.std.specs.Prelude.{◌≡◌, ◌≤◌, ◌<◌, ◌++◌, IsTrue, Some, length, true, []};
+ghost use Rattle.std.specs.Prelude.{◌≡◌, ◌≤◌, ◌<◌, ◌++◌, ℕ, IsTrue, Some, length, true, []};
 ghost use Rattle.outside.specs.Causes.{Rose, one_more};
 ghost use Rattle.outside.specs.Memory.{next_fails};
-ghost use Rattle.outside.specs.Streams.{IsWrite};
+ghost use Rattle.outside.specs.Streams.{IsWrite, faults_after_write};
 
 use crate::calls::Calls;
 use crate::sink::{Sink, Wrote};
@@ -64,10 +64,12 @@ impl Sink for MemSink {
         ensures write { IsWrite (Some self.old.content) (Some self.new.content) piece.now result }
         ensures counted { self.old.faults ≤ self.new.faults }
         ensures cause { result ≡ Wrote.Failed → Rose self.old.faults self.new.faults }
+        ensures faults { self.new.faults ≡ faults_after_write result self.old.faults }
 
         // It fails in the calls that it was told to, and else writes the whole piece, unless there
         // is no memory.
         ensures failed { IsTrue (next_fails self.old) → result ≡ Wrote.Failed }
+        ensures most { (n : ℕ) → result ≡ Wrote.Took n → n ≡ length piece.now }
         ensures calls { self.new.calls ≡ one_more self.old.calls }
         ensures fails { self.new.fails ≡ self.old.fails }
     {

@@ -3,7 +3,7 @@
 ghost use Rattle.std.specs.Prelude.{◌≡◌, ◌≤◌, ◌<◌, ◌↔◌, IsTrue, Some, length, false, [], ◌++◌, take, drop};
 ghost use Rattle.outside.specs.Causes.{Rose, one_more};
 ghost use Rattle.outside.specs.Memory.{next_fails};
-ghost use Rattle.outside.specs.Streams.{IsPartOf, IsRead};
+ghost use Rattle.outside.specs.Streams.{IsPartOf, IsRead, faults_after_read};
 
 use crate::calls::Calls;
 use crate::source::{Read, Source};
@@ -62,6 +62,7 @@ impl Source for MemSource {
         ensures read { IsRead (Some self.old.content) (Some self.new.content) buffer.new result }
         ensures counted { self.old.faults ≤ self.new.faults }
         ensures cause { result ≡ Read.Failed → Rose self.old.faults self.new.faults }
+        ensures faults { self.new.faults ≡ faults_after_read result self.old.faults }
 
         // It fails exactly in the calls that it was told to, and else moves all that it can.
         ensures failed { (result ≡ Read.Failed) ↔ IsTrue (next_fails self.old) }

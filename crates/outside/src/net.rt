@@ -3,7 +3,7 @@
 ghost use Rattle.std.specs.Prelude.{◌≡◌, ◌-◌, ◌≤◌, ◌<◌, ℕ, List, Option, Err, IfOk, is_ok, if◌then◌else◌};
 ghost use Rattle.outside.specs.Causes.{one_more, Rose};
 ghost use Rattle.outside.specs.Links.{and_then_one, IsNew, Shown};
-ghost use Rattle.outside.specs.Nets.{asked_after};
+ghost use Rattle.outside.specs.Nets.{asked_after, faults_after};
 ghost use Rattle.outside.specs.declared.net.Ask.{Ask};
 
 use crate::link::Link;
@@ -88,7 +88,8 @@ pub trait Net {
         ensures out { out self.new ≡ (if is_ok result then one_more (out self.old) else out self.old) }
         ensures back { back self.new ≡ back self.old }
         ensures counted { faults self.old ≤ faults self.new }
-        ensures cause { result ≡ Err NetFault.Failed → Rose (faults self.old) (faults self.new) };
+        ensures cause { result ≡ Err NetFault.Failed → Rose (faults self.old) (faults self.new) }
+        ensures faults { faults self.new ≡ faults_after result (faults self.old) };
 
     /// Makes the net hear of links that others open to the address.
     fn listen(&mut self, address: &Blob) -> Result<(), NetFault>
@@ -96,7 +97,8 @@ pub trait Net {
         ensures out { out self.new ≡ out self.old }
         ensures back { back self.new ≡ back self.old }
         ensures counted { faults self.old ≤ faults self.new }
-        ensures cause { result ≡ Err NetFault.Failed → Rose (faults self.old) (faults self.new) };
+        ensures cause { result ≡ Err NetFault.Failed → Rose (faults self.old) (faults self.new) }
+        ensures faults { faults self.new ≡ faults_after result (faults self.old) };
 
     /// The next link that another opened, over WebSocket where `ws`, and else over TCP.
     fn accept(&mut self, ws: bool) -> Result<Self::Link, NetFault>
@@ -105,7 +107,8 @@ pub trait Net {
         ensures out { out self.new ≡ (if is_ok result then one_more (out self.old) else out self.old) }
         ensures back { back self.new ≡ back self.old }
         ensures counted { faults self.old ≤ faults self.new }
-        ensures cause { result ≡ Err NetFault.Failed → Rose (faults self.old) (faults self.new) };
+        ensures cause { result ≡ Err NetFault.Failed → Rose (faults self.old) (faults self.new) }
+        ensures faults { faults self.new ≡ faults_after result (faults self.old) };
 
     /// Takes a link back: more were handed out than put back. Takes no memory, since the room was
     /// made as the link was handed out.

@@ -2,7 +2,7 @@
 
 ghost use Rattle.std.specs.Prelude.{◌≡◌, ◌≤◌, ◌<◌, ℕ, List, Option, length};
 ghost use Rattle.outside.specs.Causes.{Rose};
-ghost use Rattle.outside.specs.Streams.{IsWrite};
+ghost use Rattle.outside.specs.Streams.{IsWrite, faults_after_write};
 
 /// What one write did.
 #[derive(Clone, Copy, Debug, PartialEq, Eq)]
@@ -27,5 +27,6 @@ pub trait Sink {
         requires { 0 < length piece.now }
         ensures write { IsWrite (told self.old) (told self.new) piece.now result }
         ensures counted { faults self.old ≤ faults self.new }
-        ensures cause { result ≡ Wrote.Failed → Rose (faults self.old) (faults self.new) };
+        ensures cause { result ≡ Wrote.Failed → Rose (faults self.old) (faults self.new) }
+        ensures faults { faults self.new ≡ faults_after_write result (faults self.old) };
 }

@@ -2,7 +2,7 @@
 
 ghost use Rattle.std.specs.Prelude.{◌≡◌, ◌≤◌, ◌<◌, ℕ, List, Option, length};
 ghost use Rattle.outside.specs.Causes.{Rose};
-ghost use Rattle.outside.specs.Streams.{IsRead};
+ghost use Rattle.outside.specs.Streams.{IsRead, faults_after_read};
 
 /// What one read gave.
 #[derive(Clone, Copy, Debug, PartialEq, Eq)]
@@ -29,5 +29,6 @@ pub trait Source {
         requires { 0 < length buffer.old }
         ensures read { IsRead (told self.old) (told self.new) buffer.new result }
         ensures counted { faults self.old ≤ faults self.new }
-        ensures cause { result ≡ Read.Failed → Rose (faults self.old) (faults self.new) };
+        ensures cause { result ≡ Read.Failed → Rose (faults self.old) (faults self.new) }
+        ensures faults { faults self.new ≡ faults_after_read result (faults self.old) };
 }

@@ -1,6 +1,6 @@
-use Rattle.std.proofs.Common.{◌≡◌, ◌<◌, ◌≤◌, length, take, drop, Some, ap, sym, ◌∙◌, arith}
+use Rattle.std.proofs.Common.{◌≡◌, ◌<◌, ◌≤◌, ◌+◌, ◌++◌, length, take, drop, Some, ap, sym, ◌∙◌, arith}
 use Rattle.std.proofs.lemmas.Bool.Decides.{nat_tests}
-use Rattle.std.proofs.lemmas.List.{length-append, length-take-le}
+use Rattle.std.proofs.lemmas.List.{length-append, length-take-le, take-append-drop}
 use Rattle.outside.specs.MemoryLink.{MemoryLink}
 use Rattle.outside.proofs.Moved.{moved}
 use Rattle.outside.proofs.mem_link.MemLinkLink.take.Goals as goal
@@ -16,3 +16,6 @@ returns-clause-taken c =
       (positive, omega (arith, copied, length-append c.copy_from_slice.new.self (drop c.min-count.result c.args.buffer.now))),
       ap Some (rw before (moved c.self.inside.start c.min-count.result c.self.inside.bytes c.split_at.result.1.now c.copy_from_slice.new.self (drop c.min-count.result c.args.buffer.now) left c.copy_from_slice.ensures.after fits)),
     )
+
+pub returns-clause-same_bytes : goal.returns-clause-same_bytes
+returns-clause-same_bytes c = take-append-drop (c.self.inside.start + c.min-count.result) c.self.inside.bytes ∙ sym (take-append-drop c.self.inside.start c.self.inside.bytes) ∙ ap (λ (l : MemoryLink). l.taken ++ l.left) c.self.view_is
