@@ -1,20 +1,17 @@
 -- What crosses, and what comes of it.
-use Rattle.std.proofs.Common.{◌≡◌, ◌≤◌, ◌<◌, ◌+◌, ◌-◌, ◌^◌, ◌⊎◌, inl, inr, ℕ, Bool, true, false, min, List, [], ◌∷◌, ◌++◌, map, reverse, length, take, drop, Some, None, refl, ap, subst, sym, ◌∙◌, arith, append_assoc, append-nil, length-append}
+use Rattle.std.proofs.Common.{◌≡◌, ◌≤◌, ◌<◌, ◌+◌, ◌-◌, ◌^◌, ◌⊎◌, inl, inr, ℕ, Bool, true, false, min, List, [], ◌∷◌, ◌++◌, map, reverse, length, take, drop, Some, None, refl, ap, subst, sym, ◌∙◌, arith, append_assoc, append-nil}
 use Rattle.std.specs.List.{AllByRecursion}
 use Rattle.std.proofs.Math.Seq.{take-add}
-use Rattle.std.proofs.lemmas.List.{append_cancel_left, length-take, map-append, reverse-reverse, take-append-drop, take-append-le}
+use Rattle.std.proofs.lemmas.List.{length-take, map-append, reverse-reverse, take-append-le}
 use Rattle.std.proofs.lemmas.List.Concat.{flat_map-cons}
-use Rattle.byteorder.specs.Endian.{big_bytes, big_number}
-use Rattle.byteorder.specs.Numbers.{big_from-take}
+use Rattle.rs_wire.specs.declared.words.Side.TheVariants.{Server}
 use Rattle.rs_wire.specs.declared.settings.Settings.{Settings}
 use Rattle.rs_frame.specs.declared.frame.Frame.{Frame}
 use Rattle.rs_frame.specs.Spelling.{IsSpellable, Spells, canonical}
-use Rattle.rs_frame.proofs.Fields.{number_again}
 use Rattle.rs_frame.proofs.Whole.{canonical_spells}
 use Rattle.rs_chunk.specs.Framed.{framed_all, framed_frame}
 use Rattle.rs_chunk.specs.Rest.{Rest}
 use Rattle.rs_chunk.specs.Stream.{IsWhole, first_frame, first_length, framed}
-use Rattle.rs_chunk.proofs.Lengths.{length-canonical}
 use Rattle.tape.specs.declared.event.Event.{Event}
 use Rattle.tape.specs.declared.event.Event.TheVariants as event
 use Rattle.tape.specs.declared.answer.Answer.{Answer}
@@ -26,14 +23,15 @@ use Rattle.session_model.specs.Answers.{facts, answer_to}
 use Rattle.session_model.specs.Legal.{Legal, LeavesEntry}
 use Rattle.session_core.specs.Queued.{IfDrawn}
 use Rattle.session_core.specs.Seen.{Seen, Stands, tape_after, IsUnlessWant, IfNoEntry}
-use Rattle.session_laws.proofs.Framing.{AreSpellable, IsNext, framed_all-append, frames_given, next_given, spellable-append}
+use Rattle.session_laws.proofs.Framing.{IsNext, framed_all-append, next_given, spellable-append}
 use Rattle.session_laws.proofs.Life.{drawn_owes}
 use Rattle.session_laws.proofs.Queue.{drawn_le}
 use Rattle.session_laws.proofs.Spelled.{due_spelled}
 use Rattle.cable.specs.declared.line.Line.TheVariants as line
 use Rattle.cable.specs.Played.{Arrives, Draws, IsDraw, PlaysLine, answered, arrivals, comes, fnf_call}
-use Rattle.cable.specs.Crossing.{AreTerms, Becomes, DrewOnce, DrewSome, Follows, Grew, IsCount, IsOnly, Joint, Terms, arrival, some_came}
-use Rattle.cable.proofs.Following.{answer_on, drawn_above, follows_more, fnf_draws, fnf_live, legal_of, newest, none_queued, noted, silent_more}
+use Rattle.cable.specs.Crossing.{Becomes, DrewOnce, DrewSome, Follows, Grew, IsCount, IsFresh, IsJoint, IsOfLiveDraw, IsOnly, IsSpelledInFront, Joint, Terms, arrival, some_came}
+use Rattle.cable.proofs.Begun.{Begins, begins, frame_begun, length_begun}
+use Rattle.cable.proofs.Following.{answer_on, draw_live, drawn_above, follows_more, fnf_draws, fnf_live, legal_of, newest, none_queued, noted, silent_more}
 
 -- ---- the opening, and a call
 
@@ -41,19 +39,19 @@ pub opening_leaves : (g : Settings) → LeavesEntry (answer_to g [] (event.Open 
 unfolding facts openings begun closed
 opening_leaves g = tt
 
-pub joint_open : (t : Terms) (v w : Seen) (crossing : Rest) (started : Bool) → AreTerms t → Follows t.client t.client_told v (answered t.client [] (event.Open None false) ∷ []) → Follows t.server t.server_told w [] → crossing ≡ record { bytes = []; max_in = 16777215 } → started ≡ false → Joint t v w crossing started (answered t.client [] (event.Open None false) ∷ []) []
+pub joint_open : (t : Terms) (v v' w : Seen) (crossing : Rest) (started : Bool) → IsFresh t v w crossing started → Follows t.client t.client_told v' (answered t.client [] (event.Open None false) ∷ []) → Joint t v' w crossing started (answered t.client [] (event.Open None false) ∷ []) []
 unfolding facts openings live begun closed due drawn
-joint_open t v w crossing started terms f s nothing not_started = record {
-  terms = terms;
+joint_open t v v' w crossing started fresh f = record {
+  terms = fresh.terms;
   at_client = f;
-  at_server = s;
+  at_server = fresh.at_server;
   connected = refl;
-  longest = ap (λ (r : Rest). r.max_in) nothing;
+  longest = ap (λ (r : Rest). r.max_in) fresh.nothing;
   frames = [];
   spellable = tt;
-  crossed = sym (ap (λ (r : Rest). r.bytes) nothing);
+  crossed = sym (ap (λ (r : Rest). r.bytes) fresh.nothing);
   arrived = refl;
-  begun_is = not_started;
+  begun_is = fresh.not_begun;
   silent = λ c. refl;
 }
 
@@ -333,29 +331,32 @@ came_more t v w crossing started C S C1 S1 h b = record { client = b.client; ser
 
 -- ---- no whole frame is left
 
-short : (f : Frame) → IsSpellable f → length (canonical f) < 2 ^ 24
-short f h = subst (λ (n : ℕ). n < 2 ^ 24) (sym (length-canonical f)) h.short
+begins_of : (t : Terms) (v w : Seen) (crossing : Rest) (started : Bool) (C S : List Entry) → Joint t v w crossing started C S → Begins crossing.bytes
+begins_of t v w crossing started C S j = begins (drawn C 1) j.frames (due t.client C 1) crossing.bytes j.spellable (due_spelled t.client C 1 j.terms.client_plain (legal_of t.client t.client_told v C j.at_client)) j.crossed
 
-behind : (xs ys : List Frame) → AreSpellable (xs ++ ys) → AreSpellable ys
-behind [] ys h = h
-behind (x ∷ xs) ys h = behind xs ys h.1
+-- between two joint ends only frames cross
+pub spelled_in_front : (v w : Seen) (crossing : Rest) (started : Bool) → IsJoint v w crossing started → IsSpelledInFront crossing
+spelled_in_front v w crossing started i = λ whole. frame_begun crossing.bytes (begins_of i.terms v w crossing started i.client i.server i.joint) whole.0
 
-first_below : (bytes more : List ℕ) (ys : List Frame) → AreSpellable ys → bytes ++ more ≡ framed_all ys → 3 ≤ length bytes → first_length bytes < 2 ^ 24
-first_below bytes more [] spelled is long = absurd (omega (arith, long, length-append bytes more, ap (λ (l : List ℕ). length l) is))
-first_below bytes more (y ∷ ys) spelled is long =
-    let n = length (canonical y) in
-    let parts : bytes ++ more ≡ big_bytes 3 n ++ (canonical y ++ framed_all ys) = is ∙ (flat_map-cons framed_frame y ys ∙ append_assoc (big_bytes 3 n) (canonical y) (framed_all ys)) in
-    let whole : big_number 3 (bytes ++ more) ≡ n = ap (big_number 3) parts ∙ number_again 3 n (canonical y ++ framed_all ys) (short y spelled.0) in
-    let front : big_number 3 bytes ≡ big_number 3 (bytes ++ more) = sym (big_from-take 0 3 3 bytes (omega arith)) ∙ (ap (big_number 3) (sym (take-append-le 3 bytes more long)) ∙ big_from-take 0 3 3 (bytes ++ more) (omega arith)) in
-    subst (λ (k : ℕ). k < 2 ^ 24) (sym (front ∙ whole)) (short y spelled.0)
+pub joint_longest : (v w : Seen) (crossing : Rest) (started : Bool) → IsJoint v w crossing started → crossing.max_in < 2 ^ 24
+joint_longest v w crossing started i = omega (arith, i.joint.longest)
 
-length_below : (n : ℕ) (frames all : List Frame) (bytes : List ℕ) → AreSpellable frames → AreSpellable all → take n (framed_all all) ≡ framed_all frames ++ bytes → 3 ≤ length bytes → first_length bytes < 2 ^ 24
-length_below n frames all bytes hf ha is long =
-    let p = frames_given n frames all hf ha (bytes, sym is) in
-    let more = drop n (framed_all all) in
-    let parts : framed_all frames ++ (bytes ++ more) ≡ framed_all frames ++ framed_all p.0 =
-    sym (append_assoc (framed_all frames) bytes more) ∙ (ap (λ (l : List ℕ). l ++ more) (sym is) ∙ (take-append-drop n (framed_all all) ∙ (ap framed_all (sym p.1) ∙ framed_all-append frames p.0))) in
-    first_below bytes more p.0 (behind frames p.0 (subst AreSpellable (sym p.1) ha)) (append_cancel_left (framed_all frames) (bytes ++ more) (framed_all p.0) parts) long
+pub joint_server : (v w : Seen) (crossing : Rest) (started : Bool) → IsJoint v w crossing started → w.settings.side ≡ Server
+joint_server v w crossing started i = ap (λ (s : Settings). s.side) i.joint.at_server.settings ∙ i.joint.terms.server_side
+
+pub joint_draw : (v w : Seen) (crossing : Rest) (started : Bool) (room : ℕ) (a : Answer) → IsJoint v w crossing started → ((T : List Entry) → Stands v T → IsUnlessWant a (answer_to v.settings (reverse T) (event.Draw 1 room))) → IsOfLiveDraw a
+joint_draw v w crossing started room a i right =
+    let t = i.terms in
+    let f = i.joint.at_client in
+    draw_live t.client i.client room a i.joint.connected (answer_on t.client t.client_told v i.client (event.Draw 1 room) a f (right (reverse i.client) f.stands))
+
+-- what joint ends become is joint
+pub still_joint : (v v' w w' : Seen) (crossing crossing' : Rest) (started started' : Bool) (Related : Terms → List Entry → List Entry → List Entry → List Entry → Type 0) → IsJoint v w crossing started
+    → ((t : Terms) (C S : List Entry) → Joint t v w crossing started C S → Becomes t v' w' crossing' started' (Related t C S))
+    → IsJoint v' w' crossing' started'
+still_joint v v' w w' crossing crossing' started started' Related i becomes =
+    let b = becomes i.terms i.client i.server i.joint in
+    record { terms = i.terms; client = b.client; server = b.server; joint = b.joint }
 
 pub arrives_of : (t : Terms) (v w : Seen) (crossing : Rest) (started : Bool) (C S S' : List Entry) → Joint t v w crossing started C S' → ¬ (IsWhole crossing.bytes crossing.max_in) → Grew S S' → Arrives (given t.client C 1) S S'
 arrives_of t v w crossing started C S S' j none h = record {
@@ -365,7 +366,7 @@ arrives_of t v w crossing started C S S' j none h = record {
   frames = j.frames;
   rest = crossing.bytes;
   crossed = j.crossed;
-  no_more = λ has. let below = length_below (drawn C 1) j.frames (due t.client C 1) crossing.bytes j.spellable (due_spelled t.client C 1 j.terms.client_plain (legal_of t.client t.client_told v C j.at_client)) j.crossed has.0 in none (has, omega (arith, below, j.longest));
+  no_more = λ has. let below = length_begun crossing.bytes (begins_of t v w crossing started C S' j) has.0 in none (has, omega (arith, below, j.longest));
   arrived = j.arrived;
 }
 

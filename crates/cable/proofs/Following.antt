@@ -32,7 +32,7 @@ use Rattle.session_model.specs.Legal.{Legal, IsFair, LeavesEntry}
 use Rattle.session_core.specs.Seen.{Seen, Stands, tape_after, IsUnlessWant, IsNoDrawEvent}
 use Rattle.session_core.proofs.Standing.{entry_after, want_on}
 use Rattle.cable.specs.Played.{answered, fnf_call}
-use Rattle.cable.specs.Crossing.{IsNoWant, IsCount, arrival, Follows}
+use Rattle.cable.specs.Crossing.{IsNoWant, IsCount, IsOfLiveDraw, arrival, Follows}
 
 -- the entry of an event so answered
 abbrev pub noted : Event → Answer → Entry
@@ -120,6 +120,18 @@ not_yet_is : (here none : Bool) (n m : ℕ) → answer.NotYet ≡ cond here (con
 not_yet_is true true n m h = refl
 not_yet_is true false n m h = absurd (cc)
 not_yet_is false none n m h = absurd (cc)
+
+-- a draw on the live connection is never stale
+pub live_draw : (a : Answer) (here none : Bool) (n m : ℕ) → here ≡ true → IsUnlessWant a (cond here (cond none answer.NotYet (answer.Drawn n)) (answer.Stale m)) → IsOfLiveDraw a
+live_draw answer.TapeFull here none n m is h = tt
+live_draw answer.OutOfMemory here none n m is h = tt
+live_draw _ true true n m is h = subst IsOfLiveDraw (sym h) tt
+live_draw _ true false n m is h = subst IsOfLiveDraw (sym h) tt
+live_draw _ false none n m is h = absurd (cc)
+
+pub draw_live : (g : Settings) (past : List Entry) (room : ℕ) (a : Answer) → live past ≡ 1 → IsUnlessWant a (answer_to g past (event.Draw 1 room)) → IsOfLiveDraw a
+unfolding facts
+draw_live g past room a connected h = live_draw a (is_live (live past) 1) (queued g past == 0) (min room (queued g past)) (live past) (ap (λ (n : ℕ). is_live n 1) connected) h
 
 pub drawn_within : (a : Answer) (n : ℕ) (g : Settings) (t : Facts) (conn room : ℕ) → IsCount a n → IsUnlessWant a (answer_by g t (event.Draw conn room)) → n ≤ room
 drawn_within (answer.Drawn k) n g t conn room count is = let d = drawn_is (is_live t.live conn) (t.queued == 0) k (min room t.queued) t.live is in omega (arith, count, d.1)

@@ -11,7 +11,7 @@ use Rattle.session_core.specs.Seen.{Seen, Stands}
 use Rattle.cable.specs.declared.line.Line.{Line}
 use Rattle.cable.specs.Played.{PlaysLine, PlaysLines, answered, opened}
 use Rattle.cable.specs.Run.{IsRun}
-use Rattle.cable.specs.Crossing.{AreTerms, Becomes, Follows, HasPlayed, Joint, Terms}
+use Rattle.cable.specs.Crossing.{AreTerms, Becomes, Follows, HasPlayed, IsFresh, Joint, Terms}
 
 -- what plays the lines that are left plays all of them
 abbrev pub IsLeft : Terms → List Line → ℕ → List Entry → List Entry → List Entry → List Entry → Type 0
@@ -86,7 +86,7 @@ usual_checked = record {
 }
 
 pub are_terms : (v w : Seen) → AreTerms (usual_terms v w)
-are_terms v w = record { client_side = refl; client_plain = record { checked = usual_checked; no_resumption = refl; no_leases = refl; no_fragments = refl }; server_room = omega arith }
+are_terms v w = record { client_side = refl; client_plain = record { checked = usual_checked; no_resumption = refl; no_leases = refl; no_fragments = refl }; server_side = refl; server_room = omega arith }
 
 pub fresh : (g : Settings) (v : Seen) → v.settings ≡ g → Stands v [] → Follows g v.told v []
 fresh g v is stands = record { settings = is; stands = stands; told = λ same. same }
@@ -107,15 +107,22 @@ ok_holds : {A B : Type 0} (P : Type 0) (r : Result A B) → is_err r ≡ false �
 ok_holds P (Ok x) fine h = h
 ok_holds P (Err e) fine h = absurd (cc)
 
-pub ran : {A B : Type 0} (script lines : List Line) (v v0 v1 v2 w w0 w1 w2 : Seen) (r : Result A B) → lines ≡ script → v0 ≡ v → w0 ≡ w → v2 ≡ v1 → w2 ≡ w1
-    → v.settings ≡ usual Client → w.settings ≡ usual Server → Stands v [] → Stands w [] → is_err r ≡ false
-    → ((t : Terms) → AreTerms t → Follows t.client t.client_told v0 [] → Follows t.server t.server_told w0 [] → OnOk r (HasPlayed t lines v1 w1))
-    → IsRun script v v2 w w2
-ran script lines v v0 v1 v2 w w0 w1 w2 r script_is client_is server_is client_left server_left client_settings server_settings client_stands server_stands fine played =
+-- a cable between two ends with the usual settings, of which nothing happened yet
+pub usual_fresh : (v v0 w w0 : Seen) (crossing : Rest) (started : Bool) → v0 ≡ v → w0 ≡ w → crossing ≡ record { bytes = []; max_in = 16777215 } → started ≡ false
+    → v.settings ≡ usual Client → w.settings ≡ usual Server → Stands v [] → Stands w [] → IsFresh (usual_terms v w) v0 w0 crossing started
+usual_fresh v v0 w w0 crossing started client_is server_is nothing not_begun client_settings server_settings client_stands server_stands =
     let t = usual_terms v w in
-    let f : Follows t.client t.client_told v0 [] = subst (λ (u : Seen). Follows t.client t.client_told u []) (sym client_is) (fresh (usual Client) v client_settings client_stands) in
-    let s : Follows t.server t.server_told w0 [] = subst (λ (u : Seen). Follows t.server t.server_told u []) (sym server_is) (fresh (usual Server) w server_settings server_stands) in
-    let h : HasPlayed t lines v1 w1 = ok_holds (HasPlayed t lines v1 w1) r fine (played t (are_terms v w) f s) in
+    record {
+      terms = are_terms v w;
+      at_client = subst (λ (u : Seen). Follows t.client t.client_told u []) (sym client_is) (fresh (usual Client) v client_settings client_stands);
+      at_server = subst (λ (u : Seen). Follows t.server t.server_told u []) (sym server_is) (fresh (usual Server) w server_settings server_stands);
+      nothing = nothing;
+      not_begun = not_begun;
+    }
+
+pub ran : {A B : Type 0} (script lines : List Line) (v v1 v2 w w1 w2 : Seen) (r : Result A B) → lines ≡ script → v2 ≡ v1 → w2 ≡ w1 → is_err r ≡ false → OnOk r (HasPlayed (usual_terms v w) lines v1 w1) → IsRun script v v2 w w2
+ran script lines v v1 v2 w w1 w2 r script_is client_left server_left fine played =
+    let h : HasPlayed (usual_terms v w) lines v1 w1 = ok_holds (HasPlayed (usual_terms v w) lines v1 w1) r fine played in
     subst (λ (ls : List Line). IsRun ls v v2 w w2) script_is
     (subst (λ (u : Seen). IsRun lines v u w w2) (sym client_left)
     (subst (λ (u : Seen). IsRun lines v v1 w u) (sym server_left) (run_of lines v v1 w w1 h)))

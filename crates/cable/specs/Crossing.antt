@@ -1,7 +1,7 @@
 -- Two ends and the cable between them, over their entries, the newest first.
 use Rattle.std.specs.Prelude.{◌≡◌, ◌≤◌, ℕ, ◌+◌, Bool, true, false, List, [], ◌∷◌, ◌++◌, map, reverse, Option, Some, None}
 use Rattle.std.specs.List.{AllByRecursion}
-use Rattle.rs_wire.specs.declared.words.Side.TheVariants.{Client}
+use Rattle.rs_wire.specs.declared.words.Side.TheVariants.{Client, Server}
 use Rattle.rs_wire.specs.declared.settings.Settings.{Settings}
 use Rattle.rs_wire.specs.Settings.{out_limit_of}
 use Rattle.rs_frame.specs.declared.frame.Frame.{Frame}
@@ -35,6 +35,14 @@ IsCount (answer.Drawn n) count = count ≡ n
 IsCount answer.NotYet count = count ≡ 0
 IsCount _ count = ⊥
 
+-- an answer to a draw on the live connection, or want of memory
+abbrev pub IsOfLiveDraw : Answer → Type 0
+IsOfLiveDraw (answer.Drawn n) = Unit {0}
+IsOfLiveDraw answer.NotYet = Unit {0}
+IsOfLiveDraw answer.TapeFull = Unit {0}
+IsOfLiveDraw answer.OutOfMemory = Unit {0}
+IsOfLiveDraw _ = ⊥
+
 -- ---- what crosses
 
 -- a frame that crosses is the first of its connection, or a later one
@@ -55,6 +63,10 @@ abbrev pub IsNextOf : Rest → Option Frame → Type 0
 IsNextOf crossing None = ¬ (IsWhole crossing.bytes crossing.max_in)
 IsNextOf crossing (Some f) = IsWhole crossing.bytes crossing.max_in × IsSpellable f × IsOnly (first_frame crossing.bytes) f
 
+-- where a whole frame stands in front of what crossed, its bytes spell one
+abbrev pub IsSpelledInFront : Rest → Type 0
+IsSpelledInFront crossing = IsWhole crossing.bytes crossing.max_in → (f : Frame) × Spells f (first_frame crossing.bytes)
+
 -- ---- the two ends
 
 -- the settings of the two ends, and what their tapes told at first
@@ -68,6 +80,7 @@ pub record Terms : Type 0 where
 pub record AreTerms (t : Terms) : Type 0 where
   pub client_side : t.client.side ≡ Client
   pub client_plain : IsPlain t.client
+  pub server_side : t.server.side ≡ Server
   pub server_room : 16777282 ≤ out_limit_of t.server
 
 -- an end under settings g is as these entries leave it, and its tape tells them, where it told none at first
@@ -89,6 +102,21 @@ pub record Joint (t : Terms) (v w : Seen) (crossing : Rest) (begun : Bool) (clie
   pub arrived : map (λ (x : Entry). x.event) (reverse server) ≡ arrivals frames
   pub begun_is : begun ≡ some_came frames
   pub silent : (c : ℕ) → due t.server server c ≡ []
+
+-- two ends of which nothing happened yet, and between which nothing crossed
+pub record IsFresh (t : Terms) (v w : Seen) (crossing : Rest) (begun : Bool) : Type 0 where
+  pub terms : AreTerms t
+  pub at_client : Follows t.client t.client_told v []
+  pub at_server : Follows t.server t.server_told w []
+  pub nothing : crossing ≡ record { bytes = []; max_in = 16777215 }
+  pub not_begun : begun ≡ false
+
+-- some entries of the two ends explain what crossed between them
+pub record IsJoint (v w : Seen) (crossing : Rest) (begun : Bool) : Type 0 where
+  pub terms : Terms
+  pub client : List Entry
+  pub server : List Entry
+  pub joint : Joint terms v w crossing begun client server
 
 -- the two ends now, and how their entries stand to those before
 pub record Becomes (t : Terms) (v w : Seen) (crossing : Rest) (begun : Bool) (Related : List Entry → List Entry → Type 0) : Type 0 where

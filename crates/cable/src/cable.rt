@@ -2,21 +2,21 @@
 
 ghost use Rattle.std.specs.Prelude.{◌≡◌, ◌≤◌, ◌<◌, ◌^◌, ◌∷◌, [], false, List, Option, length, IfOk, OnOk};
 ghost use Rattle.rs_wire.specs.declared.settings.Settings.{Settings as Limits};
-ghost use Rattle.rs_wire.specs.declared.words.Side.TheVariants.{Client, Server};
+ghost use Rattle.rs_wire.specs.declared.words.Side.TheVariants.{Server};
 ghost use Rattle.rs_frame.specs.Spelling.{IsSpellable};
 ghost use Rattle.rs_chunk.specs.Stream.{IsWhole, first_frame};
 ghost use Rattle.tape.specs.declared.entry.Entry.{Entry as Noted};
 ghost use Rattle.session_model.specs.Frames.{given};
 ghost use Rattle.session_model.specs.Legal.{IsFair, LeavesEntry};
 ghost use Rattle.session_model.specs.Answers.{answer_to};
-ghost use Rattle.session_core.specs.Seen.{IsNoDrawEvent, Stands};
+ghost use Rattle.session_core.specs.Seen.{IsNoDrawEvent};
 ghost use Rattle.cable.specs.declared.line.Line.{Line as Said};
 ghost use Rattle.cable.specs.Played.{Arrives, Draws, PlaysLine, PlaysLines, answered, fnf_call};
-ghost use Rattle.cable.specs.Crossing.{AreTerms, Becomes, DrewOnce, Follows, Grew, HasPlayed, IsCount, IsNextOf, IsNoWant, IsOnly, Joint, Terms, arrival};
+ghost use Rattle.cable.specs.Crossing.{Becomes, DrewOnce, Follows, Grew, HasPlayed, IsCount, IsFresh, IsJoint, IsNextOf, IsNoWant, IsOfLiveDraw, IsOnly, IsSpelledInFront, Joint, Terms, arrival};
 
 use crate::line::Line;
 use rs_chunk::{Front, Reader};
-use rs_frame::{Frame, decode};
+use rs_frame::{Frame, FrameFault, decode};
 use rs_wire::{Blob, Call, Kind, Message, OutOfMemory};
 use session_core::Session;
 use std::alloc::Global;
@@ -55,14 +55,16 @@ fn wanted(answer: Answer) -> Result<(), OutOfMemory>
     }
 }
 
-// How many bytes a draw gave.
+// How many bytes a draw on the live connection gave.
 fn count_of(answer: Answer) -> Result<u32, OutOfMemory>
+    requires { IsOfLiveDraw answer }
     ensures { IfOk result (IsCount answer) }
 {
     match answer {
         Answer::Drawn(count) => Ok(count),
         Answer::NotYet => Ok(0),
-        _ => Err(OutOfMemory),
+        Answer::TapeFull | Answer::OutOfMemory => Err(OutOfMemory),
+        _ => unreachable!(),
     }
 }
 
@@ -97,7 +99,8 @@ fn arrival(begun: bool, frame: Frame) -> Event
 // The frame in front of what crossed, where it is whole. The client wrote it, so that nothing is
 // wrong with it, and only memory can be wanted.
 fn next_frame(alloc: Global, crossing: &Reader) -> Result<Option<Frame>, OutOfMemory>
-    requires { crossing.now.max_in < 2 ^ 24 }
+    requires longest { crossing.now.max_in < 2 ^ 24 }
+    requires spelled { IsSpelledInFront crossing.now }
     ensures { IfOk result (IsNextOf crossing.now) }
 {
     let Front::Whole(bytes) = crossing.front() else {
@@ -105,7 +108,10 @@ fn next_frame(alloc: Global, crossing: &Reader) -> Result<Option<Frame>, OutOfMe
     };
     match decode(alloc, bytes) {
         Ok(frame) => Ok(Some(frame)),
-        Err(_) => Err(OutOfMemory),
+        Err(fault) => match fault {
+            FrameFault::OutOfMemory => Err(OutOfMemory),
+            _ => unreachable!(),
+        },
     }
 }
 
@@ -151,9 +157,9 @@ impl<T: Tape> Cable<T> {
     fn draw(&mut self, buffer: &mut [u8]) -> Result<u32, OutOfMemory>
         requires some { 0 < length buffer.old }
         requires few { length buffer.old < 2 ^ 32 }
+        requires joint { IsJoint self.old.client self.old.server self.old.crossing self.old.begun }
         ensures client { self.new.client.settings ≡ self.old.client.settings }
         ensures server { self.new.server ≡ self.old.server }
-        ensures longest { self.new.crossing.max_in ≡ self.old.crossing.max_in }
         ensures room { IfOk result (λ n. n ≤ length buffer.old) }
         ensures drew { IfOk result (λ n. (t : Terms) (C S : List Noted) →
             Joint t self.old.client self.old.server self.old.crossing self.old.begun C S →
@@ -170,9 +176,9 @@ impl<T: Tape> Cable<T> {
     fn carry(&mut self, most: u32, buffer: &mut [u8]) -> Result<(), OutOfMemory>
         requires some { 0 < length buffer.old }
         requires few { length buffer.old < 2 ^ 32 }
+        requires joint { IsJoint self.old.client self.old.server self.old.crossing self.old.begun }
         ensures client { self.new.client.settings ≡ self.old.client.settings }
         ensures server { self.new.server ≡ self.old.server }
-        ensures longest { self.new.crossing.max_in ≡ self.old.crossing.max_in }
         ensures drew { (t : Terms) (C S : List Noted) →
             Joint t self.old.client self.old.server self.old.crossing self.old.begun C S →
             OnOk result (Becomes t self.new.client self.new.server self.new.crossing self.new.begun
@@ -198,7 +204,6 @@ impl<T: Tape> Cable<T> {
         requires server { self.old.server.settings.side ≡ Server }
         ensures client { self.new.client ≡ self.old.client }
         ensures server { self.new.server.settings ≡ self.old.server.settings }
-        ensures longest { self.new.crossing.max_in ≡ self.old.crossing.max_in }
         ensures shorter { OnOk result (length self.new.crossing.bytes < length self.old.crossing.bytes) }
         ensures came { (t : Terms) (C S : List Noted) →
             Joint t self.old.client self.old.server self.old.crossing self.old.begun C S →
@@ -213,11 +218,9 @@ impl<T: Tape> Cable<T> {
 
     // Brings every whole frame that crossed to the server.
     fn arrive(&mut self, alloc: Global) -> Result<(), OutOfMemory>
-        requires server { self.old.server.settings.side ≡ Server }
-        requires longest { self.old.crossing.max_in < 2 ^ 24 }
+        requires joint { IsJoint self.old.client self.old.server self.old.crossing self.old.begun }
         ensures client { self.new.client ≡ self.old.client }
         ensures server { self.new.server.settings ≡ self.old.server.settings }
-        ensures longest { self.new.crossing.max_in ≡ self.old.crossing.max_in }
         ensures came { (t : Terms) (C S : List Noted) →
             Joint t self.old.client self.old.server self.old.crossing self.old.begun C S →
             OnOk result (Becomes t self.new.client self.new.server self.new.crossing self.new.begun
@@ -232,7 +235,6 @@ impl<T: Tape> Cable<T> {
     fn fnf(&mut self, alloc: Global, content: &Blob) -> Result<(), OutOfMemory>
         ensures client { self.new.client.settings ≡ self.old.client.settings }
         ensures server { self.new.server ≡ self.old.server }
-        ensures longest { self.new.crossing.max_in ≡ self.old.crossing.max_in }
         ensures asked { (t : Terms) (C S : List Noted) →
             Joint t self.old.client self.old.server self.old.crossing self.old.begun C S →
             OnOk result (Becomes t self.new.client self.new.server self.new.crossing self.new.begun
@@ -245,11 +247,9 @@ impl<T: Tape> Cable<T> {
     fn up(&mut self, alloc: Global, most: u32, buffer: &mut [u8]) -> Result<(), OutOfMemory>
         requires some { 0 < length buffer.old }
         requires few { length buffer.old < 2 ^ 32 }
-        requires server { self.old.server.settings.side ≡ Server }
-        requires longest { self.old.crossing.max_in < 2 ^ 24 }
+        requires joint { IsJoint self.old.client self.old.server self.old.crossing self.old.begun }
         ensures client { self.new.client.settings ≡ self.old.client.settings }
         ensures server { self.new.server.settings ≡ self.old.server.settings }
-        ensures longest { self.new.crossing.max_in ≡ self.old.crossing.max_in }
         ensures carried { (t : Terms) (C S : List Noted) →
             Joint t self.old.client self.old.server self.old.crossing self.old.begun C S →
             OnOk result (Becomes t self.new.client self.new.server self.new.crossing self.new.begun
@@ -262,11 +262,9 @@ impl<T: Tape> Cable<T> {
     fn line(&mut self, alloc: Global, line: &Line, buffer: &mut [u8]) -> Result<(), OutOfMemory>
         requires some { 0 < length buffer.old }
         requires few { length buffer.old < 2 ^ 32 }
-        requires server { self.old.server.settings.side ≡ Server }
-        requires longest { self.old.crossing.max_in < 2 ^ 24 }
+        requires joint { IsJoint self.old.client self.old.server self.old.crossing self.old.begun }
         ensures client { self.new.client.settings ≡ self.old.client.settings }
         ensures server { self.new.server.settings ≡ self.old.server.settings }
-        ensures longest { self.new.crossing.max_in ≡ self.old.crossing.max_in }
         ensures played { (t : Terms) (C S : List Noted) →
             Joint t self.old.client self.old.server self.old.crossing self.old.begun C S →
             OnOk result (Becomes t self.new.client self.new.server self.new.crossing self.new.begun
@@ -281,11 +279,9 @@ impl<T: Tape> Cable<T> {
     fn all(&mut self, alloc: Global, lines: &[Line], buffer: &mut [u8]) -> Result<(), OutOfMemory>
         requires some { 0 < length buffer.old }
         requires few { length buffer.old < 2 ^ 32 }
-        requires server { self.old.server.settings.side ≡ Server }
-        requires longest { self.old.crossing.max_in < 2 ^ 24 }
+        requires joint { IsJoint self.old.client self.old.server self.old.crossing self.old.begun }
         ensures client { self.new.client.settings ≡ self.old.client.settings }
         ensures server { self.new.server.settings ≡ self.old.server.settings }
-        ensures longest { self.new.crossing.max_in ≡ self.old.crossing.max_in }
         ensures played { (t : Terms) (C S : List Noted) →
             Joint t self.old.client self.old.server self.old.crossing self.old.begun C S →
             OnOk result (Becomes t self.new.client self.new.server self.new.crossing self.new.begun
@@ -300,16 +296,12 @@ impl<T: Tape> Cable<T> {
     /// Plays the lines between two ends of which nothing happened yet: the client opens the
     /// connection before the first.
     pub fn play(&mut self, alloc: Global, lines: &[Line]) -> Result<(), OutOfMemory>
-        requires client { self.old.client.settings.side ≡ Client }
-        requires server { self.old.server.settings.side ≡ Server }
-        requires longest { self.old.crossing.max_in < 2 ^ 24 }
+        requires fresh { (t : Terms) ×
+            IsFresh t self.old.client self.old.server self.old.crossing self.old.begun }
         ensures client { self.new.client.settings ≡ self.old.client.settings }
         ensures server { self.new.server.settings ≡ self.old.server.settings }
-        ensures played { (t : Terms) → AreTerms t →
-            Follows t.client t.client_told self.old.client [] →
-            Follows t.server t.server_told self.old.server [] →
-            self.old.crossing ≡ record { bytes = []; max_in = 16777215 } →
-            self.old.begun ≡ false →
+        ensures played { (t : Terms) →
+            IsFresh t self.old.client self.old.server self.old.crossing self.old.begun →
             OnOk result (HasPlayed t lines.now self.new.client self.new.server) }
     {
         if lines.is_empty() {

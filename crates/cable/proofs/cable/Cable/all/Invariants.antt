@@ -8,6 +8,5 @@ abbrev pub invariant-loop-line : goal.invariant-loop-line
 invariant-loop-line g l = record {
   client : l.self.client.settings ≡ l.fn.self.client.settings;
   server : l.self.server.settings ≡ l.fn.self.server.settings;
-  longest : l.self.crossing.max_in ≡ l.fn.self.crossing.max_in;
   played : (t : Terms) (C S : List Noted) → Joint t l.fn.self.client l.fn.self.server l.fn.self.crossing l.fn.self.begun C S → Becomes t l.self.client l.self.server l.self.crossing l.self.begun (IsLeft t l.lines l.line-index C S);
 }

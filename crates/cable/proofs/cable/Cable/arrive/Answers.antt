@@ -1,7 +1,25 @@
-use Rattle.std.proofs.Common.{rules, ◌≡◌, None}
-use Rattle.cable.proofs.Carrying.{came_more, came_all}
+use Rattle.std.proofs.Common.{rules, ◌≡◌, ◌∙◌, None, ap}
+use Rattle.rs_wire.specs.declared.settings.Settings.{Settings}
+use Rattle.cable.proofs.Carrying.{IsBehind, came_all, came_more, joint_longest, joint_server, spelled_in_front, still_joint}
 use Rattle.cable.proofs.Results.{none_next}
 use Rattle.cable.proofs.cable.Cable.arrive.Goals as goal
+
+pub next_frame-requires-clause-longest : goal.next_frame-requires-clause-longest
+next_frame-requires-clause-longest g c =
+    let was = c.args.self.now in
+    let now = c.loop-frame.self in
+    joint_longest now.client now.server now.crossing now.begun (still_joint was.client now.client was.server now.server was.crossing now.crossing was.begun now.begun (λ t C S. IsBehind C S) c.requires.joint c.loop-frame.invariant.came)
+
+pub next_frame-requires-clause-spelled : goal.next_frame-requires-clause-spelled
+next_frame-requires-clause-spelled g c =
+    let was = c.args.self.now in
+    let now = c.loop-frame.self in
+    spelled_in_front now.client now.server now.crossing now.begun (still_joint was.client now.client was.server now.server was.crossing now.crossing was.begun now.begun (λ t C S. IsBehind C S) c.requires.joint c.loop-frame.invariant.came)
+
+pub deliver-requires-clause-server : goal.deliver-requires-clause-server
+deliver-requires-clause-server g c =
+    let was = c.args.self.now in
+    ap (λ (s : Settings). s.side) c.loop-frame.invariant.server ∙ joint_server was.client was.server was.crossing was.begun c.requires.joint
 
 pub loop-frame-preserved : goal.loop-frame-preserved
 loop-frame-preserved g c =
@@ -9,7 +27,6 @@ loop-frame-preserved g c =
     record {
       client = search rules;
       server = search rules;
-      longest = search rules;
       came = λ t C S j.
           let b = c.loop-frame.invariant.came t C S j in
           came_more t new.client new.server new.crossing new.begun C S b.client b.server b.related (c.in_ok-deliver.ensures.came t b.client b.server b.joint);

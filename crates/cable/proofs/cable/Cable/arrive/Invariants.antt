@@ -8,7 +8,6 @@ abbrev pub invariant-loop-frame : goal.invariant-loop-frame
 invariant-loop-frame g l = record {
   client : l.self.client ≡ l.fn.self.client;
   server : l.self.server.settings ≡ l.fn.self.server.settings;
-  longest : l.self.crossing.max_in ≡ l.fn.self.crossing.max_in;
   came : (t : Terms) (C S : List Noted) → Joint t l.fn.self.client l.fn.self.server l.fn.self.crossing l.fn.self.begun C S → Becomes t l.self.client l.self.server l.self.crossing l.self.begun (IsBehind C S);
 }
 

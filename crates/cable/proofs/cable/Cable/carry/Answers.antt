@@ -1,7 +1,13 @@
-use Rattle.std.proofs.Common.{rules, ◌≤◌, arith}
+use Rattle.std.proofs.Common.{rules, ◌≤◌, ◌-◌, arith}
 use Rattle.std.proofs.lemmas.Grind.{common_steps}
-use Rattle.cable.proofs.Carrying.{drew_all, drew_last, drew_next}
+use Rattle.cable.proofs.Carrying.{IsCarried, drew_all, drew_last, drew_next, still_joint}
 use Rattle.cable.proofs.cable.Cable.carry.Goals as goal
+
+pub draw-requires-clause-joint : goal.draw-requires-clause-joint
+draw-requires-clause-joint g c =
+    let was = c.args.self.now in
+    let now = c.loop-left.self in
+    still_joint was.client now.client was.server now.server was.crossing now.crossing was.begun now.begun (λ t. IsCarried t (c.args.most - c.loop-left.left)) c.requires.joint c.loop-left.invariant.drew
 
 pub returns-then-count-eq0-clause-drew : goal.returns-then-count-eq0-clause-drew
 returns-then-count-eq0-clause-drew g c = λ t C S j.
@@ -20,7 +26,6 @@ loop-left-preserved g c =
       below = omega (arith, c.loop-left.invariant.below);
       client = search rules;
       server = search rules;
-      longest = search rules;
       drew = λ t C S j. drew_next t old.client new.client old.server new.server old.crossing new.crossing old.begun new.begun C S c.args.most c.loop-left.left c.in_ok-count.count
           c.loop-left.invariant.below fits (c.loop-left.invariant.drew t C S j) (c.in_ok-count.ensures.drew t);
     }

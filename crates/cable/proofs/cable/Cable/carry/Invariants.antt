@@ -9,7 +9,6 @@ invariant-loop-left g l = record {
   below : l.left ≤ l.most;
   client : l.self.client.settings ≡ l.fn.self.client.settings;
   server : l.self.server ≡ l.fn.self.server;
-  longest : l.self.crossing.max_in ≡ l.fn.self.crossing.max_in;
   drew : (t : Terms) (C S : List Noted) → Joint t l.fn.self.client l.fn.self.server l.fn.self.crossing l.fn.self.begun C S → Becomes t l.self.client l.self.server l.self.crossing l.self.begun (IsCarried t (l.most - l.left) C S);
 }
 

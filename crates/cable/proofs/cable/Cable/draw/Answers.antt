@@ -1,6 +1,11 @@
 use Rattle.std.proofs.Common.{length}
-use Rattle.cable.proofs.Carrying.{drew}
+use Rattle.cable.proofs.Carrying.{drew, joint_draw}
 use Rattle.cable.proofs.cable.Cable.draw.Goals as goal
+
+pub count_of-requires : goal.count_of-requires
+count_of-requires g c =
+    let now = c.args.self.now in
+    joint_draw now.client now.server now.crossing now.begun (length c.args.buffer.now) c.draw-answer.result c.requires.joint c.draw-answer.ensures.answer
 
 pub returns-clause-drew : goal.returns-clause-drew
 returns-clause-drew g c = λ t C S j.
