@@ -1,0 +1,109 @@
+-- How far a capture was read, and the lines that were written.
+use Rattle.std.proofs.Common.{◌≡◌, ℕ, ◌+◌, ◌<◌, ◌≤◌, List, [], ◌∷◌, ◌++◌, length, take, drop, Some, inl, inr, refl, sym, ap, subst, ◌∙◌, arith}
+use Rattle.std.proofs.lemmas.List.{append-nil, flat_map_more, length-drop, length-take, take_all}
+use Rattle.rs_frame.specs.declared.frame.Frame.{Frame}
+use Rattle.rs_frame.specs.declared.fault.FrameFault.{FrameFault}
+use Rattle.rs_frame.specs.declared.fault.FrameFault.TheVariants as faults
+use Rattle.rs_frame.specs.Rules.{IsLeastBroken, broken, number_of_rule}
+use Rattle.rs_frame.specs.Spelling.{Spells}
+use Rattle.rs_chunk.specs.Stream.{HasFrame, IsCut, after_frame, first_frame, first_length}
+use Rattle.frame_text.specs.Lines.{line_of}
+use Rattle.capture.specs.Captured.{AreSpelled, Holds, IsBadAt, IsCapture, IsWrong, WroteLines, all_lines, ended, longest}
+
+spelled_nil : AreSpelled [] []
+unfolding AreSpelled
+spelled_nil = tt
+
+spelled_snoc : (fs : List Frame) (bs : List (List ℕ)) (f : Frame) (b : List ℕ) → AreSpelled fs bs → Spells f b → AreSpelled (fs ++ f ∷ []) (bs ++ b ∷ [])
+unfolding AreSpelled
+spelled_snoc [] [] f b all one = (one, tt)
+spelled_snoc (g ∷ fs) (c ∷ bs) f b all one = (all.0, spelled_snoc fs bs f b all.1 one)
+spelled_snoc [] (c ∷ bs) f b all one = absurd all
+spelled_snoc (g ∷ fs) [] f b all one = absurd all
+
+pub at_start : (bytes old : List ℕ) → WroteLines bytes bytes old old
+at_start bytes old =
+    record {
+      frames = [];
+      holds = record { spellings = []; spelled = spelled_nil; cut = record { whole = refl; fit = tt } };
+      lines = sym (append-nil old);
+    }
+
+-- the frame at the front was read, and its line written
+pub one_more : (all old out new rest frame after : List ℕ) (f : Frame) → WroteLines all rest old out → ((frames : List (List ℕ)) → IsCut all frames rest → IsCut all (frames ++ frame ∷ []) after) → Spells f frame → new ≡ out ++ ended (line_of f) → WroteLines all after old new
+one_more all old out new rest frame after f w passes spells wrote =
+    record {
+      frames = w.frames ++ f ∷ [];
+      holds = record {
+        spellings = w.holds.spellings ++ frame ∷ [];
+        spelled = spelled_snoc w.frames w.holds.spellings f frame w.holds.spelled spells;
+        cut = passes w.holds.spellings w.holds.cut;
+      };
+      lines = wrote ∙ ap (λ (t : List ℕ). t ++ ended (line_of f)) w.lines ∙ flat_map_more (λ (g : Frame). ended (line_of g)) old w.frames f;
+    }
+
+least : (fault : FrameFault) (bytes : List ℕ) (rule : ℕ) → IsLeastBroken fault bytes → number_of_rule fault ≡ Some rule → broken bytes ≡ Some fault
+least faults.OutOfMemory bytes rule is number = absurd cc
+least faults.ShortHeader bytes rule is number = is
+least faults.LeadingBit bytes rule is number = is
+least faults.WrongStream bytes rule is number = is
+least faults.ShortBody bytes rule is number = is
+least faults.LongBody bytes rule is number = is
+least faults.ZeroNumber bytes rule is number = is
+least faults.NameLength bytes rule is number = is
+least faults.MetadataLength bytes rule is number = is
+least faults.HighBit bytes rule is number = is
+
+-- the frame at the front breaks a rule
+pub breaks : (bytes frame : List ℕ) (fault : FrameFault) (rule : ℕ) → HasFrame bytes → frame ≡ first_frame bytes → IsLeastBroken fault frame → number_of_rule fault ≡ Some rule → IsWrong bytes rule
+breaks bytes frame fault rule has same is number =
+    inl (record { whole = has; fault = fault; least = subst (λ (t : List ℕ). broken t ≡ Some fault) same (least fault frame rule is number); number_is = number })
+
+-- the frame behind those that were read is wrong
+pub bad_at : (bytes rest old new : List ℕ) (place rule : ℕ) → length bytes ≤ longest → WroteLines bytes rest old new → place + length rest ≡ length bytes → 0 < length rest → IsWrong rest rule → (before : List Frame) × IsBadAt bytes place rule before × (new ≡ old ++ all_lines before)
+bad_at bytes rest old new place rule short w place_is some wrong =
+    let all : bytes ≡ take longest bytes = sym (take_all longest bytes short) in (
+      w.frames,
+      record {
+        rest = rest;
+        holds = subst (λ (t : List ℕ). Holds t w.frames rest) all w.holds;
+        place_is = place_is ∙ ap length all;
+        there = omega arith;
+        wrong = wrong;
+      },
+      w.lines,
+    )
+
+-- what is found within the limit
+pub within : (bytes : List ℕ) (place rule : ℕ) (before : List Frame) → IsBadAt (take longest bytes) place rule before → IsBadAt bytes place rule before
+within bytes place rule before bad =
+    let short : length (take longest bytes) ≤ longest = omega (arith, length-take longest bytes) in
+    let same : take longest (take longest bytes) ≡ take longest bytes = take_all longest (take longest bytes) short in
+    record {
+      rest = bad.rest;
+      holds = subst (λ (t : List ℕ). Holds t before bad.rest) same bad.holds;
+      place_is = bad.place_is ∙ ap length same;
+      there = omega (arith, bad.there, length-take longest bytes);
+      wrong = bad.wrong;
+    }
+
+pub whole : (bytes old new : List ℕ) → length bytes ≤ longest → WroteLines (take longest bytes) [] old new → (frames : List Frame) × IsCapture bytes frames × (new ≡ old ++ all_lines frames)
+whole bytes old new short w =
+    (w.frames, record { short = short; holds = subst (λ (t : List ℕ). Holds t w.frames []) (take_all longest bytes short) w.holds }, w.lines)
+
+-- the bytes pass the limit behind a frame
+pub passes_limit : (bytes old new : List ℕ) (place rule : ℕ) → longest < length bytes → place ≡ longest → rule ≡ 0 → WroteLines (take longest bytes) [] old new → (before : List Frame) × IsBadAt bytes place rule before × (new ≡ old ++ all_lines before)
+passes_limit bytes old new place rule long at none w = (
+  w.frames,
+  record {
+    rest = [];
+    holds = w.holds;
+    place_is = omega (arith, length-take longest bytes);
+    there = omega arith;
+    wrong = inr (none, λ has. absurd (omega (arith, has.0)));
+  },
+  w.lines,
+)
+
+pub shorter : (bytes after : List ℕ) → HasFrame bytes → after ≡ after_frame bytes → length after < length bytes
+shorter bytes after has is = omega (arith, has.0, has.1, ap length is, length-drop 3 bytes, length-drop (first_length bytes) (drop 3 bytes))

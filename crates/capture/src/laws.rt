@@ -1,0 +1,24 @@
+//! Laws of captures.
+
+ghost use Rattle.std.specs.Prelude.{◌≡◌, ◌≤◌, ℕ, List, length};
+ghost use Rattle.std.specs.List.{AllByRecursion};
+ghost use Rattle.rs_frame.specs.declared.frame.Frame.{Frame};
+ghost use Rattle.rs_frame.specs.Spelling.{IsSpellable};
+ghost use Rattle.rs_chunk.specs.Framed.{framed_all};
+ghost use Rattle.capture.specs.Captured.{IsBadAt, IsCapture, longest};
+
+/// What holds of all bytes. The call does nothing; its clauses are the laws.
+pub fn capture_laws()
+    // A capture is of one list of frames.
+    ensures one { (bytes : List ℕ) (fs gs : List Frame) → IsCapture bytes fs → IsCapture bytes gs → fs ≡ gs }
+    // A capture has no frame that can't be read.
+    ensures either { (bytes : List ℕ) (place rule : ℕ) (fs gs : List Frame) →
+        IsCapture bytes fs → IsBadAt bytes place rule gs → ⊥ }
+    // The first frame that can't be read stands at one place and breaks one least rule, behind one
+    // list of frames.
+    ensures one_place { (bytes : List ℕ) (p q r s : ℕ) (fs gs : List Frame) →
+        IsBadAt bytes p r fs → IsBadAt bytes q s gs → (p ≡ q) × (r ≡ s) × (fs ≡ gs) }
+    // The canonical bytes of frames, each after its length, are a capture of them.
+    ensures framed { (frames : List Frame) →
+        AllByRecursion IsSpellable frames → length (framed_all frames) ≤ longest → IsCapture (framed_all frames) frames }
+{}

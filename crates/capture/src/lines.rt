@@ -1,0 +1,150 @@
+//! From bytes to lines.
+
+ghost use Rattle.std.specs.Prelude.{◌≡◌, ◌++◌, ◌≤◌, ◌<◌, ◌^◌, ℕ, List, [], ◌∷◌, length, None, OnErr, OnOk, IfOk, IfSome, IfErr};
+ghost use Rattle.rs_chunk.specs.Stream.{HasFrame, IsCut, after_frame, first_frame};
+ghost use Rattle.rs_frame.specs.Rules.{IsLeastBroken};
+ghost use Rattle.rs_frame.specs.Spelling.{IsSpellable, Spells};
+ghost use Rattle.rs_frame.specs.declared.frame.Frame.{Frame};
+ghost use Rattle.frame_text.specs.Lines.{line_of};
+ghost use Rattle.capture.specs.Captured.{IsBadAt, IsCapture, IsWrong, WroteLines, all_lines, ended, longest};
+ghost use Rattle.capture.specs.declared.lines.CaptureFault.TheVariants as faults;
+
+use byteorder::{BigEndian, ByteOrder};
+use rs_frame::{Frame, FrameFault, decode, rule_number};
+use rs_wire::OutOfMemory;
+use std::alloc::Global;
+
+/// The most bytes of a capture.
+const LONGEST: usize = 67_108_864;
+
+/// Why a capture was not read to its end.
+#[derive(Clone, Copy, Debug, PartialEq, Eq)]
+pub enum CaptureFault {
+    /// The first frame that can't be read. `place` is where its length field begins, in bytes from
+    /// 0. `rule` is the least of the nine rules that it breaks (`rs_frame::FrameFault`), or 0 where
+    /// the bytes end, or pass 67,108,864, within the frame.
+    Frame { place: u32, rule: u8 },
+    /// There was not enough memory. The frames behind were not looked at.
+    OutOfMemory,
+}
+
+impl From<OutOfMemory> for CaptureFault {
+    ghost from_gives = { λ _ e. e ≡ faults.OutOfMemory };
+
+    fn from(_error: OutOfMemory) -> CaptureFault {
+        CaptureFault::OutOfMemory
+    }
+}
+
+/// Appends the line of each frame of the capture, each with a line feed behind it. On
+/// `CaptureFault::Frame` the lines of the frames before it are appended; on
+/// `CaptureFault::OutOfMemory` nothing is.
+pub fn to_lines(alloc: Global, bytes: &[u8], out: &mut Vec<u8>) -> Result<(), CaptureFault>
+    ensures whole { OnOk result ((frames : List Frame) × IsCapture bytes.now frames × (out.new.items ≡ out.old.items ++ all_lines frames)) }
+    ensures frame { (place rule : ℕ) → result ≡ Err (faults.Frame place rule) →
+        (before : List Frame) × IsBadAt bytes.now place rule before × (out.new.items ≡ out.old.items ++ all_lines before) }
+    ensures want { result ≡ Err faults.OutOfMemory → out.new.items ≡ out.old.items }
+{
+    let start = out.len();
+    let done = put_lines(alloc, &bytes[..LONGEST.min(bytes.len())], out);
+    match done {
+        Ok(()) if bytes.len() > LONGEST => Err(CaptureFault::Frame {
+            place: LONGEST as u32,
+            rule: 0,
+        }),
+        Err(CaptureFault::OutOfMemory) => {
+            out.truncate(start);
+            done
+        }
+        _ => done,
+    }
+}
+
+// Appends the line of each frame of bytes within the limit. Where memory runs out, some lines are
+// appended.
+fn put_lines(alloc: Global, bytes: &[u8], out: &mut Vec<u8>) -> Result<(), CaptureFault>
+    requires { length bytes.now ≤ longest }
+    ensures whole { OnOk result (WroteLines bytes.now [] out.old.items out.new.items) }
+    ensures frame { (place rule : ℕ) → result ≡ Err (faults.Frame place rule) →
+        (before : List Frame) × IsBadAt bytes.now place rule before × (out.new.items ≡ out.old.items ++ all_lines before) }
+    ensures want { OnErr result ((more : List ℕ) × (out.new.items ≡ out.old.items ++ more)) }
+{
+    let mut rest = bytes;
+    while !rest.is_empty() {
+        let place = (bytes.len() - rest.len()) as u32;
+        rest = put_first(alloc, rest, place, out)?;
+    }
+    Ok(())
+}
+
+// Appends the line of the frame at the front, which stands at this place, and gives what follows
+// it. On a fault nothing is appended.
+fn put_first<'a>(
+    alloc: Global,
+    bytes: &'a [u8],
+    place: u32,
+    out: &mut Vec<u8>,
+) -> Result<&'a [u8], CaptureFault>
+    ensures wrote { IfOk result (λ after. (all old : List ℕ) → WroteLines all bytes.now old out.old.items → WroteLines all after.now old out.new.items) }
+    ensures shorter { IfOk result (λ after. length after.now < length bytes.now) }
+    ensures frame { (at rule : ℕ) → result ≡ Err (faults.Frame at rule) → (at ≡ place) × IsWrong bytes.now rule }
+    ensures err { OnErr result (out.new.items ≡ out.old.items) }
+{
+    let Some((frame, after)) = split_frame(bytes) else {
+        return Err(CaptureFault::Frame { place, rule: 0 });
+    };
+    match put_line(alloc, frame, out) {
+        Ok(()) => Ok(after),
+        Err(fault) => match rule_number(fault) {
+            Some(rule) => Err(CaptureFault::Frame { place, rule }),
+            None => Err(CaptureFault::OutOfMemory),
+        },
+    }
+}
+
+// Appends the line of the frame that the bytes spell. On a fault nothing is appended.
+fn put_line(alloc: Global, bytes: &[u8], out: &mut Vec<u8>) -> Result<(), FrameFault>
+    requires { length bytes.now < 2 ^ 24 }
+    ensures ok { OnOk result ((f : Frame) × Spells f bytes.now × (out.new.items ≡ out.old.items ++ ended (line_of f))) }
+    ensures rule { IfErr result (λ fault. IsLeastBroken fault bytes.now) }
+    ensures err { OnErr result (out.new.items ≡ out.old.items) }
+{
+    let frame = decode(alloc, bytes)?;
+    match put_ended(&frame, out) {
+        Ok(()) => Ok(()),
+        Err(OutOfMemory) => Err(FrameFault::OutOfMemory),
+    }
+}
+
+// Appends the line of the frame and a line feed, or nothing.
+fn put_ended(frame: &Frame, out: &mut Vec<u8>) -> Result<(), OutOfMemory>
+    requires { IsSpellable frame.now }
+    ensures ok { OnOk result (out.new.items ≡ out.old.items ++ ended (line_of frame.now)) }
+    ensures err { OnErr result (out.new.items ≡ out.old.items) }
+{
+    let start = out.len();
+    frame_text::line_of(frame, out)?;
+    if out.push(b'\n').is_err() {
+        out.truncate(start);
+        return Err(OutOfMemory);
+    }
+    Ok(())
+}
+
+// The frame at the front, without its length, and what follows it.
+fn split_frame(bytes: &[u8]) -> Option<(&[u8], &[u8])>
+    ensures some { IfSome result (λ cut. HasFrame bytes.now × (cut.0.now ≡ first_frame bytes.now) × (cut.1.now ≡ after_frame bytes.now)) }
+    ensures passes { IfSome result (λ cut. (all : List ℕ) (frames : List (List ℕ)) → IsCut all frames bytes.now → IsCut all (frames ++ cut.0.now ∷ []) cut.1.now) }
+    ensures fits { IfSome result (λ cut. length cut.0.now < 2 ^ 24) }
+    ensures none { result ≡ None → ¬ (HasFrame bytes.now) }
+{
+    if bytes.len() < 3 {
+        return None;
+    }
+    let length = BigEndian::read_u24(bytes) as usize;
+    let behind = &bytes[3..];
+    if behind.len() < length {
+        return None;
+    }
+    Some(behind.split_at(length))
+}
