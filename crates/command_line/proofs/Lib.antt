@@ -1,0 +1,4 @@
+mod OneWord
+mod LongWords
+mod Closed
+mod Asking

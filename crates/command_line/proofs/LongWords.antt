@@ -1,0 +1,50 @@
+-- The words that are a long flag with no value.
+use Rattle.std.proofs.Common.{◌≡◌, ◌∙◌, ◌==◌, ◌+◌, ◌||◌, ℕ, Bool, suc, true, false, cond, [], ◌∷◌, Option, Some, None, take, sym, ap, refl, arith}
+use Rattle.std.specs.Prelude.{option_and_then}
+use Rattle.std.specs.List.{after_first, before_first, list_any}
+use Rattle.std.proofs.lemmas.Bool.Decides.{nat_tests}
+use Rattle.clap.specs.Lexer.{has_byte, long_of, long_of_rest, name_and_value, strip_byte}
+use Rattle.clap.specs.Walk.{Text}
+
+byte_stripped : (c : ℕ) (text rest : Text) → strip_byte c text ≡ Some rest → text ≡ c ∷ rest
+byte_stripped c [] rest e = cc
+byte_stripped c (x ∷ xs) rest e = go (x == c) refl e
+  where
+    go : (t : Bool) → (x == c) ≡ t → cond t (Some xs) None ≡ Some rest → x ∷ xs ≡ c ∷ rest
+    go true is f = let same : x ≡ c = grind (arith, nat_tests) in cc
+    go false is f = cc
+
+one_more : (n : ℕ) → 1 + n ≡ suc n
+one_more n = omega arith
+
+all_before : (text : Text) → has_byte 61 text ≡ false → before_first (λ x. x == 61) text ≡ text
+all_before [] e = refl
+all_before (x ∷ xs) e = go (x == 61) refl e (all_before xs)
+  where
+    go : (t : Bool) → (x == 61) ≡ t → (t || list_any (λ y. y == 61) xs) ≡ false
+        → (has_byte 61 xs ≡ false → before_first (λ y. y == 61) xs ≡ xs) → before_first (λ y. y == 61) (x ∷ xs) ≡ x ∷ xs
+    go true is f rest = cc
+    go false is f rest = rw is (ap (λ n. take n (x ∷ xs)) (one_more _) ∙ ap (λ t. x ∷ t) (rest f))
+
+no_value : (text name : Text) → name_and_value text ≡ (name, None) → text ≡ name
+no_value text name e = go (has_byte 61 text) refl (ap (λ p. p.1) e)
+  where
+    go : (t : Bool) → has_byte 61 text ≡ t → cond t (Some (after_first (λ x. x == 61) text)) None ≡ None → text ≡ name
+    go true is f = cc
+    go false is f = sym (all_before text is) ∙ ap (λ p. p.0) e
+
+-- a word that reads as a flag with no value is two hyphens and its name
+pub flag_word : (word name : Text) → long_of word ≡ Some (name, None) → word ≡ 45 ∷ 45 ∷ name
+flag_word word name e = go (strip_byte 45 word) refl e
+  where
+    go : (one : Option Text) → strip_byte 45 word ≡ one → option_and_then long_of_rest (option_and_then (strip_byte 45) one) ≡ Some (name, None) → word ≡ 45 ∷ 45 ∷ name
+    go None is f = cc
+    go (Some rest) is f = two (strip_byte 45 rest) refl f
+      where
+        named : (text : Text) → long_of_rest text ≡ Some (name, None) → text ≡ name
+        named [] g = cc
+        named (x ∷ xs) g = no_value (x ∷ xs) name cc
+
+        two : (two : Option Text) → strip_byte 45 rest ≡ two → option_and_then long_of_rest two ≡ Some (name, None) → word ≡ 45 ∷ 45 ∷ name
+        two None at g = cc
+        two (Some text) at g = byte_stripped 45 word rest is ∙ ap (λ t. 45 ∷ t) (byte_stripped 45 rest text at) ∙ ap (λ t. 45 ∷ 45 ∷ t) (named text g)

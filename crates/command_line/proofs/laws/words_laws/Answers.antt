@@ -1,0 +1,5 @@
+use Rattle.command_line.proofs.Asking.{cable_row, frames_back_row, frames_row, one}
+use Rattle.command_line.proofs.laws.words_laws.Goals as goal
+
+pub returns : goal.returns
+returns c = record { one = one; cable = cable_row; frames = frames_row; frames_back = frames_back_row }

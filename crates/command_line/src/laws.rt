@@ -1,0 +1,16 @@
+//! Laws of the words.
+
+ghost use Rattle.std.specs.Prelude.{◌≡◌, ◌↔◌, ◌∷◌, [], ℕ, List, codes, false, true};
+ghost use Rattle.command_line.specs.Words.{AreJust, Asks};
+ghost use Rattle.command_line.specs.declared.task.Task.{Task};
+ghost use Rattle.command_line.specs.declared.task.Task.TheVariants.{Cable, Frames};
+
+/// What the words of each task are. The call does nothing; its clauses are the laws.
+pub fn words_laws()
+    // Words ask for at most one task.
+    ensures one { (words : List (List ℕ)) (a b : Task) → Asks words a → Asks words b → a ≡ b }
+    // Each task's words, written out.
+    ensures cable { (words : List (List ℕ)) → Asks words Cable ↔ AreJust words (codes "cable" ∷ []) }
+    ensures frames { (words : List (List ℕ)) → Asks words (Frames false) ↔ AreJust words (codes "frames" ∷ []) }
+    ensures frames_back { (words : List (List ℕ)) → Asks words (Frames true) ↔ AreJust words (codes "frames" ∷ codes "--back" ∷ []) }
+{}
