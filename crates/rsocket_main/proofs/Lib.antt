@@ -1,2 +1,4 @@
 pub mod Moves
 pub mod Playing
+pub mod Reading
+pub mod Telling

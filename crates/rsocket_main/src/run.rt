@@ -1,141 +1,58 @@
 //! What the program does with its words, its input and its output.
 
-ghost use Rattle.std.specs.Prelude.{◌≡◌, ◌≢◌, ◌↔◌, ◌⊎◌, [], ℕ, List, IsTrue, Some, IfOk};
+ghost use Rattle.std.specs.Prelude.{◌≡◌, ◌≢◌, ◌⊎◌, [], ℕ, List, Some, Err, IfErr, OnOk};
 ghost use Rattle.std.specs.Io.KnownBytes.{append_known};
 ghost use Rattle.outside.specs.Causes.{Rose};
-ghost use Rattle.rsocket_main.specs.Run.{IsCable, RanCable, ToldWrongLine, WritesReport, wrong_line};
+ghost use Rattle.command_line.specs.Words.{Asks};
+ghost use Rattle.command_line.specs.declared.task.Task.{Task};
+ghost use Rattle.rsocket_main.specs.Run.{CutOff, IsDone, IsDue, TellsBadFrame, TellsWrongLine, Wrote, memory_line, read_fault_line, usage_line};
+ghost use Rattle.rsocket_main.specs.Stops.{StoppedBy};
 ghost use Rattle.rsocket_main.specs.Streams.{HasFront};
 
-use crate::input::{Unread, read_to};
-use crate::output::write_all;
-use crate::play::play;
-use cable::{Script, ScriptFault};
-use itoa::Buffer;
+use crate::stop::Stop;
+use crate::tasks::{bytes, cable, lines};
+use crate::tell::{tell_done, tell_stop};
+use command_line::{Task, read_words, words_laws};
 use outside::{Sink, Source};
-use rs_wire::{Blob, OutOfMemory};
+use rs_wire::Blob;
 use std::alloc::Global;
 use tape::Shelf;
 
-/// One byte more than a script may have.
-const MOST: usize = 16_777_217;
-
-/// The status of each end of a run.
-const DONE: u8 = 0;
-
-const USAGE: u8 = 2;
-
-const WRONG_LINE: u8 = 3;
-
-const READ_FAULT: u8 = 4;
-
-const WRITE_FAULT: u8 = 5;
-
-const WANT: u8 = 6;
-
-fn is_text(word: &Blob, text: &[u8]) -> bool
-    ensures { IsTrue result ↔ (word.now ≡ text.now) }
-{
-    word.as_slice() == text
-}
-
-/// Whether the words are the one command, `cable`.
-pub fn is_cable(words: &[Blob]) -> bool
-    ensures { IsTrue result ↔ IsCable words.now }
-{
-    match words {
-        [word] => is_text(word, b"cable"),
-        _ => false,
-    }
-}
-
-/// Writes the last line of a run that ends with this status, which is 5 where it can't be written.
-pub fn say<O: Sink>(output: &mut O, line: &[u8], status: u8) -> u8
-    requires { status ≢ 5 }
-    ensures said { result ≢ 5 → (result ≡ status) × (O.told output.new ≡ append_known (O.told output.old) line.now) }
-    ensures cause { result ≡ 5 → Rose (O.faults output.old) (O.faults output.new) }
-    ensures front { HasFront (O.told output.old) line.now (O.told output.new) }
-{
-    match write_all(output, line) {
-        Ok(()) => status,
-        Err(_) => WRITE_FAULT,
-    }
-}
-
-// Tells that memory ran out. The status stays where the line can't be written.
-fn want<O: Sink>(output: &mut O) -> u8
-    ensures { result ≡ 6 }
-{
-    let _ = write_all(output, b"rsocket: out of memory\n");
-    WANT
-}
-
-fn wrong_line_text(alloc: Global, number: u32) -> Result<Vec<u8>, OutOfMemory>
-    ensures { IfOk result (λ text. text.items ≡ wrong_line number) }
-{
-    let mut text = Vec::from_slice(alloc, b"rsocket: script line ")?;
-    let mut buffer = Buffer::new();
-    text.extend_from_slice(buffer.format(number).as_bytes())?;
-    text.push(b'\n')?;
-    Ok(text)
-}
-
-fn tell_wrong_line<O: Sink>(alloc: Global, output: &mut O, number: u32) -> u8
-    ensures told { result ≡ 3 → O.told output.new ≡ append_known (O.told output.old) (wrong_line number) }
-    ensures cause { result ≡ 5 → Rose (O.faults output.old) (O.faults output.new) }
-    ensures others { result ≢ 3 → (result ≡ 5) ⊎ (result ≡ 6) }
-{
-    match wrong_line_text(alloc, number) {
-        Ok(text) => say(output, &text, WRONG_LINE),
-        Err(OutOfMemory) => want(output),
-    }
-}
-
-fn finish<O: Sink, H: Shelf>(alloc: Global, script: &Script, output: &mut O, shelf: &mut H) -> u8
-    ensures done { result ≡ 0 → WritesReport script.now H.fresh (H.back shelf.old) (H.back shelf.new) (O.told output.old) (O.told output.new) }
-    ensures cause { result ≡ 5 → Rose (O.faults output.old) (O.faults output.new) }
-    ensures others { result ≢ 0 → (result ≡ 5) ⊎ (result ≡ 6) }
-{
-    match play(alloc, script, shelf) {
-        Ok(text) => say(output, &text, DONE),
-        Err(OutOfMemory) => want(output),
-    }
-}
-
-// `cable`: reads a script, plays it, and writes the report.
-fn cable<I: Source, O: Sink, H: Shelf>(
+// Does what the words ask for, and appends the output to the text.
+fn work<I: Source, H: Shelf>(
     alloc: Global,
+    words: &[Blob],
     input: &mut I,
-    output: &mut O,
     shelf: &mut H,
-) -> u8
-    ensures done { (text : List ℕ) → I.told input.old ≡ Some text → result ≡ 0 →
-        RanCable text H.fresh (H.back shelf.old) (H.back shelf.new) (O.told output.old) (O.told output.new) }
-    ensures read { (text : List ℕ) → I.told input.old ≡ Some text → result ≡ 0 → I.told input.new ≡ Some [] }
-    ensures wrong { (text : List ℕ) → I.told input.old ≡ Some text → result ≡ 3 →
-        ToldWrongLine text (I.told input.new) (O.told output.old) (O.told output.new) }
-    ensures read_fault { result ≡ 4 → Rose (I.faults input.old) (I.faults input.new) }
-    ensures write_fault { result ≡ 5 → Rose (O.faults output.old) (O.faults output.new) }
-    ensures no_usage { result ≢ 2 }
+    out: &mut Vec<u8>,
+) -> Result<(), Stop>
+    requires { out.old.items ≡ [] }
+    ensures done { (task : Task) (text : List ℕ) → Asks words.now task → I.told input.old ≡ Some text →
+        OnOk result (IsDone task text (I.told input.new) H.fresh (H.back shelf.old) (H.back shelf.new) out.new.items) }
+    ensures stopped { (task : Task) (text : List ℕ) → Asks words.now task → I.told input.old ≡ Some text →
+        IfErr result (λ stop. StoppedBy task text (I.told input.new) stop out.new.items) }
+    ensures read_fault { result ≡ Err Stop.ReadFault → Rose (I.faults input.old) (I.faults input.new) }
+    ensures usage { result ≡ Err Stop.Usage → (task : Task) → ¬ (Asks words.now task) }
+    ensures no_task { ((task : Task) → ¬ (Asks words.now task)) → (result ≡ Err Stop.Usage) ⊎ (result ≡ Err Stop.OutOfMemory) }
 {
-    let text = match read_to(alloc, input, MOST) {
-        Ok(text) => text,
-        Err(Unread::Fault) => return say(output, b"rsocket: read fault\n", READ_FAULT),
-        Err(Unread::OutOfMemory) => return want(output),
-    };
-    match Script::read(alloc, &text) {
-        Ok(script) => finish(alloc, &script, output, shelf),
-        Err(ScriptFault::Line(number)) => tell_wrong_line(alloc, output, number),
-        Err(ScriptFault::OutOfMemory) => want(output),
+    words_laws();
+    match read_words(alloc, words)? {
+        Task::Cable => cable(alloc, input, shelf, out),
+        Task::Frames { back: false } => lines(alloc, input, out),
+        Task::Frames { back: true } => bytes(alloc, input, out),
     }
 }
 
-/// Runs the program: `words` are those after its name. The status is 0, 2 to 6; every line, also that
-/// of a status, goes to the output. The one command today is `cable`, which reads a script of at most
-/// 16,777,216 bytes, plays it between a client and a server, and writes the report.
+/// Runs the program: `words` are those after its name. Every line, also that of a status, goes to
+/// the output, and all input is read before anything is written.
 ///
-/// 0: the report is written. 2: the words are not `cable`. 3: a line of the script is wrong, or it is
-/// too long. 4: a read failed. 5: a write failed. 6: there was not enough memory, and no line of the
-/// report is written.
+/// `cable` reads a script of at most 16,777,216 bytes, plays it between a client and a server, and
+/// writes the report. `frames` reads frames, each after its length, of at most 67,108,864 bytes in
+/// all, and writes their lines; `frames --back` reads such lines, and writes their bytes.
+///
+/// The status is 0 where that was done. 2: the words are none of these. 3: a line of the input is
+/// wrong, or it is too long. 4: a read failed. 5: a write failed. 6: there was not enough memory.
+/// 11: a frame can't be read; the lines of the frames before it are written.
 pub fn run<I: Source, O: Sink, H: Shelf>(
     alloc: Global,
     words: &[Blob],
@@ -143,23 +60,40 @@ pub fn run<I: Source, O: Sink, H: Shelf>(
     output: &mut O,
     shelf: &mut H,
 ) -> u8
-    // Status 0: the input was read to its end and is a script, the shelf has the tapes of its two
-    // ends, which are legal and joined, what the server has handled begins what the client made, and
-    // the output is the report of just these tapes.
-    ensures cable { (text : List ℕ) → I.told input.old ≡ Some text → result ≡ 0 →
-        RanCable text H.fresh (H.back shelf.old) (H.back shelf.new) (O.told output.old) (O.told output.new) }
-    ensures read_to_end { (text : List ℕ) → I.told input.old ≡ Some text → result ≡ 0 → I.told input.new ≡ Some [] }
+    // Status 0: the work is done, and its output is all that was written. For `cable` the input was
+    // read to its end and is a script, the shelf has the tapes of its two ends, which are legal and
+    // joined, what the server has handled begins what the client made, and the output is the report
+    // of just these tapes.
+    ensures done { (task : Task) (text : List ℕ) → Asks words.now task → I.told input.old ≡ Some text → result ≡ 0 →
+        Wrote (IsDone task text (I.told input.new) H.fresh (H.back shelf.old) (H.back shelf.new)) (O.told output.old) (O.told output.new) }
 
-    // Each other status, with its cause. Status 6 is free.
-    ensures usage { (result ≡ 2) ↔ (¬ (IsCable words.now)) }
-    ensures wrong_line { (text : List ℕ) → I.told input.old ≡ Some text → result ≡ 3 →
-        ToldWrongLine text (I.told input.new) (O.told output.old) (O.told output.new) }
+    // Status 2: exactly where the words ask for nothing, but for want of memory.
+    ensures usage { result ≡ 2 → (task : Task) → ¬ (Asks words.now task) }
+    ensures no_task { ((task : Task) → ¬ (Asks words.now task)) → (result ≡ 2) ⊎ (result ≡ 6) }
+    ensures usage_line { result ≡ 2 → HasFront (O.told output.old) usage_line (O.told output.new) }
+
+    // Statuses 3 and 11: what is wrong with the input, and just that is told.
+    ensures wrong_line { (task : Task) (text : List ℕ) → Asks words.now task → I.told input.old ≡ Some text → result ≡ 3 →
+        Wrote (TellsWrongLine task text (I.told input.new)) (O.told output.old) (O.told output.new) }
+    ensures bad_frame { (task : Task) (text : List ℕ) → Asks words.now task → I.told input.old ≡ Some text → result ≡ 11 →
+        Wrote (TellsBadFrame task text (I.told input.new)) (O.told output.old) (O.told output.new) }
+
+    // Statuses 4 and 5: the counts of faults. A write that failed leaves a front of the output.
     ensures read_fault { result ≡ 4 → Rose (I.faults input.old) (I.faults input.new) }
+    ensures read_fault_line { result ≡ 4 → O.told output.new ≡ append_known (O.told output.old) read_fault_line }
     ensures write_fault { result ≡ 5 → Rose (O.faults output.old) (O.faults output.new) }
+    ensures cut_off { (task : Task) (text : List ℕ) → Asks words.now task → I.told input.old ≡ Some text → result ≡ 5 →
+        CutOff (IsDue task text (I.told input.new) H.fresh (H.back shelf.old) (H.back shelf.new)) (O.told output.old) (O.told output.new) }
+
+    // Status 6 is free, and just its line is written.
+    ensures memory_line { result ≡ 6 → HasFront (O.told output.old) memory_line (O.told output.new) }
+
+    // There is no other status.
+    ensures status { (result ≡ 0) ⊎ ((result ≡ 2) ⊎ ((result ≡ 3) ⊎ ((result ≡ 4) ⊎ ((result ≡ 5) ⊎ ((result ≡ 6) ⊎ (result ≡ 11)))))) }
 {
-    if !is_cable(words) {
-        let _ = write_all(output, b"rsocket: usage\n");
-        return USAGE;
+    let mut text = Vec::new(alloc);
+    match work(alloc, words, input, shelf, &mut text) {
+        Ok(()) => tell_done(output, &text),
+        Err(stop) => tell_stop(output, &mut text, stop),
     }
-    cable(alloc, input, output, shelf)
 }

@@ -1,76 +1,66 @@
+//! Runs over memory, and what the other tests share.
+
 use crate::run::run;
-use outside::{MemSink, MemSource};
+use outside::{MemSink, MemSource, Sink, Source};
 use rs_wire::Blob;
 use std::alloc::Global;
 use std::test::Fail;
 use tape::KeptShelf;
 
-const HELLO: &[u8] = b"client fnf 6869\nup 1000\n";
+const CABLE: &[u8] = b"cable";
 
-fn status_and_output(
-    alloc: Global,
-    all: &[&[u8]],
-    text: &[u8],
-    read_fails: &[u64],
-    write_fails: &[u64],
-) -> Result<(u8, Vec<u8>), Fail> {
+/// These words, as they come from the system.
+pub fn words(alloc: Global, all: &[&[u8]]) -> Result<Vec<Blob>, Fail> {
     let mut words = Vec::new(alloc);
     for word in all {
         words.push(Blob::from_slice(alloc, word)?)?;
     }
-    let fails = Vec::from_slice(alloc, read_fails)?;
-    let mut input = MemSource::new(Blob::from_slice(alloc, text)?, fails);
-    let mut output = MemSink::new(alloc, Vec::from_slice(alloc, write_fails)?);
+    Ok(words)
+}
+
+/// The status of a run on these words over such an input and output.
+pub fn status_over<I: Source, O: Sink>(
+    alloc: Global,
+    all: &[&[u8]],
+    input: &mut I,
+    output: &mut O,
+) -> Result<u8, Fail> {
+    let words = words(alloc, all)?;
     let mut shelf = KeptShelf::new(alloc);
-    let status = run(alloc, &words, &mut input, &mut output, &mut shelf);
+    Ok(run(alloc, &words, input, output, &mut shelf))
+}
+
+/// The status of a run on these words and this input, and what it wrote.
+pub fn ran(alloc: Global, all: &[&[u8]], text: &[u8]) -> Result<(u8, Vec<u8>), Fail> {
+    let mut input = MemSource::new(Blob::from_slice(alloc, text)?, Vec::new(alloc));
+    let mut output = MemSink::new(alloc, Vec::new(alloc));
+    let status = status_over(alloc, all, &mut input, &mut output)?;
     Ok((status, Vec::from_slice(alloc, output.written())?))
+}
+
+/// Whether a run on these words and this input ends with this status and wrote just that.
+pub fn ends(
+    alloc: Global,
+    all: &[&[u8]],
+    text: &[u8],
+    status: u8,
+    written: &[u8],
+) -> Result<bool, Fail> {
+    let (ended, output) = ran(alloc, all, text)?;
+    Ok(ended == status && output.as_slice() == written)
 }
 
 #[test]
 fn an_empty_script_makes_two_lines(rt: HostRuntime) -> Result<(), Fail> {
-    let (status, output) = status_and_output(rt.alloc(), &[b"cable".as_slice()], b"", &[], &[])?;
-    assert_eq!(rt; status, 0);
     let lines = b"client made 0 0 handled 0 0\nserver made 0 0 handled 0 0\n";
-    assert_eq!(rt; output.as_slice(), lines.as_slice());
-    Ok(())
-}
-
-#[test]
-fn one_word_more_is_usage(rt: HostRuntime) -> Result<(), Fail> {
-    let (status, output) = status_and_output(
-        rt.alloc(),
-        &[b"cable".as_slice(), b"x".as_slice()],
-        HELLO,
-        &[],
-        &[],
-    )?;
-    assert_eq!(rt; status, 2);
-    assert_eq!(rt; output.as_slice(), b"rsocket: usage\n".as_slice());
+    assert!(rt; ends(rt.alloc(), &[CABLE], b"", 0, lines)?);
     Ok(())
 }
 
 #[test]
 fn half_a_byte_is_a_wrong_line(rt: HostRuntime) -> Result<(), Fail> {
-    let (status, output) = status_and_output(
-        rt.alloc(),
-        &[b"cable".as_slice()],
-        b"client fnf 686",
-        &[],
-        &[],
-    )?;
-    assert_eq!(rt; status, 3);
-    assert_eq!(rt; output.as_slice(), b"rsocket: script line 1\n".as_slice());
-    Ok(())
-}
-
-#[test]
-fn a_failed_read_and_a_failed_write_are_told(rt: HostRuntime) -> Result<(), Fail> {
-    let (status, output) = status_and_output(rt.alloc(), &[b"cable".as_slice()], HELLO, &[1], &[])?;
-    assert_eq!(rt; status, 4);
-    assert_eq!(rt; output.as_slice(), b"rsocket: read fault\n".as_slice());
-    let (status, output) = status_and_output(rt.alloc(), &[b"cable".as_slice()], HELLO, &[], &[1])?;
-    assert_eq!(rt; status, 5);
-    assert_eq!(rt; output.len(), 0);
+    let line = b"rsocket: script line 1\n";
+    assert!(rt; ends(rt.alloc(), &[CABLE], b"client fnf 686", 3, line)?);
     Ok(())
 }
 
@@ -81,7 +71,7 @@ fn a_thousand_bytes_cross(rt: HostRuntime) -> Result<(), Fail> {
         text.extend_from_slice(b"5a")?;
     }
     text.extend_from_slice(b"\nup 2000")?;
-    let (status, output) = status_and_output(rt.alloc(), &[b"cable".as_slice()], &text, &[], &[])?;
+    let (status, output) = ran(rt.alloc(), &[CABLE], &text)?;
     assert_eq!(rt; status, 0);
     let lines = "client made 1 1006 handled 0 0
 server made 0 0 handled 1 1006
@@ -91,5 +81,53 @@ server open SETUP 0 68: opened 1
 server came REQUEST_FNF 1 1006: handled
 ";
     assert_eq!(rt; output.as_slice(), lines.as_bytes());
+    Ok(())
+}
+
+fn is_usage(alloc: Global, words: &[&[u8]]) -> Result<bool, Fail> {
+    ends(alloc, words, b"", 2, b"rsocket: usage\n")
+}
+
+#[test]
+fn other_words_are_usage(rt: HostRuntime) -> Result<(), Fail> {
+    assert!(rt; is_usage(rt.alloc(), &[])?);
+    assert!(rt; is_usage(rt.alloc(), &[b""])?);
+    assert!(rt; is_usage(rt.alloc(), &[b"help"])?);
+    assert!(rt; is_usage(rt.alloc(), &[CABLE, b"x"])?);
+    assert!(rt; is_usage(rt.alloc(), &[CABLE, b"--threads"])?);
+    assert!(rt; is_usage(rt.alloc(), &[b"--", CABLE])?);
+    Ok(())
+}
+
+#[test]
+fn a_word_that_is_no_text_is_usage(rt: HostRuntime) -> Result<(), Fail> {
+    assert!(rt; is_usage(rt.alloc(), &[b"\xff"])?);
+    assert!(rt; is_usage(rt.alloc(), &[CABLE, b"\xff"])?);
+    Ok(())
+}
+
+#[test]
+fn odd_words_of_frames_are_usage(rt: HostRuntime) -> Result<(), Fail> {
+    assert!(rt; is_usage(rt.alloc(), &[b"frames", b"--back=x"])?);
+    assert!(rt; is_usage(rt.alloc(), &[b"frames", b"--back", b"--back"])?);
+    assert!(rt; is_usage(rt.alloc(), &[b"frames", b"--", b"--back"])?);
+    assert!(rt; is_usage(rt.alloc(), &[b"frames", b"-"])?);
+    assert!(rt; is_usage(rt.alloc(), &[b"frames", b""])?);
+    Ok(())
+}
+
+#[test]
+fn two_dashes_end_the_options(rt: HostRuntime) -> Result<(), Fail> {
+    let bytes = [0, 0, 6, 0, 0, 0, 1, 0x24, 0];
+    assert!(rt; ends(rt.alloc(), &[b"frames", b"--"], &bytes, 0, b"CANCEL 1\n")?);
+    assert!(rt;
+        ends(
+            rt.alloc(),
+            &[b"frames", b"--back", b"--"],
+            b"CANCEL 1\n",
+            0,
+            &bytes
+        )?
+    );
     Ok(())
 }
