@@ -1,10 +1,11 @@
 -- What a run that stopped has written, by its status.
-use Rattle.std.proofs.Common.{◌≡◌, ◌≢◌, ℕ, List, [], ◌++◌, Option, inl, inr, refl, ap}
+use Rattle.std.proofs.Common.{◌⊎◌, ◌≡◌, ◌≢◌, ℕ, List, [], ◌++◌, Option, inl, inr, refl, ap}
 use Rattle.tape.specs.declared.entry.Entry.{Entry}
 use Rattle.command_line.specs.declared.task.Task.{Task}
 use Rattle.rsocket_main.specs.declared.stop.Stop.{Stop}
 use Rattle.rsocket_main.specs.declared.stop.Stop.TheVariants as stops
-use Rattle.rsocket_main.specs.Run.{CutOff, IsDue, TellsBadFrame, TellsWrongLine, Wrote, bad_frame_line, read_fault_line, wrong_line}
+use Rattle.rsocket_main.specs.Run.{CutOff, IsDue, IsRight, TellsBadFrame, TellsWrongLine, Wrote, bad_frame_line, read_fault_line, wrong_line}
+use Rattle.rsocket_main.proofs.Right.{no_bad_frame, no_wrong_line}
 use Rattle.rsocket_main.specs.Stops.{IsTold, StoppedBy, last_of, status_of}
 
 -- what is known of a run that stopped: where it stopped, and how it told it
@@ -61,3 +62,11 @@ told_front task input left fresh shelf shelf' stops.ReadFault text fault old new
 told_front task input left fresh shelf shelf' stops.OutOfMemory text fault old new status s is = let no : status ≡ 6 = s.want refl in cc
 told_front task input left fresh shelf shelf' (stops.BadFrame place rule) text fault old new status s is =
     cut 11 (text ++ bad_frame_line place rule) fault old new status (IsDue task input left fresh shelf shelf') (λ e. cc) (inr (inl (place, rule, text, s.by, refl))) (s.told (λ e. cc) (λ e. cc)) is
+
+-- a run stops with nothing wrong and no failed read only for want of memory
+pub told_right : (task : Task) (input : List ℕ) (left : Option (List ℕ)) (stop : Stop) (text : List ℕ) (fault : Type 0) (old new : Option (List ℕ)) (status : ℕ) → Stopped task input left stop text fault old new status → IsRight task input → ¬ (stop ≡ stops.ReadFault) → (status ≡ 0) ⊎ (status ≡ 6)
+told_right task input left stops.Usage text fault old new status s right quiet = absurd s.by
+told_right task input left (stops.WrongLine number) text fault old new status s right quiet = absurd (no_wrong_line task input left number right s.by.0)
+told_right task input left stops.ReadFault text fault old new status s right quiet = absurd (quiet refl)
+told_right task input left stops.OutOfMemory text fault old new status s right quiet = inr (s.want refl)
+told_right task input left (stops.BadFrame place rule) text fault old new status s right quiet = absurd (no_bad_frame task input left place rule text right s.by)

@@ -117,6 +117,12 @@ HasBadFrame tasks.Cable input left place rule lines = ⊥
 HasBadFrame (tasks.Frames false) input left place rule lines = HasBadCapture input left place rule lines
 HasBadFrame (tasks.Frames true) input left place rule lines = ⊥
 
+-- nothing is wrong with the input
+abbrev pub IsRight : Task → List ℕ → Type 0
+IsRight tasks.Cable input = (script : List Line) × IsScript input script
+IsRight (tasks.Frames false) input = (frames : List Frame) × IsCapture input frames
+IsRight (tasks.Frames true) input = (frames : List Frame) × IsText input frames
+
 -- ---- the output
 
 -- all that was written is such an output

@@ -5,7 +5,7 @@ ghost use Rattle.std.specs.Io.KnownBytes.{append_known};
 ghost use Rattle.outside.specs.Causes.{Rose};
 ghost use Rattle.command_line.specs.Words.{Asks};
 ghost use Rattle.command_line.specs.declared.task.Task.{Task};
-ghost use Rattle.rsocket_main.specs.Run.{CutOff, IsDone, IsDue, TellsBadFrame, TellsWrongLine, Wrote, memory_line, read_fault_line, usage_line};
+ghost use Rattle.rsocket_main.specs.Run.{CutOff, IsDone, IsDue, IsRight, TellsBadFrame, TellsWrongLine, Wrote, memory_line, read_fault_line, usage_line};
 ghost use Rattle.rsocket_main.specs.Stops.{StoppedBy};
 ghost use Rattle.rsocket_main.specs.Streams.{HasFront};
 
@@ -87,6 +87,12 @@ pub fn run<I: Source, O: Sink, H: Shelf>(
 
     // Status 6 is free, and just its line is written.
     ensures memory_line { result ≡ 6 → HasFront (O.told output.old) memory_line (O.told output.new) }
+
+    // Where nothing is wrong with the input and no fault is counted, the work is done, but for want
+    // of memory.
+    ensures complete { (task : Task) (text : List ℕ) → Asks words.now task → I.told input.old ≡ Some text → IsRight task text →
+        ¬ (Rose (I.faults input.old) (I.faults input.new)) → ¬ (Rose (O.faults output.old) (O.faults output.new)) →
+        (result ≡ 0) ⊎ (result ≡ 6) }
 
     // There is no other status.
     ensures status { (result ≡ 0) ⊎ ((result ≡ 2) ⊎ ((result ≡ 3) ⊎ ((result ≡ 4) ⊎ ((result ≡ 5) ⊎ ((result ≡ 6) ⊎ (result ≡ 11)))))) }
