@@ -53,15 +53,15 @@ cut known text fault old new status P other due (inl told) five = let e : known 
 cut known text fault old new status P other due (inr (inl front)) five = (text, due, front.1.1)
 cut known text fault old new status P other due (inr (inr want)) five = cc
 
-pub told_front : (task : Task) (input : List ℕ) (left : Option (List ℕ)) (fresh : Option (List Entry)) (shelf shelf' : List (Option (List Entry))) (stop : Stop) (text : List ℕ) (fault : Type 0) (old new : Option (List ℕ)) (status : ℕ) → Stopped task input left stop text fault old new status → status ≡ 5 → CutOff (IsDue task input left fresh shelf shelf') old new
-told_front task input left fresh shelf shelf' stops.Usage text fault old new status s is = absurd s.by
-told_front task input left fresh shelf shelf' (stops.WrongLine number) text fault old new status s is =
-    cut 3 (text ++ wrong_line number) fault old new status (IsDue task input left fresh shelf shelf') (λ e. cc) (inr (inr (inl (number, s.by.0, alone text (wrong_line number) s.by.1)))) (s.told (λ e. cc) (λ e. cc)) is
-told_front task input left fresh shelf shelf' stops.ReadFault text fault old new status s is =
-    cut 4 read_fault_line fault old new status (IsDue task input left fresh shelf shelf') (λ e. cc) (inr (inr (inr refl))) (s.told (λ e. cc) (λ e. cc)) is
-told_front task input left fresh shelf shelf' stops.OutOfMemory text fault old new status s is = let no : status ≡ 6 = s.want refl in cc
-told_front task input left fresh shelf shelf' (stops.BadFrame place rule) text fault old new status s is =
-    cut 11 (text ++ bad_frame_line place rule) fault old new status (IsDue task input left fresh shelf shelf') (λ e. cc) (inr (inl (place, rule, text, s.by, refl))) (s.told (λ e. cc) (λ e. cc)) is
+pub told_front : (task : Task) (input : List ℕ) (left : Option (List ℕ)) (unread : Type 0) (fresh : Option (List Entry)) (shelf shelf' : List (Option (List Entry))) (stop : Stop) (text : List ℕ) (fault : Type 0) (old new : Option (List ℕ)) (status : ℕ) → Stopped task input left stop text fault old new status → (stop ≡ stops.ReadFault → unread) → status ≡ 5 → CutOff (IsDue task input left unread fresh shelf shelf') old new
+told_front task input left unread fresh shelf shelf' stops.Usage text fault old new status s unread_is is = absurd s.by
+told_front task input left unread fresh shelf shelf' (stops.WrongLine number) text fault old new status s unread_is is =
+    cut 3 (text ++ wrong_line number) fault old new status (IsDue task input left unread fresh shelf shelf') (λ e. cc) (inr (inr (inl (number, s.by.0, alone text (wrong_line number) s.by.1)))) (s.told (λ e. cc) (λ e. cc)) is
+told_front task input left unread fresh shelf shelf' stops.ReadFault text fault old new status s unread_is is =
+    cut 4 read_fault_line fault old new status (IsDue task input left unread fresh shelf shelf') (λ e. cc) (inr (inr (inr (unread_is refl, refl)))) (s.told (λ e. cc) (λ e. cc)) is
+told_front task input left unread fresh shelf shelf' stops.OutOfMemory text fault old new status s unread_is is = let no : status ≡ 6 = s.want refl in cc
+told_front task input left unread fresh shelf shelf' (stops.BadFrame place rule) text fault old new status s unread_is is =
+    cut 11 (text ++ bad_frame_line place rule) fault old new status (IsDue task input left unread fresh shelf shelf') (λ e. cc) (inr (inl (place, rule, text, s.by, refl))) (s.told (λ e. cc) (λ e. cc)) is
 
 -- a run stops with nothing wrong and no failed read only for want of memory
 pub told_right : (task : Task) (input : List ℕ) (left : Option (List ℕ)) (stop : Stop) (text : List ℕ) (fault : Type 0) (old new : Option (List ℕ)) (status : ℕ) → Stopped task input left stop text fault old new status → IsRight task input → ¬ (stop ≡ stops.ReadFault) → (status ≡ 0) ⊎ (status ≡ 6)

@@ -137,11 +137,20 @@ TellsBadFrame task input left out = (place rule : ℕ) × (lines : List ℕ) × 
 abbrev pub TellsWrongLine : Task → List ℕ → Option (List ℕ) → List ℕ → Type 0
 TellsWrongLine task input left out = (number : ℕ) × HasWrongLine task input left number × (out ≡ wrong_line number)
 
--- the whole output that a run was about to write: that of its work, or the line that tells why it stopped
-abbrev pub IsDue : Task → List ℕ → Option (List ℕ) → Option (List Entry) → List (Option (List Entry)) → List (Option (List Entry)) → List ℕ → Type 0
-IsDue task input left fresh shelf shelf' out =
-    IsDone task input left fresh shelf shelf' out ⊎ (TellsBadFrame task input left out ⊎ (TellsWrongLine task input left out ⊎ (out ≡ read_fault_line)))
+-- the line that tells a failed read
+abbrev pub TellsReadFault : Type 0 → List ℕ → Type 0
+TellsReadFault fault out = fault × (out ≡ read_fault_line)
+
+-- the whole output that a run was about to write: that of its work, or the line that tells why it stopped; `fault` says
+-- that a read failed
+abbrev pub IsDue : Task → List ℕ → Option (List ℕ) → Type 0 → Option (List Entry) → List (Option (List Entry)) → List (Option (List Entry)) → List ℕ → Type 0
+IsDue task input left fault fresh shelf shelf' out =
+    IsDone task input left fresh shelf shelf' out ⊎ (TellsBadFrame task input left out ⊎ (TellsWrongLine task input left out ⊎ TellsReadFault fault out))
 
 -- a front of the output that was due was written
 abbrev pub CutOff : (List ℕ → Type 0) → Option (List ℕ) → Option (List ℕ) → Type 0
 CutOff IsOutput old new = (out : List ℕ) × IsOutput out × HasFront old out new
+
+-- the line was written; only a front of it, where a write failed
+abbrev pub WroteLine : List ℕ → Type 0 → Option (List ℕ) → Option (List ℕ) → Type 0
+WroteLine line fault old new = HasFront old line new × ((new ≡ append_known old line) ⊎ fault)

@@ -14,7 +14,7 @@ use Rattle.rsocket_main.specs.declared.stop.Stop.TheVariants as stops
 use Rattle.rsocket_main.specs.declared.input.Unread.{Unread}
 use Rattle.rsocket_main.specs.declared.input.Unread.TheVariants as unread
 use Rattle.command_line.specs.declared.task.Task.{Task}
-use Rattle.rsocket_main.specs.Run.{HasBadFrame, HasWrongLine, bad_frame_line, memory_line, read_fault_line, usage_line, wrong_line}
+use Rattle.rsocket_main.specs.Run.{HasBadFrame, HasWrongLine, WroteLine, bad_frame_line, memory_line, read_fault_line, usage_line, wrong_line}
 use Rattle.rsocket_main.specs.Streams.{HasFront}
 
 abbrev pub status_of : Stop → ℕ
@@ -40,14 +40,11 @@ StoppedBy task input left stops.ReadFault text = Unit {0}
 StoppedBy task input left stops.OutOfMemory text = Unit {0}
 StoppedBy task input left (stops.BadFrame place rule) text = HasBadFrame task input left place rule text
 
--- the run ended with this status and wrote all of the text; or a write failed, and a front of it is written; or memory ran out
+-- the run ended with this status and wrote all of the text; or a write failed, and a front of it is written; or memory ran out and
+-- just the line of that is written
 abbrev pub IsTold : ℕ → List ℕ → Type 0 → Option (List ℕ) → Option (List ℕ) → ℕ → Type 0
 IsTold status text fault old new result =
-    ((result ≡ status) × (new ≡ append_known old text)) ⊎ (((result ≡ 5) × (fault × HasFront old text new)) ⊎ ((result ≡ 6) × HasFront old memory_line new))
-
--- the line was written, or a write failed and a front of it is written
-abbrev pub IsInsisted : List ℕ → Type 0 → Option (List ℕ) → Option (List ℕ) → Type 0
-IsInsisted line fault old new = HasFront old line new × ((new ≡ append_known old line) ⊎ fault)
+    ((result ≡ status) × (new ≡ append_known old text)) ⊎ (((result ≡ 5) × (fault × HasFront old text new)) ⊎ ((result ≡ 6) × WroteLine memory_line fault old new))
 
 -- the faults of each part as a stop of the run
 abbrev pub of_words : WordsFault → Stop

@@ -5,9 +5,8 @@ ghost use Rattle.std.specs.Io.KnownBytes.{append_known};
 ghost use Rattle.outside.specs.Causes.{Rose};
 ghost use Rattle.command_line.specs.Words.{Asks};
 ghost use Rattle.command_line.specs.declared.task.Task.{Task};
-ghost use Rattle.rsocket_main.specs.Run.{CutOff, IsDone, IsDue, IsRight, TellsBadFrame, TellsWrongLine, Wrote, memory_line, read_fault_line, usage_line};
+ghost use Rattle.rsocket_main.specs.Run.{CutOff, IsDone, IsDue, IsRight, TellsBadFrame, TellsWrongLine, Wrote, WroteLine, memory_line, read_fault_line, usage_line};
 ghost use Rattle.rsocket_main.specs.Stops.{StoppedBy};
-ghost use Rattle.rsocket_main.specs.Streams.{HasFront};
 
 use crate::stop::Stop;
 use crate::tasks::{bytes, cable, lines};
@@ -70,7 +69,7 @@ pub fn run<I: Source, O: Sink, H: Shelf>(
     // Status 2: exactly where the words ask for nothing, but for want of memory.
     ensures usage { result ≡ 2 → (task : Task) → ¬ (Asks words.now task) }
     ensures no_task { ((task : Task) → ¬ (Asks words.now task)) → (result ≡ 2) ⊎ (result ≡ 6) }
-    ensures usage_line { result ≡ 2 → HasFront (O.told output.old) usage_line (O.told output.new) }
+    ensures usage_line { result ≡ 2 → WroteLine usage_line (Rose (O.faults output.old) (O.faults output.new)) (O.told output.old) (O.told output.new) }
 
     // Statuses 3 and 11: what is wrong with the input, and just that is told.
     ensures wrong_line { (task : Task) (text : List ℕ) → Asks words.now task → I.told input.old ≡ Some text → result ≡ 3 →
@@ -83,10 +82,10 @@ pub fn run<I: Source, O: Sink, H: Shelf>(
     ensures read_fault_line { result ≡ 4 → O.told output.new ≡ append_known (O.told output.old) read_fault_line }
     ensures write_fault { result ≡ 5 → Rose (O.faults output.old) (O.faults output.new) }
     ensures cut_off { (task : Task) (text : List ℕ) → Asks words.now task → I.told input.old ≡ Some text → result ≡ 5 →
-        CutOff (IsDue task text (I.told input.new) H.fresh (H.back shelf.old) (H.back shelf.new)) (O.told output.old) (O.told output.new) }
+        CutOff (IsDue task text (I.told input.new) (Rose (I.faults input.old) (I.faults input.new)) H.fresh (H.back shelf.old) (H.back shelf.new)) (O.told output.old) (O.told output.new) }
 
     // Status 6 is free, and just its line is written.
-    ensures memory_line { result ≡ 6 → HasFront (O.told output.old) memory_line (O.told output.new) }
+    ensures memory_line { result ≡ 6 → WroteLine memory_line (Rose (O.faults output.old) (O.faults output.new)) (O.told output.old) (O.told output.new) }
 
     // Where nothing is wrong with the input and no fault is counted, the work is done, but for want
     // of memory.

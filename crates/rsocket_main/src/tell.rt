@@ -2,8 +2,8 @@
 
 ghost use Rattle.std.specs.Prelude.{◌≡◌, ◌≢◌, ◌++◌, OnOk, decimal};
 ghost use Rattle.outside.specs.Causes.{Rose};
-ghost use Rattle.rsocket_main.specs.Run.{bad_frame_line, memory_line, usage_line, wrong_line};
-ghost use Rattle.rsocket_main.specs.Stops.{IsInsisted, IsTold, last_of, status_of};
+ghost use Rattle.rsocket_main.specs.Run.{WroteLine, bad_frame_line, memory_line, usage_line, wrong_line};
+ghost use Rattle.rsocket_main.specs.Stops.{IsTold, last_of, status_of};
 
 use crate::output::write_all;
 use crate::stop::Stop;
@@ -27,7 +27,7 @@ fn say<O: Sink>(output: &mut O, text: &[u8], status: u8) -> u8
 // Writes the last line of a run that ends with this status also where it can't be written.
 fn insist<O: Sink>(output: &mut O, line: &[u8], status: u8) -> u8
     ensures status { result ≡ status }
-    ensures line { IsInsisted line.now (Rose (O.faults output.old) (O.faults output.new)) (O.told output.old) (O.told output.new) }
+    ensures line { WroteLine line.now (Rose (O.faults output.old) (O.faults output.new)) (O.told output.old) (O.told output.new) }
 {
     let _ = write_all(output, line);
     status
@@ -35,7 +35,7 @@ fn insist<O: Sink>(output: &mut O, line: &[u8], status: u8) -> u8
 
 fn want<O: Sink>(output: &mut O) -> u8
     ensures status { result ≡ 6 }
-    ensures line { IsInsisted memory_line (Rose (O.faults output.old) (O.faults output.new)) (O.told output.old) (O.told output.new) }
+    ensures line { WroteLine memory_line (Rose (O.faults output.old) (O.faults output.new)) (O.told output.old) (O.told output.new) }
 {
     insist(output, b"rsocket: out of memory\n", 6)
 }
@@ -81,8 +81,8 @@ pub fn tell_done<O: Sink>(output: &mut O, text: &[u8]) -> u8
 pub fn tell_stop<O: Sink>(output: &mut O, text: &mut Vec<u8>, stop: Stop) -> u8
     ensures told { stop ≢ Stop.Usage → stop ≢ Stop.OutOfMemory →
         IsTold (status_of stop) (last_of stop text.old.items) (Rose (O.faults output.old) (O.faults output.new)) (O.told output.old) (O.told output.new) result }
-    ensures usage { stop ≡ Stop.Usage → (result ≡ 2) × IsInsisted usage_line (Rose (O.faults output.old) (O.faults output.new)) (O.told output.old) (O.told output.new) }
-    ensures want { stop ≡ Stop.OutOfMemory → (result ≡ 6) × IsInsisted memory_line (Rose (O.faults output.old) (O.faults output.new)) (O.told output.old) (O.told output.new) }
+    ensures usage { stop ≡ Stop.Usage → (result ≡ 2) × WroteLine usage_line (Rose (O.faults output.old) (O.faults output.new)) (O.told output.old) (O.told output.new) }
+    ensures want { stop ≡ Stop.OutOfMemory → (result ≡ 6) × WroteLine memory_line (Rose (O.faults output.old) (O.faults output.new)) (O.told output.old) (O.told output.new) }
 {
     match stop {
         Stop::Usage => insist(output, b"rsocket: usage\n", 2),

@@ -12,7 +12,8 @@ returns-clause-bad_frame g c = λ task text asks is eleven.
 
 pub returns-clause-cut_off : goal.returns-clause-cut_off
 returns-clause-cut_off g c = λ task text asks is five.
-    told_front task text _ _ _ _ c.in-Err.stop _ _ _ _ _ (record { by = c.in-Err.ensures.stopped task text asks is; told = c.tell_stop.ensures.told; want = λ e. (c.tell_stop.ensures.want e).0 }) five
+    told_front task text _ _ _ _ _ c.in-Err.stop _ _ _ _ _ (record { by = c.in-Err.ensures.stopped task text asks is; told = c.tell_stop.ensures.told; want = λ e. (c.tell_stop.ensures.want e).0 })
+    (λ e. c.in-Err.ensures.read_fault (ap Err e)) five
 
 pub returns-clause-complete : goal.returns-clause-complete
 returns-clause-complete g c = λ task text asks is right read_quiet write_quiet.
