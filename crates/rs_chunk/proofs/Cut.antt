@@ -7,7 +7,8 @@ use Rattle.byteorder.specs.Endian.{big_bytes}
 use Rattle.byteorder.specs.Numbers.{big_from-lt}
 use Rattle.rs_frame.proofs.Bytes.{IsBytes}
 use Rattle.rs_frame.proofs.Fields.{number_front}
-use Rattle.rs_chunk.specs.Stream.{framed, first_length, first_frame, after_frame, HasFrame, IsCut}
+use Rattle.rs_frame.specs.Framed.{framed}
+use Rattle.rs_chunk.specs.Stream.{first_length, first_frame, after_frame, HasFrame, IsCut}
 
 length-first_frame : (bytes : List ℕ) → HasFrame bytes → length (first_frame bytes) ≡ first_length bytes
 length-first_frame bytes has = omega (arith, has.1, length-take (first_length bytes) (drop 3 bytes), length-drop 3 bytes)

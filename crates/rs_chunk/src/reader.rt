@@ -1,7 +1,8 @@
 //! The bytes that came, and the frame at their front.
 
 ghost use Rattle.std.specs.Prelude.{◌≡◌, ◌+◌, ◌*◌, ◌≤◌, ◌++◌, [], ◌∷◌, ℕ, List, length, drop, vec_len, OnOk, OnErr};
-ghost use Rattle.rs_chunk.specs.Stream.{HasFrame, IsCut, IsFront, IsWhole, Reads, after_frame, first_frame, first_length, framed};
+ghost use Rattle.rs_frame.specs.Framed.{framed};
+ghost use Rattle.rs_chunk.specs.Stream.{HasFrame, IsCut, IsFront, IsWhole, Reads, after_frame, first_frame, first_length};
 
 use byteorder::{BigEndian, ByteOrder};
 use rs_wire::OutOfMemory;
@@ -47,7 +48,7 @@ pub enum Front<'a> {
 }
 
 impl Reader {
-    /// A reader to which no byte came, of frames of at most `max_in` bytes. Takes no memory.
+    /// A reader to which no byte came, of frames of at most `max_in` bytes.
     pub fn new(alloc: Global, max_in: u32) -> Reader
         ensures { result ≡ record { bytes = []; max_in = max_in } }
     {
@@ -71,7 +72,7 @@ impl Reader {
         Ok(())
     }
 
-    /// What stands at the front. Takes no memory.
+    /// What stands at the front.
     pub fn front(&self) -> Front<'_>
         ensures front { IsFront self.now.bytes self.now.max_in result }
 
@@ -83,7 +84,7 @@ impl Reader {
     }
 
     /// Drops the frame at the front, which is whole and within the limit: [`Reader::front`] is the
-    /// test. Takes no memory. All calls together move at most as many bytes as they pass.
+    /// test. All calls together move at most as many bytes as they pass.
     pub fn pass(&mut self)
         requires { IsWhole self.old.bytes self.old.max_in }
         ensures rest { self.new ≡ record self.old { bytes = after_frame self.old.bytes } }

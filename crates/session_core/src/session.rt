@@ -2,7 +2,7 @@
 
 ghost use Rattle.std.specs.Prelude.{◌≡◌, ◌≢◌, ◌==◌, ◌<◌, ◌≤◌, ◌^◌, ◌↔◌, [], ℕ, List, Some, IfErr, IfOk, drop, length, not, reverse, take};
 ghost use Rattle.std.specs.Option.{option_copied};
-ghost use Rattle.rs_chunk.specs.Framed.{framed_all};
+ghost use Rattle.rs_frame.specs.Framed.{framed_all};
 ghost use Rattle.tape.specs.declared.entry.Entry.{Entry as Line};
 ghost use Rattle.session_model.specs.Life.{carrying, closed, live, setup};
 ghost use Rattle.session_model.specs.Frames.{drawn, due, queued};

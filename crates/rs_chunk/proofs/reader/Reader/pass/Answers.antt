@@ -1,5 +1,6 @@
 use Rattle.std.proofs.Common.{◌≡◌, ℕ, List, ◌-◌, ◌∷◌, [], ◌++◌, length, take, drop, sym, ap, subst, ◌∙◌}
-use Rattle.rs_chunk.specs.Stream.{IsCut, after_frame, first_frame, first_length, framed}
+use Rattle.rs_frame.specs.Framed.{framed}
+use Rattle.rs_chunk.specs.Stream.{IsCut, after_frame, first_frame, first_length}
 use Rattle.rs_chunk.proofs.Cut.{after, slice_left}
 use Rattle.rs_chunk.proofs.reader.Reader.pass.Goals as goal
 
