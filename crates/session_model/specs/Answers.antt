@@ -28,14 +28,12 @@ use Rattle.tape.specs.declared.answer.Answer.TheVariants as answer
 use Rattle.tape.specs.declared.entry.Entry.{Entry}
 use Rattle.position.specs.Boundaries.{pos}
 use Rattle.session_model.specs.Life.{openings, live, is_live, carrying, begun, setup, closed}
-use Rattle.session_model.specs.Streams.{Known, known, next_id, is_peers_next}
+use Rattle.session_model.specs.declared.facts.Counted.{Counted}
+use Rattle.session_model.specs.declared.facts.Known.{Known}
+use Rattle.session_model.specs.Streams.{known, next_id, is_peers_next}
 use Rattle.session_model.specs.Frames.{request_frame, made, handled, queued}
 
--- the frames of one way: how many, and the position after them
-pub record Counted : Type 0 where
-  pub frames : ℕ
-  pub position : ℕ
-
+-- how many frames there are, and the position after them
 abbrev pub counted : List Frame → Counted
 counted fs = record { frames = length fs; position = pos fs }
 

@@ -15,7 +15,8 @@ use Rattle.tape.specs.declared.answer.Answer.TheVariants as answer
 use Rattle.tape.specs.declared.entry.Entry.{Entry}
 use Rattle.session_model.specs.Lists.{first_of}
 use Rattle.session_model.specs.Life.{openings, live, live_after, is_live}
-use Rattle.session_model.specs.Streams.{Known, known}
+use Rattle.session_model.specs.declared.facts.Known.{Known}
+use Rattle.session_model.specs.Streams.{known}
 
 -- the SETUP of a client: version 1.0, its intervals, its token where it resumes, its MIME texts, no payload
 abbrev pub setup_frame : Settings → Frame

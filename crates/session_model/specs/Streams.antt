@@ -10,11 +10,7 @@ use Rattle.tape.specs.declared.event.Event.TheVariants as event
 use Rattle.tape.specs.declared.answer.Answer.{Answer}
 use Rattle.tape.specs.declared.answer.Answer.TheVariants as answer
 use Rattle.tape.specs.declared.entry.Entry.{Entry}
-
--- the largest ids that this end and its peer opened, 0 for none
-pub record Known : Type 0 where
-  pub own : ℕ
-  pub peer : ℕ
+use Rattle.session_model.specs.declared.facts.Known.{Known}
 
 -- the id that an entry opens for this end, 0 for none
 abbrev pub own_in : Answer → ℕ
@@ -30,6 +26,7 @@ peer_in _ _ = 0
 abbrev pub known_after : Known → Answer → Event → Known
 known_after t a e = record { own = max t.own (own_in a); peer = max t.peer (peer_in a e) }
 
+-- what is known of the streams
 unfoldable pub known : Settings → List Entry → Known
 known g [] = record { own = 0; peer = 0 }
 known g (x ∷ past) = known_after (known g past) x.answer x.event
