@@ -1,5 +1,5 @@
 -- Each answer has its meaning.
-use Rattle.std.proofs.Common.{◌≡◌, List, ◌∷◌, subst, sym, arith}
+use Rattle.std.proofs.Common.{List, ◌∷◌, subst, sym, arith}
 use Rattle.std.proofs.lemmas.Grind.{common_steps}
 use Rattle.rs_wire.specs.declared.settings.Settings.{Settings}
 use Rattle.tape.specs.declared.entry.Entry.{Entry}
