@@ -10,10 +10,11 @@ use rs_frame::Frame;
 use session_model::Counted;
 
 /// Counts one more frame.
+#[tactic(auto, using(crate::proofs::Sums::pos_one))]
 pub fn count(counted: &mut Counted, frame: &Frame)
     requires spellable { IsSpellable frame.now }
     requires frames { counted.old.frames < 2 ^ 63 }
-    requires position { counted.old.position + length_of frame.now < 2 ^ 63 }
+    requires position { counted.old.position < 2 ^ 63 }
     ensures { counted.new ≡ more_counted counted.old (frame.now ∷ []) }
 {
     counted.frames += 1;
@@ -21,6 +22,7 @@ pub fn count(counted: &mut Counted, frame: &Frame)
 }
 
 /// Counts these frames too.
+#[tactic(auto, using(crate::proofs::Sums::pos_append))]
 pub fn count_all(counted: &mut Counted, frames: &[Frame])
     requires spellable { AllByRecursion IsSpellable frames.now }
     requires frames { counted.old.frames + length frames.now < 2 ^ 63 }
