@@ -1,7 +1,7 @@
 -- The frame in front, and what follows it.
-use Rattle.std.proofs.Common.{◌≡◌, ℕ, ◌+◌, ◌^◌, ◌<◌, List, [], ◌∷◌, ◌++◌, length, take, drop, sym, ap, ◌∙◌, ◌-◌, append_assoc, arith}
+use Rattle.std.proofs.Common.{◌≡◌, ℕ, ◌^◌, ◌<◌, List, [], ◌∷◌, ◌++◌, length, drop, sym, ap, ◌∙◌, append_assoc, arith}
 use Rattle.std.specs.List.{flat_map, AllByRecursion}
-use Rattle.std.proofs.lemmas.List.{take-append-drop, length-take, length-drop, append-nil, drop-drop, take_rest}
+use Rattle.std.proofs.lemmas.List.{take-append-drop, length-take, length-drop, append-nil}
 use Rattle.std.proofs.lemmas.List.Concat.{flat_map-append, flat_map-cons}
 use Rattle.byteorder.specs.Endian.{big_bytes}
 use Rattle.byteorder.specs.Numbers.{big_from-lt}
@@ -36,15 +36,3 @@ passes bytes h has fed passed was =
       whole = was.whole ∙ ap (λ (t : List ℕ). flat_map framed passed ++ t) (cut bytes h has) ∙ sym (snoc passed (first_frame bytes) (after_frame bytes));
       fit = all_snoc passed (first_frame bytes) was.fit (omega (arith, length-first_frame bytes has, big_from-lt 0 3 bytes h));
     }
-
--- bytes that stand behind others, and what follows the frame at their front
-pub after : (all bytes rest : List ℕ) (start n : ℕ) → bytes ≡ drop start all → n ≡ first_length bytes → rest ≡ drop (start + 3 + n) all → rest ≡ after_frame bytes
-after all bytes rest start n bytes_are n_is rest_is =
-    rest_is
-    ∙ sym (drop-drop n (start + 3) all)
-    ∙ ap (λ (t : List ℕ). drop n t) (sym (drop-drop 3 start all) ∙ ap (λ (t : List ℕ). drop 3 t) (sym bytes_are))
-    ∙ ap (λ (k : ℕ). drop k (drop 3 bytes)) n_is
-
--- the slice that a reader looks at has the bytes left
-pub slice_left : (all seen bytes : List ℕ) (start : ℕ) → seen ≡ all → bytes ≡ drop start all → take (length seen - start) (drop start seen) ≡ bytes
-slice_left all seen bytes start seen_is bytes_are = take_rest seen start ∙ ap (λ (t : List ℕ). drop start t) seen_is ∙ sym bytes_are
