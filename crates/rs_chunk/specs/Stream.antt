@@ -2,8 +2,8 @@
 use Rattle.std.specs.Prelude.{◌≡◌, ℕ, ◌+◌, ◌<◌, ◌≤◌, ◌^◌, List, ◌++◌, length, take, drop}
 use Rattle.std.specs.List.{flat_map, AllByRecursion}
 use Rattle.byteorder.specs.Endian.{big_bytes, big_number}
-use Rattle.rs_chunk.specs.declared.reader.Front.{Front}
-use Rattle.rs_chunk.specs.declared.reader.Front.TheVariants.{Whole, TooLong, Part}
+use Rattle.rs_chunk.specs.declared.front.Front.{Front}
+use Rattle.rs_chunk.specs.declared.front.Front.TheVariants.{Whole, TooLong, Part}
 
 -- a frame after its length
 abbrev pub framed : List ℕ → List ℕ

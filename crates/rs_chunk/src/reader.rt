@@ -3,13 +3,13 @@
 ghost use Rattle.std.specs.Prelude.{◌≡◌, ◌+◌, ◌≤◌, ◌++◌, [], ◌∷◌, ℕ, List, length, OnOk, OnErr};
 ghost use Rattle.rs_chunk.specs.Stream.{HasFrame, IsCut, IsFront, IsWhole, Reads, after_frame, first_frame, first_length, framed};
 
+use crate::front::{Front, front_of, split_frame};
 use byte_queue::ByteQueue;
-use byteorder::{BigEndian, ByteOrder};
 use rs_wire::OutOfMemory;
 use std::alloc::Global;
 use std::marker::Model;
 
-/// The bytes that came and were not passed, and how long a frame may be. Contracts see just these:
+/// The bytes that came and were not passed, and how long a frame may be. Contracts see these two:
 /// `bytes` and `max_in`.
 #[derive(Drop)]
 pub struct Reader {
@@ -27,19 +27,8 @@ impl Model for Reader {
     ghost view = { λ r. record { bytes = r.bytes.bytes; max_in = r.max_in } };
 }
 
-/// What stands at the front of the bytes left.
-#[derive(Clone, Copy)]
-pub enum Front<'a> {
-    /// The first frame, whole and within the limit, without its length.
-    Whole(&'a [u8]),
-    /// The length of the first frame, in bytes, which is above the limit. It can never be passed.
-    TooLong(u32),
-    /// Too few bytes to tell, or a frame within the limit that is not whole yet.
-    Part,
-}
-
 impl Reader {
-    /// A reader to which no byte came, of frames of at most `max_in` bytes. Takes no memory.
+    /// A reader to which no byte came, of frames of at most `max_in` bytes.
     pub fn new(alloc: Global, max_in: u32) -> Reader
         ensures { result ≡ record { bytes = []; max_in = max_in } }
     {
@@ -61,7 +50,7 @@ impl Reader {
         self.bytes.append(piece)
     }
 
-    /// What stands at the front. Takes no memory.
+    /// What the bytes left begin with.
     pub fn front(&self) -> Front<'_>
         ensures front { IsFront self.now.bytes self.now.max_in result }
 
@@ -73,7 +62,7 @@ impl Reader {
     }
 
     /// Drops the frame at the front, which is whole and within the limit: [`Reader::front`] is the
-    /// test. Takes no memory. All calls together move at most as many bytes as they pass.
+    /// test. All calls together move at most as many bytes as they pass.
     pub fn pass(&mut self)
         requires { IsWhole self.old.bytes self.old.max_in }
         ensures rest { self.new ≡ record self.old { bytes = after_frame self.old.bytes } }
@@ -84,37 +73,9 @@ impl Reader {
             IsCut fed passed self.old.bytes →
             IsCut fed (passed ++ first_frame self.old.bytes ∷ []) self.new.bytes }
     {
-        let passed = 3 + frame_length(self.bytes.as_slice());
-        self.bytes.drop_front(passed);
-    }
-}
-
-// The length that the bytes begin with, and what it cuts off.
-fn frame_length(bytes: &[u8]) -> usize
-    requires { HasFrame bytes.now }
-    ensures value { result ≡ first_length bytes.now }
-    ensures fits { result + 3 ≤ length bytes.now }
-    ensures cut { bytes.now ≡ framed (first_frame bytes.now) ++ after_frame bytes.now }
-    ensures passes { (fed : List ℕ) (passed : List (List ℕ)) →
-        IsCut fed passed bytes.now →
-        IsCut fed (passed ++ first_frame bytes.now ∷ []) (after_frame bytes.now) }
-{
-    BigEndian::read_u24(bytes) as usize
-}
-
-fn front_of(bytes: &[u8], max_in: u32) -> Front<'_>
-    ensures front { IsFront bytes.now max_in result }
-    ensures no_more { result ≡ Front.Part → ¬ (HasFrame bytes.now) }
-{
-    if bytes.len() < 3 {
-        return Front::Part;
-    }
-    let length = BigEndian::read_u24(bytes);
-    if length > max_in {
-        return Front::TooLong(length);
-    }
-    match bytes[3..].get(..length as usize) {
-        Some(frame) => Front::Whole(frame),
-        None => Front::Part,
+        if let Some((frame, _)) = split_frame(self.bytes.as_slice()) {
+            let passed = 3 + frame.len();
+            self.bytes.drop_front(passed);
+        }
     }
 }

@@ -1,12 +1,11 @@
 -- Lower-case hex, and the bytes that it spells.
-use Rattle.std.proofs.Common.{◌≡◌, ℕ, zero, suc, ◌+◌, ◌-◌, ◌*◌, ◌/◌, ◌%◌, ◌<◌, ◌==◌, Bool, true, false, ◌&&◌, ◌||◌, nat_lt, nat_le, if◌then◌else◌, List, [], ◌∷◌, length, slice_index, refl, sym, ap, subst, ◌∙◌, arith, inl, inr}
+use Rattle.std.proofs.Common.{◌≡◌, ℕ, zero, suc, ◌+◌, ◌-◌, ◌*◌, ◌/◌, ◌%◌, ◌<◌, ◌==◌, Bool, true, false, ◌&&◌, ◌||◌, nat_lt, nat_le, if◌then◌else◌, List, [], ◌∷◌, length, slice_index, Result, Ok, refl, sym, ap, subst, ◌∙◌, arith, inl, inr}
 use Rattle.std.specs.List.{list_all}
 use Rattle.std.proofs.lemmas.Bool.{and_parts, cases_lt, eqb-true}
 use Rattle.std.proofs.lemmas.Bool.Decides.{nat_tests}
 use Rattle.hex.specs.Hex.{IsBytes, decode_of, encode_lower, encode_with, lower_digits}
 use Rattle.hex.proofs.HexLemmas.{decode_of-encode_lower, length-encode_with}
-use Rattle.frame_text.specs.Words.{blob_word}
-use Rattle.frame_text.specs.Spelled.{bytes_of, decoded, is_blob, is_dot, is_lower}
+use Rattle.plain_text.specs.Words.{decoded, hex_bytes, hex_word, is_hex_word, is_lower, is_mark, is_pairs}
 
 -- ---- a digit
 
@@ -87,7 +86,7 @@ pairs_back (h ∷ l ∷ rest) even lower =
     let low = value_fits l b.0 in
     (pair_back h l rest (pairs rest) a.0 b.0 others.0, IsBytes-cons (value h * 16 + value l) (pairs rest) (omega (arith, high.0, low.0)) others.1)
 
-pub encode_is_lower : (bytes : List ℕ) → IsBytes bytes → list_all is_lower (encode_lower bytes) ≡ true
+encode_is_lower : (bytes : List ℕ) → IsBytes bytes → list_all is_lower (encode_lower bytes) ≡ true
 unfolding encode_with
 encode_is_lower [] all = refl
 encode_is_lower (b ∷ bytes) all =
@@ -101,9 +100,9 @@ encode_is_lower (b ∷ bytes) all =
 tests : (n : ℕ) (d v : Bool) → d ≡ false → (d || ((nat_lt 0 n && (n % 2 == 0)) && v)) ≡ true → (0 < n) × (n % 2 ≡ 0) × (v ≡ true)
 tests n d v not_dash all = (grind (arith, nat_tests), grind (arith, nat_tests), grind (arith, nat_tests))
 
--- ---- blobs
+-- ---- words of bytes
 
-pub pick : (b : Bool) (x y : List ℕ) → b ≡ false → (if b then x else y) ≡ y
+pick : (b : Bool) (x y : List ℕ) → b ≡ false → (if b then x else y) ≡ y
 pick true x y e = absurd cc
 pick false x y e = refl
 
@@ -111,65 +110,90 @@ pick_first : (b : Bool) (x y : List ℕ) → b ≡ true → (if b then x else y)
 pick_first true x y e = refl
 pick_first false x y e = absurd cc
 
-pub no_bytes : (word : List ℕ) → is_dot word ≡ true → bytes_of word ≡ []
-unfolding bytes_of
-no_bytes word dot = pick_first (is_dot word) [] (decoded (decode_of word)) dot
+pub no_bytes : (mark : ℕ) (word : List ℕ) → is_mark mark word ≡ true → hex_bytes mark word ≡ []
+unfolding hex_bytes
+no_bytes mark word is = pick_first (is_mark mark word) [] (decoded (decode_of word)) is
 
-pairs_of : (word : List ℕ) → is_dot word ≡ false → is_blob word ≡ true → bytes_of word ≡ pairs word
-unfolding bytes_of
-pairs_of word not_dot is =
-    let t = tests (length word) (is_dot word) (list_all is_lower word) not_dot is in
+pairs_of : (mark : ℕ) (word : List ℕ) → is_mark mark word ≡ false → is_hex_word mark word ≡ true → hex_bytes mark word ≡ pairs word
+unfolding hex_bytes
+pairs_of mark word no_mark is =
+    let t = tests (length word) (is_mark mark word) (list_all is_lower word) no_mark is in
     let back = pairs_back word t.1 t.2 in
-    pick (is_dot word) [] (decoded (decode_of word)) not_dot ∙ ap decoded (ap decode_of (sym back.0) ∙ decode_of-encode_lower (pairs word) back.1)
+    pick (is_mark mark word) [] (decoded (decode_of word)) no_mark ∙ ap decoded (ap decode_of (sym back.0) ∙ decode_of-encode_lower (pairs word) back.1)
 
 -- half as many bytes as digits
-pub half : (word : List ℕ) → is_dot word ≡ false → is_blob word ≡ true → length word / 2 ≡ length (bytes_of word)
-half word not_dot is =
-    let t = tests (length word) (is_dot word) (list_all is_lower word) not_dot is in
+pub half : (mark : ℕ) (word : List ℕ) → is_mark mark word ≡ false → is_hex_word mark word ≡ true → length word / 2 ≡ length (hex_bytes mark word)
+half mark word no_mark is =
+    let t = tests (length word) (is_mark mark word) (list_all is_lower word) no_mark is in
     let back = pairs_back word t.1 t.2 in
     let len = length-encode_with lower_digits (pairs word) in
     let whole : length (encode_lower (pairs word)) ≡ length word = ap (λ (w : List ℕ). length w) back.0 in
-    let bytes : length (bytes_of word) ≡ length (pairs word) = ap (λ (w : List ℕ). length w) (pairs_of word not_dot is) in
+    let bytes : length (hex_bytes mark word) ≡ length (pairs word) = ap (λ (w : List ℕ). length w) (pairs_of mark word no_mark is) in
     omega (arith, len, whole, bytes)
 
-lower_blob : (word : List ℕ) → 0 < length word → length word % 2 ≡ 0 → list_all is_lower word ≡ true → word ≡ blob_word (pairs word)
-lower_blob [] some even lower = absurd (omega arith)
-lower_blob (h ∷ []) some even lower = absurd (omega arith)
-lower_blob (h ∷ l ∷ rest) some even lower = sym (pairs_back (h ∷ l ∷ rest) even lower).0
+lower_word : (mark : ℕ) (word : List ℕ) → 0 < length word → length word % 2 ≡ 0 → list_all is_lower word ≡ true → word ≡ hex_word mark (pairs word)
+lower_word mark [] some even lower = absurd (omega arith)
+lower_word mark (h ∷ []) some even lower = absurd (omega arith)
+lower_word mark (h ∷ l ∷ rest) some even lower = sym (pairs_back (h ∷ l ∷ rest) even lower).0
 
-dot_is : (word : List ℕ) → is_dot word ≡ true → word ≡ blob_word []
-dot_is [] is = absurd cc
-dot_is (b ∷ []) is = ap (λ (d : ℕ). d ∷ []) (eqb-true b 46 is)
-dot_is (b ∷ d ∷ word) is =
-    let one : suc (suc (length word)) ≡ 1 = eqb-true _ _ (and_parts (length (b ∷ d ∷ word) == 1) (b == 46) is).0 in
+mark_is : (mark : ℕ) (word : List ℕ) → is_mark mark word ≡ true → word ≡ hex_word mark []
+mark_is mark [] is = absurd cc
+mark_is mark (b ∷ []) is = ap (λ (d : ℕ). d ∷ []) (eqb-true b mark is)
+mark_is mark (b ∷ d ∷ word) is =
+    let one : suc (suc (length word)) ≡ 1 = eqb-true _ _ (and_parts (length (b ∷ d ∷ word) == 1) (b == mark) is).0 in
     absurd (omega (arith, one))
 
 -- a word that passes the test is the text of its bytes
-pub blob_back : (word : List ℕ) → is_blob word ≡ true → word ≡ blob_word (bytes_of word)
-blob_back word is = elim (is_dot word) as (λ v. is_dot word ≡ v → word ≡ blob_word (bytes_of word)) [
-  | true ↦ λ dot. dot_is word dot ∙ ap blob_word (sym (no_bytes word dot))
-  | false ↦ λ not_dot.
-      let t = tests (length word) (is_dot word) (list_all is_lower word) not_dot is in
-      lower_blob word t.0 t.1 t.2 ∙ ap blob_word (sym (pairs_of word not_dot is))
+pub hex_back : (mark : ℕ) (word : List ℕ) → is_hex_word mark word ≡ true → word ≡ hex_word mark (hex_bytes mark word)
+hex_back mark word is = elim (is_mark mark word) as (λ v. is_mark mark word ≡ v → word ≡ hex_word mark (hex_bytes mark word)) [
+  | true ↦ λ no. mark_is mark word no ∙ ap (hex_word mark) (sym (no_bytes mark word no))
+  | false ↦ λ some.
+      let t = tests (length word) (is_mark mark word) (list_all is_lower word) some is in
+      lower_word mark word t.0 t.1 t.2 ∙ ap (hex_word mark) (sym (pairs_of mark word some is))
 ] refl
 
 -- and its bytes are bytes
-pub blob_bytes : (word : List ℕ) → is_blob word ≡ true → IsBytes (bytes_of word)
-blob_bytes word is = elim (is_dot word) as (λ v. is_dot word ≡ v → IsBytes (bytes_of word)) [
-  | true ↦ λ dot.
+pub hex_are_bytes : (mark : ℕ) (word : List ℕ) → is_hex_word mark word ≡ true → IsBytes (hex_bytes mark word)
+hex_are_bytes mark word is = elim (is_mark mark word) as (λ v. is_mark mark word ≡ v → IsBytes (hex_bytes mark word)) [
+  | true ↦ λ no.
       let none : IsBytes [] = λ i. omega arith in
-      subst IsBytes (sym (no_bytes word dot)) none
-  | false ↦ λ not_dot.
-      let t = tests (length word) (is_dot word) (list_all is_lower word) not_dot is in
-      subst IsBytes (sym (pairs_of word not_dot is)) (pairs_back word t.1 t.2).1
+      subst IsBytes (sym (no_bytes mark word no)) none
+  | false ↦ λ some.
+      let t = tests (length word) (is_mark mark word) (list_all is_lower word) some is in
+      subst IsBytes (sym (pairs_of mark word some is)) (pairs_back word t.1 t.2).1
 ] refl
 
 tested : (n : ℕ) (d v : Bool) → 0 < n → n % 2 ≡ 0 → v ≡ true → (d || ((nat_lt 0 n && (n % 2 == 0)) && v)) ≡ true
 tested n d v some even all = grind (arith, nat_tests)
 
+own_mark : (mark : ℕ) → is_hex_word mark (mark ∷ []) ≡ true
+own_mark mark = grind (arith, nat_tests)
+
 -- the text of bytes passes the test
-pub blob_again : (bytes : List ℕ) → IsBytes bytes → is_blob (blob_word bytes) ≡ true
-blob_again [] all = refl
-blob_again (b ∷ bytes) all =
+pub hex_again : (mark : ℕ) (bytes : List ℕ) → IsBytes bytes → is_hex_word mark (hex_word mark bytes) ≡ true
+hex_again mark [] all = own_mark mark
+hex_again mark (b ∷ bytes) all =
     let len = length-encode_with lower_digits (b ∷ bytes) in
-    tested (length (encode_lower (b ∷ bytes))) (is_dot (encode_lower (b ∷ bytes))) (list_all is_lower (encode_lower (b ∷ bytes))) (omega (arith, len)) (omega (arith, len)) (encode_is_lower (b ∷ bytes) all)
+    tested (length (encode_lower (b ∷ bytes))) (is_mark mark (encode_lower (b ∷ bytes))) (list_all is_lower (encode_lower (b ∷ bytes))) (omega (arith, len)) (omega (arith, len)) (encode_is_lower (b ∷ bytes) all)
+
+-- ---- one reading
+
+same_ok : {E : Type 0} (r : Result (List ℕ) E) (a b : List ℕ) → r ≡ Ok a → r ≡ Ok b → a ≡ b
+same_ok r a b p q = cc
+
+no_mark : (mark b : ℕ) (bytes : List ℕ) → mark ∷ [] ≡ encode_lower (b ∷ bytes) → ⊥
+no_mark mark b bytes e =
+    let len : length (encode_lower (b ∷ bytes)) ≡ 2 * length (b ∷ bytes) = length-encode_with lower_digits (b ∷ bytes) in
+    let one : 1 ≡ length (encode_lower (b ∷ bytes)) = ap (λ (t : List ℕ). length t) e in
+    absurd (omega (arith, len, one))
+
+-- a word is the text of one list of bytes
+pub one_hex : (mark : ℕ) (a b : List ℕ) → IsBytes a → IsBytes b → hex_word mark a ≡ hex_word mark b → a ≡ b
+one_hex mark [] [] p q e = refl
+one_hex mark [] (b ∷ bytes) p q e = absurd (no_mark mark b bytes e)
+one_hex mark (a ∷ bytes) [] p q e = absurd (no_mark mark a bytes (sym e))
+one_hex mark (a ∷ rest) (b ∷ bs) p q e = same_ok (decode_of (encode_lower (a ∷ rest))) (a ∷ rest) (b ∷ bs) (decode_of-encode_lower (a ∷ rest) p) (ap decode_of e ∙ decode_of-encode_lower (b ∷ bs) q)
+
+-- what the digits decode to
+pub spelled : (mark : ℕ) (word bytes : List ℕ) → is_hex_word mark word ≡ true → bytes ≡ hex_bytes mark word → (word ≡ hex_word mark bytes) × IsBytes bytes
+spelled mark word bytes is bytes_are = (hex_back mark word is ∙ ap (hex_word mark) (sym bytes_are), subst IsBytes (sym bytes_are) (hex_are_bytes mark word is))

@@ -5,15 +5,15 @@ use Rattle.std.specs.Str.Parse.{digits_value}
 use Rattle.std.proofs.lemmas.Fmt.{decimal_is_IsNumeral}
 use Rattle.std.proofs.lemmas.Bool.{leb-true, le-leb}
 use Rattle.std.proofs.lemmas.Slice.Eq.{bytes_eq-Decides}
-use Rattle.frame_text.specs.Spelled.{number_of}
+use Rattle.plain_text.specs.Words.{number_in}
 
 and_true : (a b : Bool) → (a && b) ≡ true → (a ≡ true) × (b ≡ true)
 and_true true b e = (refl, e)
 and_true false b e = absurd cc
 
 -- what a number's word reads as
-pub number_again : (low high n : ℕ) → n < 2 ^ 64 → low ≤ n → n ≤ high → number_of low high (decimal n) ≡ Some n
-unfolding number_of
+pub number_again : (low high n : ℕ) → n < 2 ^ 64 → low ≤ n → n ≤ high → number_in low high (decimal n) ≡ Some n
+unfolding number_in
 number_again low high n small l h =
     let v : digits_value 10 (decimal n) ≡ n = (decimal_is_IsNumeral n small).1 in
     let t : bytes_eq (decimal n) (decimal n) ≡ true = (bytes_eq-Decides (decimal n) (decimal n)).1 refl in
@@ -26,8 +26,8 @@ tested true v n e = (refl, cc)
 tested false v n e = absurd cc
 
 -- what reads as a number is its word
-pub number_takes : (low high : ℕ) (word : List ℕ) (n : ℕ) → number_of low high word ≡ Some n → (word ≡ decimal n) × (low ≤ n) × (n ≤ high)
-unfolding number_of
+pub number_takes : (low high : ℕ) (word : List ℕ) (n : ℕ) → number_in low high word ≡ Some n → (word ≡ decimal n) × (low ≤ n) × (n ≤ high)
+unfolding number_in
 number_takes low high word n e =
     let v = digits_value 10 word in
     let t = tested ((bytes_eq (decimal v) word && leb low v) && leb v high) v n e in
@@ -41,11 +41,11 @@ none_from None h = refl
 none_from (Some n) h = absurd (h n refl)
 
 -- what a search of the number answered
-pub some_is : (low high n : ℕ) (word : List ℕ) → n < 2 ^ 64 → word ≡ decimal n → low ≤ n → n ≤ high → Some n ≡ number_of low high word
-some_is low high n word small e l h = sym (ap (number_of low high) e ∙ number_again low high n small l h)
+pub some_is : (low high n : ℕ) (word : List ℕ) → n < 2 ^ 64 → word ≡ decimal n → low ≤ n → n ≤ high → Some n ≡ number_in low high word
+some_is low high n word small e l h = sym (ap (number_in low high) e ∙ number_again low high n small l h)
 
-pub none_is : (low high : ℕ) (word : List ℕ) → ((n : ℕ) → low ≤ n → n ≤ high → word ≡ decimal n → ⊥) → None ≡ number_of low high word
-none_is low high word h = sym (none_from (number_of low high word) (λ n e. let t = number_takes low high word n e in h n t.1 t.2 t.0))
+pub none_is : (low high : ℕ) (word : List ℕ) → ((n : ℕ) → low ≤ n → n ≤ high → word ≡ decimal n → ⊥) → None ≡ number_in low high word
+none_is low high word h = sym (none_from (number_in low high word) (λ n e. let t = number_takes low high word n e in h n t.1 t.2 t.0))
 
 pub decimal_same : (m n : ℕ) → m < 2 ^ 64 → n < 2 ^ 64 → decimal m ≡ decimal n → m ≡ n
 decimal_same m n a b e = sym (decimal_is_IsNumeral m a).1 ∙ ap (digits_value 10) e ∙ (decimal_is_IsNumeral n b).1
