@@ -9,7 +9,7 @@ ghost use Rattle.frame_text.specs.Lines.{line_of};
 ghost use Rattle.capture.specs.Captured.{IsBadAt, IsCapture, IsWrong, WroteLines, all_lines, ended, longest};
 ghost use Rattle.capture.specs.declared.lines.CaptureFault.TheVariants as faults;
 
-use byteorder::{BigEndian, ByteOrder};
+use rs_chunk::split_frame;
 use rs_frame::{Frame, FrameFault, decode, rule_number};
 use rs_wire::OutOfMemory;
 use std::alloc::Global;
@@ -129,22 +129,4 @@ fn put_ended(frame: &Frame, out: &mut Vec<u8>) -> Result<(), OutOfMemory>
         return Err(OutOfMemory);
     }
     Ok(())
-}
-
-// The frame at the front, without its length, and what follows it.
-fn split_frame(bytes: &[u8]) -> Option<(&[u8], &[u8])>
-    ensures some { IfSome result (λ cut. HasFrame bytes.now × (cut.0.now ≡ first_frame bytes.now) × (cut.1.now ≡ after_frame bytes.now)) }
-    ensures passes { IfSome result (λ cut. (all : List ℕ) (frames : List (List ℕ)) → IsCut all frames bytes.now → IsCut all (frames ++ cut.0.now ∷ []) cut.1.now) }
-    ensures fits { IfSome result (λ cut. length cut.0.now < 2 ^ 24) }
-    ensures none { result ≡ None → ¬ (HasFrame bytes.now) }
-{
-    if bytes.len() < 3 {
-        return None;
-    }
-    let length = BigEndian::read_u24(bytes) as usize;
-    let behind = &bytes[3..];
-    if behind.len() < length {
-        return None;
-    }
-    Some(behind.split_at(length))
 }

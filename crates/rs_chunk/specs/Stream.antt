@@ -3,8 +3,8 @@ use Rattle.std.specs.Prelude.{◌≡◌, ℕ, ◌+◌, ◌<◌, ◌≤◌, ◌^�
 use Rattle.std.specs.List.{flat_map, AllByRecursion}
 use Rattle.byteorder.specs.Endian.{big_number}
 use Rattle.rs_frame.specs.Framed.{framed}
-use Rattle.rs_chunk.specs.declared.reader.Front.{Front}
-use Rattle.rs_chunk.specs.declared.reader.Front.TheVariants.{Whole, TooLong, Part}
+use Rattle.rs_chunk.specs.declared.front.Front.{Front}
+use Rattle.rs_chunk.specs.declared.front.Front.TheVariants.{Whole, TooLong, Part}
 
 -- the bytes begin with a length field, and the length in it
 abbrev pub HasLength : List ℕ → Type 0

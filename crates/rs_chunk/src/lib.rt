@@ -2,7 +2,8 @@
 //!
 //! On TCP and other byte streams each frame stands after its length, a number of 24 bits (RSocket
 //! 1.0, "Framing Protocol Usage"). [`Reader`] takes the pieces and gives the frames back;
-//! [`frame_bytes`] writes a frame for such a stream.
+//! [`split_frame`] cuts one frame off bytes that are all there; [`frame_bytes`] writes a frame for
+//! such a stream.
 //!
 //! The promise to the crates above: after any feeds and passes, the bytes fed are the frames
 //! passed, each after its length, and then the bytes left; and what stands at the front is decided
@@ -12,13 +13,15 @@
 //! which have no length field.
 #![tactic(auto)]
 
+mod front;
 mod laws;
 mod reader;
 mod writing;
 
+pub use front::{Front, split_frame};
 pub use laws::stream_laws;
-pub use reader::{Front, Reader};
-pub use writing::frame_bytes;
+pub use reader::Reader;
+pub use writing::{frame_bytes, frames_bytes};
 
 #[cfg(test)]
 mod tests;

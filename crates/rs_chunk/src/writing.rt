@@ -1,8 +1,9 @@
 //! Writing a frame for a stream.
 
-ghost use Rattle.std.specs.Prelude.{◌≡◌, ◌++◌, OnOk, OnErr};
+ghost use Rattle.std.specs.Prelude.{◌≡◌, ◌++◌, OnOk, OnErr, length, take};
+ghost use Rattle.std.specs.List.{AllByRecursion};
 ghost use Rattle.rs_frame.specs.Spelling.{IsSpellable};
-ghost use Rattle.rs_frame.specs.Framed.{framed_frame};
+ghost use Rattle.rs_frame.specs.Framed.{framed_all, framed_frame};
 
 use byteorder::{BigEndian, ByteOrder};
 use rs_frame::Frame;
@@ -24,4 +25,31 @@ pub fn frame_bytes(frame: &Frame, out: &mut Vec<u8>) -> Result<(), OutOfMemory>
         out.truncate(start);
     }
     done
+}
+
+// Appends frame by frame; some of them, where memory runs out.
+#[tactic(auto, using(std::proofs::lemmas::List::take_at))]
+fn put_frames(frames: &[Frame], out: &mut Vec<u8>) -> Result<(), OutOfMemory>
+    requires { AllByRecursion IsSpellable frames.now }
+    ensures ok { OnOk result (out.new.items ≡ out.old.items ++ framed_all frames.now) }
+    ensures err { OnErr result (take (length out.old.items) out.new.items ≡ out.old.items) }
+{
+    for frame in frames {
+        frame_bytes(frame, out)?;
+    }
+    Ok(())
+}
+
+/// Appends each frame as [`frame_bytes`] does. Where memory runs out, nothing is appended.
+pub fn frames_bytes(frames: &[Frame], out: &mut Vec<u8>) -> Result<(), OutOfMemory>
+    requires { AllByRecursion IsSpellable frames.now }
+    ensures ok { OnOk result (out.new.items ≡ out.old.items ++ framed_all frames.now) }
+    ensures err { OnErr result (out.new.items ≡ out.old.items) }
+{
+    let before = out.len();
+    let written = put_frames(frames, out);
+    if written.is_err() {
+        out.truncate(before);
+    }
+    written
 }

@@ -1,0 +1,75 @@
+use super::*;
+use std::test::Fail;
+
+// Whether the word reads as this number from 1 to 99.
+fn reads(word: &[u8], wanted: Option<u64>) -> bool {
+    read_number(word, 1, 99) == wanted
+}
+
+#[test]
+fn a_number_has_one_word(rt: HostRuntime) {
+    assert!(rt; reads(b"1", Some(1)));
+    assert!(rt; reads(b"99", Some(99)));
+    assert!(rt; reads(b"0", None));
+    assert!(rt; reads(b"100", None));
+    assert!(rt; reads(b"07", None));
+    assert!(rt; reads(b"+7", None));
+    assert!(rt; reads(b"", None));
+    assert!(rt; reads(b"7 ", None));
+    assert!(rt; reads(b"\xff", None));
+    assert!(rt; read_number(b"18446744073709551615", 0, u64::MAX) == Some(u64::MAX));
+    assert!(rt; read_number(b"18446744073709551616", 0, u64::MAX).is_none());
+}
+
+#[test]
+fn bytes_have_one_word(rt: HostRuntime) {
+    assert!(rt; is_hex_word(b"0aff", b'-'));
+    assert!(rt; is_hex_word(b"-", b'-'));
+    assert!(rt; !is_hex_word(b".", b'-'));
+    assert!(rt; !is_hex_word(b"0AFF", b'-'));
+    assert!(rt; !is_hex_word(b"0af", b'-'));
+    assert!(rt; !is_hex_word(b"", b'-'));
+    assert!(rt; !is_hex_word(b"0g", b'-'));
+}
+
+#[test]
+fn a_word_of_bytes_is_read(rt: HostRuntime) -> Result<(), Fail> {
+    assert!(rt; is_hex_word(b"0aff", b'.') && is_hex_word(b".", b'.'));
+    assert_eq!(rt; hex_size(b"0aff", b'.'), 2);
+    let bytes = read_hex(rt.alloc(), b"0aff", b'.').map_err(|_| "memory")?;
+    assert!(rt; bytes.as_slice() == [10, 255].as_slice());
+    let none = read_hex(rt.alloc(), b".", b'.').map_err(|_| "memory")?;
+    assert!(rt; none.is_empty());
+    Ok(())
+}
+
+#[test]
+fn words_are_appended(rt: HostRuntime) -> Result<(), Fail> {
+    let mut out = Vec::new(rt.alloc());
+    assert!(rt; write_text(&mut out, "made").is_ok());
+    assert!(rt; write_word(&mut out, "of").is_ok());
+    assert!(rt; write_number_word(&mut out, 16_777_216).is_ok());
+    assert!(rt; write_number(&mut out, 0).is_ok());
+    assert!(rt; write_hex(&mut out, &[10, 255], b'-').is_ok());
+    assert!(rt; write_hex(&mut out, &[], b'-').is_ok());
+    assert!(rt; out.as_slice() == b"made of 1677721600aff-".as_slice());
+    Ok(())
+}
+
+// Whether the text is cut into this line and this rest.
+fn cuts(text: &[u8], line: &[u8], rest: &[u8]) -> bool {
+    match cut_line(text) {
+        Some((first, after)) => first == line && after == rest,
+        None => false,
+    }
+}
+
+#[test]
+fn a_line_ends_at_its_line_feed(rt: HostRuntime) {
+    assert!(rt; cuts(b"ab\ncd\n", b"ab", b"cd\n"));
+    assert!(rt; cuts(b"\n", b"", b""));
+    assert!(rt; cut_line(b"ab\r").is_none());
+    assert!(rt; cut_line(b"").is_none());
+    assert!(rt; first_line(b"ab") == (b"ab".as_slice(), b"".as_slice()));
+    assert!(rt; first_line(b"\nab") == (b"".as_slice(), b"ab".as_slice()));
+}
