@@ -1,7 +1,7 @@
 -- Framing keeps beginnings: a stream of frames is cut in one way.
 use Rattle.std.proofs.Common.{◌≡◌, ◌≤◌, ◌<◌, ◌^◌, ℕ, List, [], ◌∷◌, ◌++◌, length, take, Some, refl, ap, subst, sym, ◌∙◌, arith, append_assoc}
 use Rattle.std.specs.List.{AllByRecursion}
-use Rattle.std.proofs.lemmas.List.Concat.{flat_map-append, flat_map-cons}
+use Rattle.std.proofs.lemmas.List.Concat.{flat_map-cons}
 use Rattle.rs_frame.specs.declared.frame.Frame.{Frame}
 use Rattle.rs_frame.specs.Spelling.{canonical, Spells, IsSpellable}
 use Rattle.rs_frame.specs.Rules.{counted}
@@ -18,9 +18,6 @@ AreSpellable frames = AllByRecursion IsSpellable frames
 pub spellable-append : (xs ys : List Frame) → AreSpellable xs → AreSpellable ys → AreSpellable (xs ++ ys)
 spellable-append [] ys h k = k
 spellable-append (x ∷ xs) ys h k = (h.0, spellable-append xs ys h.1 k)
-
-pub framed_all-append : (xs ys : List Frame) → framed_all (xs ++ ys) ≡ framed_all xs ++ framed_all ys
-framed_all-append xs ys = flat_map-append framed_frame xs ys
 
 same_pair : (a b : List ℕ × List ℕ) → Some a ≡ Some b → (a.0 ≡ b.0) × (a.1 ≡ b.1)
 same_pair a b e =

@@ -6,6 +6,7 @@ use Rattle.rs_frame.specs.declared.frame.Frame.{Frame}
 use Rattle.rs_frame.specs.Framed.{framed_all, framed_frame}
 use Rattle.tape.specs.declared.event.Event.{Event}
 use Rattle.tape.specs.declared.answer.Answer.{Answer}
+use Rattle.tape.specs.declared.answer.Answer.TheVariants as answer
 use Rattle.tape.specs.declared.entry.Entry.{Entry}
 use Rattle.session_model.specs.Life.{live}
 use Rattle.session_model.specs.Frames.{due, owes, drawn, draws, queued}
@@ -36,3 +37,7 @@ pub queued_exact : (g : Settings) (past : List Entry) → Legal g past
     → drawn past (live past) + queued g past ≡ length (framed_all (due g past (live past)))
 unfolding queued
 queued_exact g past h = let le = drawn_le g past (live past) h in omega arith
+
+-- a draw puts nothing in line
+pub drawn_owes : (g : Settings) (past : List Entry) (c n : ℕ) (e : Event) → owes g past c (answer.Drawn n) e ≡ []
+drawn_owes g past c n e = grind (arith, common_steps)
