@@ -30,16 +30,13 @@ greeting g = greeting_of g.side g
 abbrev pub owed : Settings → List Frame → ℕ → ℕ → List Frame
 owed g made live c = if is_live live c then greeting g ++ made else []
 
-due_step : (g : Settings) (t : Facts) (made due : List Frame) (c : ℕ) (e : Event) (a : Answer) → Means g t e a → IsFair g e
-    → (t.begun ≡ false → t.live ≡ 0) → (t.begun ≡ false → made ≡ []) → due ≡ owed g made t.live c
-    → due ++ (if is_live (live_after a t.live) c then beside g a e ++ makes g t.streams a e else []) ≡ owed g (made ++ makes g t.streams a e) (live_after a t.live) c
-due_step g t made due c e a m fair live_none made_none h = grind (arith, common_steps)
-
 pub due_at : (g : Settings) (past : List Entry) (c : ℕ) → Legal g past → Fair g past → due g past c ≡ owed g (made g past) (live past) c
 unfolding Legal Fair made due live facts
 due_at g [] c legal fair = grind (arith, common_steps)
 due_at g (x ∷ past) c legal fair =
-    due_step g (facts g past) (made g past) (due g past c) c x.event x.answer (last_means g x past legal) fair.1 (fresh_live past) (fresh_made g past legal.0) (due_at g past c legal.0 fair.0)
+    let new = last_means g x past legal in
+    let before = due_at g past c legal.0 fair.0 in
+    grind (arith, common_steps, fresh_live past, fresh_made g past legal.0)
 
 owed_begins : (g : Settings) (fs : List Frame) (live c : ℕ) → IsPrefix (owed g fs live c) (greeting g ++ fs)
 owed_begins g fs live c = elim (is_live live c) as (λ here. IsPrefix (if here then greeting g ++ fs else []) (greeting g ++ fs)) [ true ↦ prefix_refl (greeting g ++ fs) | false ↦ prefix_nil (greeting g ++ fs) ]

@@ -26,15 +26,13 @@ asked_spelled g t kind initial message complete id checked s askable =
     let small = checked.max_payload.below in
     grind (arith, common_steps)
 
-makes_spelled : (g : Settings) (t : Facts) (e : Event) (a : Answer) → IsChecked g → Means g t e a → IsFair g e → AreSpellable (makes g t.streams a e)
-makes_spelled g t e a checked m fair = grind (arith, common_steps, asked_spelled)
-
 pub made_spelled : (g : Settings) (past : List Entry) → IsPlain g → Legal g past → Fair g past → AreSpellable (made g past)
 unfolding Legal Fair made facts
 made_spelled g [] plain legal fair = tt
 made_spelled g (x ∷ past) plain legal fair =
-    let more = makes_spelled g (facts g past) x.event x.answer plain.checked (last_means g x past legal) fair.1 in
-    spellable-append (made g past) (makes g (known g past) x.answer x.event) (made_spelled g past plain legal.0 fair.0) more
+    let new = last_means g x past legal in
+    let before = made_spelled g past plain legal.0 fair.0 in
+    grind (arith, common_steps, asked_spelled, spellable-append)
 
 -- a SETUP without a token
 pub setup_spelled : (g : Settings) → IsPlain g → IsSpellable (setup_frame g)
@@ -46,25 +44,15 @@ setup_spelled g plain =
     let content_mime = checked.content_mime in
     grind (arith, common_steps)
 
-beside_spelled : (g : Settings) (e : Event) (a : Answer) → IsSpellable (setup_frame g) → AreSpellable (beside g a e)
-beside_spelled g e a setup = grind (arith, common_steps)
-
-owes_spelled : (g : Settings) (past : List Entry) (c : ℕ) (e : Event) (a : Answer) → IsPlain g → AreSpellable (makes g (known g past) a e) → AreSpellable (owes g past c a e)
-owes_spelled g past c e a plain more =
-    let all = spellable-append (beside g a e) (makes g (known g past) a e) (beside_spelled g e a (setup_spelled g plain)) more in
-    grind (arith, common_steps)
-
 pub due_spelled : (g : Settings) (past : List Entry) (c : ℕ) → IsPlain g → Legal g past → Fair g past → AreSpellable (due g past c)
 unfolding Legal Fair due facts
 due_spelled g [] c plain legal fair = tt
 due_spelled g (x ∷ past) c plain legal fair =
-    let more = makes_spelled g (facts g past) x.event x.answer plain.checked (last_means g x past legal) fair.1 in
-    spellable-append (due g past c) (owes g past c x.answer x.event) (due_spelled g past c plain legal.0 fair.0) (owes_spelled g past c x.event x.answer plain more)
-
-brings_spelled : (g : Settings) (past : List Entry) (c : ℕ) (e : Event) → IsFair g e → AreSpellable (brings past c e)
-brings_spelled g past c e fair = grind (arith, common_steps)
+    let new = last_means g x past legal in
+    let before = due_spelled g past c plain legal.0 fair.0 in
+    grind (arith, common_steps, asked_spelled, setup_spelled g plain, spellable-append)
 
 pub came_spelled : (g : Settings) (past : List Entry) (c : ℕ) → Fair g past → AreSpellable (came past c)
 unfolding Fair came
 came_spelled g [] c fair = tt
-came_spelled g (x ∷ past) c fair = spellable-append (came past c) (brings past c x.event) (came_spelled g past c fair.0) (brings_spelled g past c x.event fair.1)
+came_spelled g (x ∷ past) c fair = grind (arith, common_steps, came_spelled g past c fair.0, spellable-append)
