@@ -19,7 +19,7 @@ use Rattle.session_laws.proofs.Framing.{frames_given}
 use Rattle.session_laws.proofs.Life.{accepted_is_live, none_accepted}
 use Rattle.session_laws.proofs.Spelled.{due_spelled, came_spelled}
 use Rattle.session_laws.proofs.Due.{greeting, due_at, due_begins}
-use Rattle.session_laws.proofs.Got.{first_frames, kept}
+use Rattle.session_laws.proofs.Got.{first_frames, heard, none_handled, greeted, begins, whole}
 
 -- the first frames that an end waits for are as many as its peer begins with
 abbrev pub Facing : Settings → Settings → Type 0
@@ -43,17 +43,17 @@ none_or_some zero P none some = none refl
 none_or_some (suc n) P none some = some (omega arith)
 
 -- an end under g made, and its peer under h handled, whose live connection is number c at the first end
-begins : (g h : Settings) (A B : List Entry) (c : ℕ) → Facing g h → IsEnd g A → IsEnd h B → (0 < live B → IsPrefix (came B (live B)) (due g A c))
-    → IsPrefix (handled B) (made g A)
-begins g h A B c facing a b crossed =
-    let k = kept h B b.legal b.fair in
+begins_made : (g h : Settings) (A B : List Entry) (c : ℕ) → Facing g h → IsEnd g A → IsEnd h B
+    → (0 < live B → IsPrefix (came B (live B)) (due g A c)) → IsPrefix (handled B) (made g A)
+begins_made g h A B c facing a b crossed =
     none_or_some (live B) (IsPrefix (handled B) (made g A))
-    (λ none. subst (λ (l : List Frame). IsPrefix l (made g A)) (sym (k.none none)) (prefix_nil (made g A)))
+    (λ none. rw (none_handled h B b.legal none) (prefix_nil (made g A)))
     (λ some.
-    let got = k.here some in
     let n = first_frames h.side in
+    let first = greeted h B b.legal b.fair some in
     let all = prefix_trans (came B (live B)) (due g A c) (greeting g ++ made g A) (crossed some) (due_begins g A c a.legal a.fair) in
-    prefix_trans (handled B) (drop n (came B (live B))) (made g A) got.begins (prefix_drop n (came B (live B)) (greeting g) (made g A) got.greeted facing all))
+    let rest = prefix_drop n (came B (live B)) (greeting g) (made g A) first facing all in
+    prefix_trans (handled B) (heard h B) (made g A) (begins h B b.legal b.fair some) rest)
 
 client_end : (g h : Settings) (C S : List Entry) → AreEnds g h C S → IsEnd g C
 client_end g h C S e = record { legal = e.client_legal; fair = e.client_fair }
@@ -80,7 +80,7 @@ crossed_down g h C S pair d j is =
 pub handled_up : (g h : Settings) (C S : List Entry) (pair : ℕ → ℕ) → AreJoined g h C S pair → IsPrefix (handled S) (made g C)
 handled_up g h C S pair j =
     let e = j.ends in
-    begins g h C S (pair (live S)) (facing_up g h e.client e.server) (client_end g h C S e) (server_end g h C S e)
+    begins_made g h C S (pair (live S)) (facing_up g h e.client e.server) (client_end g h C S e) (server_end g h C S e)
     (λ some. crossed_up g h C S pair (live S) j (record { above = some; within = live_le h S e.server_legal }))
 
 no_opening : (S : List Entry) (d : ℕ) → openings S ≡ 0 → IsOpening S d → ⊥
@@ -89,7 +89,7 @@ no_opening S d none is = let above = is.above in let within = is.within in absur
 pub handled_down : (g h : Settings) (C S : List Entry) (pair : ℕ → ℕ) → AreJoined g h C S pair → IsPrefix (handled C) (made h S)
 handled_down g h C S pair j =
     let e = j.ends in
-    begins h g S C 1 (facing_down g h e.client e.server) (server_end g h C S e) (client_end g h C S e)
+    begins_made h g S C 1 (facing_down g h e.client e.server) (server_end g h C S e) (client_end g h C S e)
     (λ some. none_or_some (openings S) (IsPrefix (came C (live C)) (due h S 1))
     (λ none. rw (j.joined.unpaired (live C) (λ d is. absurd (no_opening S d none is))).0 (prefix_nil (due h S 1)))
     (λ there.
@@ -121,9 +121,8 @@ all_handled : (g h : Settings) (A B : List Entry) (c d : ℕ) → Facing g h →
 all_handled g h A B c d facing a b at_a at_b free same =
     let here_a = live_of g A c a.legal at_a in
     let here_b = live_of h B d b.legal at_b in
-    let got = (kept h B b.legal b.fair).here here_b.some in
     let owed : due g A c ≡ greeting g ++ made g A = rw (due_at g A c a.legal a.fair, here_a.here) refl in
-    (got.whole free).0 ∙ rw (here_b.at, same, owed) (drop_at (greeting g) (made g A) (first_frames h.side) facing)
+    (whole h B b.legal b.fair here_b.some free).all ∙ rw (here_b.at, same, owed) (drop_at (greeting g) (made g A) (first_frames h.side) facing)
 
 pub drained_up : (g h : Settings) (C S : List Entry) (c d : ℕ) → AreEnds g h C S → AreDrained g h C S c d → handled S ≡ made g C
 drained_up g h C S c d e all =
