@@ -1,5 +1,5 @@
 -- What crossed, from the frames that one end made to those that the other handled.
-use Rattle.std.proofs.Common.{◌≡◌, ◌<◌, ◌++◌, ℕ, true, zero, suc, List, length, drop, take, None, refl, ap, subst, sym, ◌∙◌, arith}
+use Rattle.std.proofs.Common.{◌≡◌, ◌<◌, ◌++◌, ℕ, true, zero, suc, List, length, take, None, refl, ap, subst, sym, ◌∙◌, arith}
 use Rattle.std.proofs.lemmas.Grind.{common_steps}
 use Rattle.std.proofs.lemmas.List.{drop_at, take_at}
 use Rattle.rs_wire.specs.declared.words.Side.TheVariants.{Client, Server}

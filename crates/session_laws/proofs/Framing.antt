@@ -1,11 +1,10 @@
--- Framing keeps beginnings: a stream of frames is cut in one way.
-use Rattle.std.proofs.Common.{◌≡◌, ◌≤◌, ◌<◌, ◌^◌, ℕ, List, [], ◌∷◌, ◌++◌, length, take, Some, refl, ap, subst, sym, ◌∙◌, arith, append_assoc}
+-- Framing keeps prefixes: a stream of bytes is cut into frames in one way.
+use Rattle.std.proofs.Common.{◌≡◌, ◌<◌, ◌^◌, ℕ, List, [], ◌∷◌, ◌++◌, length, take, ap, subst, sym, ◌∙◌, arith, append_assoc}
 use Rattle.std.specs.List.{AllByRecursion}
 use Rattle.std.proofs.lemmas.Grind.{common_steps}
 use Rattle.std.proofs.lemmas.List.Concat.{flat_map-cons}
 use Rattle.rs_frame.specs.declared.frame.Frame.{Frame}
 use Rattle.rs_frame.specs.Spelling.{canonical, Spells, IsSpellable}
-use Rattle.rs_frame.specs.Rules.{counted}
 use Rattle.rs_frame.specs.Framed.{framed, framed_all, framed_frame}
 use Rattle.rs_frame.proofs.Fields.{counted_again}
 use Rattle.rs_frame.proofs.Whole.{one_frame, canonical_spells}
@@ -45,7 +44,7 @@ after_first f fs x = ap (λ l. l ++ x) (flat_map-cons framed_frame f fs) ∙ app
 not_empty : (b x : List ℕ) → framed b ++ x ≡ [] → ⊥
 not_empty b x e = grind (arith, common_steps)
 
--- frames whose bytes begin a stream begin its frames
+-- frames whose bytes are a prefix of a stream are a prefix of its frames
 frames_prefix : (xs ys : List Frame) → AreSpellable xs → AreSpellable ys → IsPrefix (framed_all xs) (framed_all ys) → IsPrefix xs ys
 frames_prefix [] ys hx hy p = prefix_nil ys
 frames_prefix (x ∷ xs) [] hx hy p = absurd (not_empty (canonical x) (framed_all xs ++ p.0) (sym (after_first x xs p.0) ∙ p.1))
@@ -57,7 +56,7 @@ frames_prefix (x ∷ xs) (y ∷ ys) hx hy p =
     let all : xs ++ i.0 ≡ ys = i.1 in
     (i.0, cc)
 
--- frames that came whole out of the first bytes of a stream begin its frames
+-- the same of the first n bytes of the stream
 pub frames_given : (n : ℕ) (xs ys : List Frame) → AreSpellable xs → AreSpellable ys → IsPrefix (framed_all xs) (take n (framed_all ys)) → IsPrefix xs ys
 frames_given n xs ys hx hy p =
     let all = prefix_trans (framed_all xs) (take n (framed_all ys)) (framed_all ys) p (prefix_take n (framed_all ys)) in

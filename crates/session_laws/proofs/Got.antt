@@ -1,4 +1,4 @@
--- What was handled is the beginning of what came on the live connection after its first frame.
+-- What was handled is a prefix of what came on the live connection, after a server's first frame.
 use Rattle.std.proofs.Common.{◌≡◌, ◌≤◌, ◌<◌, ◌+◌, ℕ, List, [], ◌∷◌, ◌++◌, length, drop, Option, Some, None, refl, subst, arith}
 use Rattle.std.proofs.lemmas.Grind.{common_steps}
 use Rattle.std.proofs.lemmas.List.{drop-append-le}
@@ -23,7 +23,7 @@ abbrev pub first_frames : Side → ℕ
 first_frames Client = 0
 first_frames Server = 1
 
--- what came on the live connection after them
+-- what came on the live connection after those
 abbrev pub heard : Settings → List Entry → List Frame
 heard g past = drop (first_frames g.side) (came past (live past))
 
@@ -81,7 +81,7 @@ begins_more g past x (Some why) legal fair is some before =
     let here = before (subst (λ (n : ℕ). 0 < n) i.same some) in
     rw (i.idle, i.more) (prefix_more (handled past) (heard g past) (brings past (live past) x.event) here)
 
--- what was handled is the beginning of it
+-- what was handled is a prefix of it
 pub begins : (g : Settings) (past : List Entry) → Legal g past → Fair g past → 0 < live past → IsPrefix (handled past) (heard g past)
 unfolding Legal Fair handled
 begins g [] legal fair some = prefix_nil (heard g [])

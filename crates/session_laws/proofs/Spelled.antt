@@ -7,19 +7,17 @@ use Rattle.rs_wire.specs.declared.settings.Settings.{Settings}
 use Rattle.rs_wire.specs.declared.call.Call.TheVariants as call
 use Rattle.rs_wire.specs.Settings.{IsChecked}
 use Rattle.rs_frame.specs.Spelling.{IsSpellable}
-use Rattle.tape.specs.declared.event.Event.{Event}
-use Rattle.tape.specs.declared.answer.Answer.{Answer}
 use Rattle.tape.specs.declared.entry.Entry.{Entry}
-use Rattle.session_model.specs.Streams.{known}
-use Rattle.session_model.specs.Frames.{made, makes, due, owes, beside, came, brings, request_frame, setup_frame}
+use Rattle.session_model.specs.Frames.{made, due, came, request_frame, setup_frame}
 use Rattle.session_model.specs.Answers.{Facts, facts}
-use Rattle.session_model.specs.Legal.{Fair, IsAskable, IsFair, IsPlain, Legal}
-use Rattle.session_model.specs.Means.{Means, Starting}
+use Rattle.session_model.specs.Legal.{Fair, IsAskable, IsPlain, Legal}
+use Rattle.session_model.specs.Means.{Starting}
 use Rattle.session_model.proofs.Meaning.{last_means}
 use Rattle.session_laws.proofs.Framing.{AreSpellable, spellable-append}
 
 -- a whole fire-and-forget without metadata
-asked_spelled : (g : Settings) (t : Facts) (kind : Kind) (initial : Option ℕ) (message : Message) (complete : Bool) (id : ℕ) → IsChecked g → Starting g t kind initial message complete id → IsAskable (call.Request kind initial message complete)
+asked_spelled : (g : Settings) (t : Facts) (kind : Kind) (initial : Option ℕ) (message : Message) (complete : Bool) (id : ℕ)
+    → IsChecked g → Starting g t kind initial message complete id → IsAskable (call.Request kind initial message complete)
     → IsSpellable (request_frame id kind initial message complete)
 asked_spelled g t kind initial message complete id checked s askable =
     let below = checked.last_id.below in
