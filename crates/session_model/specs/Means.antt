@@ -71,10 +71,10 @@ Strays t (event.Open first taken) = Unit {0}
 Strays t (event.Asked asked) = ⊥
 
 -- something came on the live connection of a session that is not closed
-abbrev pub Arrives : Facts → Event → Type 0
-Arrives t (event.Came conn f) = (is_live t.live conn ≡ true) × (t.closed ≡ None)
-Arrives t (event.Bad conn rule) = (is_live t.live conn ≡ true) × (t.closed ≡ None)
-Arrives t _ = ⊥
+abbrev pub Lands : Facts → Event → Type 0
+Lands t (event.Came conn f) = (is_live t.live conn ≡ true) × (t.closed ≡ None)
+Lands t (event.Bad conn rule) = (is_live t.live conn ≡ true) × (t.closed ≡ None)
+Lands t _ = ⊥
 
 -- a first frame is refused on a session that is not closed
 abbrev pub RefusesFirst : Facts → Event → Type 0
@@ -96,8 +96,8 @@ Means g t e (answer.Opened n) = Opens g t n e
 Means g t e (answer.Started id) = Starts g t id e
 Means g t e (answer.Drawn n) = Draws t n e
 Means g t e answer.Handled = Handles g t e
-Means g t e (answer.Violation rule) = Arrives t e
-Means g t e (answer.OutBusy n) = Arrives t e
+Means g t e (answer.Violation rule) = Lands t e
+Means g t e (answer.OutBusy n) = Lands t e
 Means g t e (answer.SetupRefused fault) = RefusesFirst t e
 Means g t e (answer.Refused why) = RefusesCall e
 Means g t e answer.NotYet = FindsNothing t e
