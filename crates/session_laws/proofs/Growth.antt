@@ -1,55 +1,56 @@
 -- What only grows, and what is seen.
-use Rattle.std.proofs.Common.{◌≡◌, List, [], ◌∷◌, ◌++◌, Option, Some, map, refl, ap, ◌∙◌}
+use Rattle.std.proofs.Common.{◌≡◌, List, [], ◌∷◌, ◌++◌, Some, map, refl, ap, ◌∙◌}
 use Rattle.rs_wire.specs.declared.fault.Cause.{Cause}
+use Rattle.rs_wire.specs.declared.settings.Settings.{Settings}
 use Rattle.rs_frame.specs.declared.frame.Frame.{Frame}
 use Rattle.tape.specs.declared.entry.Entry.{Entry}
-use Rattle.session_model.specs.Lists.{IsPrefix, first_of}
-use Rattle.session_model.specs.Life.{begun, closed, closes}
-use Rattle.session_model.specs.Frames.{made, makes, handled, handles, seen, marks, Mark, Sent, Got}
+use Rattle.session_model.specs.Lists.{IsPrefix}
+use Rattle.session_model.specs.Life.{closed}
+use Rattle.session_model.specs.Streams.{known}
+use Rattle.session_model.specs.Frames.{made, makes, handled, handles, seen, Mark, Sent, Got}
 use Rattle.session_laws.specs.Marks.{sent, got}
 use Rattle.session_laws.proofs.Prefixes.{prefix_refl, prefix_more}
 
-pub stays_closed : (more past : List Entry) (why : Cause) → closed past ≡ Some why → closed (more ++ past) ≡ Some why
+pub stays_closed : (g : Settings) (more past : List Entry) (why : Cause) → closed g past ≡ Some why → closed g (more ++ past) ≡ Some why
 unfolding closed
-stays_closed [] past why h = h
-stays_closed (x ∷ more) past why h = ap (λ (o : Option Cause). first_of o (closes (begun (more ++ past)) x.answer)) (stays_closed more past why h)
+stays_closed g [] past why h = h
+stays_closed g (x ∷ more) past why h = rw (stays_closed g more past why h) refl
 
-pub made_grows : (more past : List Entry) → IsPrefix (made past) (made (more ++ past))
+pub made_grows : (g : Settings) (more past : List Entry) → IsPrefix (made g past) (made g (more ++ past))
 unfolding made
-made_grows [] past = prefix_refl (made past)
-made_grows (x ∷ more) past = prefix_more (made past) (made (more ++ past)) (makes x.answer x.event) (made_grows more past)
+made_grows g [] past = prefix_refl (made g past)
+made_grows g (x ∷ more) past = prefix_more (made g past) (made g (more ++ past)) (makes g (known g (more ++ past)) x.answer x.event) (made_grows g more past)
 
 pub handled_grows : (more past : List Entry) → IsPrefix (handled past) (handled (more ++ past))
 unfolding handled
 handled_grows [] past = prefix_refl (handled past)
 handled_grows (x ∷ more) past = prefix_more (handled past) (handled (more ++ past)) (handles x.answer x.event) (handled_grows more past)
 
-sent-append : (xs ys : List Mark) → sent (xs ++ ys) ≡ sent xs ++ sent ys
-sent-append [] ys = refl
-sent-append (Sent f ∷ xs) ys = ap (λ (l : List Frame). f ∷ l) (sent-append xs ys)
-sent-append (Got f ∷ xs) ys = sent-append xs ys
+-- what is sent and got of marks with more of both
+sent_more : (ms : List Mark) (gots sents : List Frame) → sent (ms ++ (map Got gots ++ map Sent sents)) ≡ sent ms ++ sents
+sent_more [] [] [] = refl
+sent_more [] [] (f ∷ sents) = ap (λ (l : List Frame). f ∷ l) (sent_more [] [] sents)
+sent_more [] (f ∷ gots) sents = sent_more [] gots sents
+sent_more (Sent f ∷ ms) gots sents = ap (λ (l : List Frame). f ∷ l) (sent_more ms gots sents)
+sent_more (Got f ∷ ms) gots sents = sent_more ms gots sents
 
-got-append : (xs ys : List Mark) → got (xs ++ ys) ≡ got xs ++ got ys
-got-append [] ys = refl
-got-append (Sent f ∷ xs) ys = got-append xs ys
-got-append (Got f ∷ xs) ys = ap (λ (l : List Frame). f ∷ l) (got-append xs ys)
+got_more : (ms : List Mark) (gots sents : List Frame) → got (ms ++ (map Got gots ++ map Sent sents)) ≡ got ms ++ gots
+got_more [] [] [] = refl
+got_more [] [] (f ∷ sents) = got_more [] [] sents
+got_more [] (f ∷ gots) sents = ap (λ (l : List Frame). f ∷ l) (got_more [] gots sents)
+got_more (Sent f ∷ ms) gots sents = got_more ms gots sents
+got_more (Got f ∷ ms) gots sents = ap (λ (l : List Frame). f ∷ l) (got_more ms gots sents)
 
-sent_of : (gots sents : List Frame) → sent (map Got gots ++ map Sent sents) ≡ sents
-sent_of [] [] = refl
-sent_of [] (f ∷ sents) = ap (λ (l : List Frame). f ∷ l) (sent_of [] sents)
-sent_of (f ∷ gots) sents = sent_of gots sents
-
-got_of : (gots sents : List Frame) → got (map Got gots ++ map Sent sents) ≡ gots
-got_of [] [] = refl
-got_of [] (f ∷ sents) = got_of [] sents
-got_of (f ∷ gots) sents = ap (λ (l : List Frame). f ∷ l) (got_of gots sents)
-
-pub sent_is_made : (past : List Entry) → sent (seen past) ≡ made past
+pub sent_is_made : (g : Settings) (past : List Entry) → sent (seen g past) ≡ made g past
 unfolding seen made
-sent_is_made [] = refl
-sent_is_made (x ∷ past) = sent-append (seen past) (marks x.answer x.event) ∙ (ap (λ (l : List Frame). l ++ sent (marks x.answer x.event)) (sent_is_made past) ∙ ap (λ (l : List Frame). made past ++ l) (sent_of (handles x.answer x.event) (makes x.answer x.event)))
+sent_is_made g [] = refl
+sent_is_made g (x ∷ past) =
+    let new = makes g (known g past) x.answer x.event in
+    sent_more (seen g past) (handles x.answer x.event) new ∙ ap (λ (l : List Frame). l ++ new) (sent_is_made g past)
 
-pub got_is_handled : (past : List Entry) → got (seen past) ≡ handled past
+pub got_is_handled : (g : Settings) (past : List Entry) → got (seen g past) ≡ handled past
 unfolding seen handled
-got_is_handled [] = refl
-got_is_handled (x ∷ past) = got-append (seen past) (marks x.answer x.event) ∙ (ap (λ (l : List Frame). l ++ got (marks x.answer x.event)) (got_is_handled past) ∙ ap (λ (l : List Frame). handled past ++ l) (got_of (handles x.answer x.event) (makes x.answer x.event)))
+got_is_handled g [] = refl
+got_is_handled g (x ∷ past) =
+    let new = handles x.answer x.event in
+    got_more (seen g past) new (makes g (known g past) x.answer x.event) ∙ ap (λ (l : List Frame). l ++ new) (got_is_handled g past)

@@ -1,9 +1,7 @@
 pub mod Prefixes
 pub mod Framing
-pub mod Meaning
 pub mod Life
 pub mod Growth
-pub mod Queue
 pub mod Agreed
 pub mod Spelled
 pub mod Due

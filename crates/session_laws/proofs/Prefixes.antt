@@ -1,6 +1,6 @@
--- Lists that begin others.
-use Rattle.std.proofs.Common.{◌≡◌, ℕ, List, [], ◌∷◌, ◌++◌, length, take, drop, refl, ap, sym, ◌∙◌, append_assoc, append-nil, arith}
-use Rattle.std.proofs.lemmas.List.{take-append-drop}
+-- Lists that are a prefix of others.
+use Rattle.std.proofs.Common.{◌≡◌, ◌≤◌, ℕ, List, [], ◌++◌, length, take, drop, refl, ap, sym, ◌∙◌, append_assoc, append-nil}
+use Rattle.std.proofs.lemmas.List.{drop-append-le, drop_at, take-append-drop}
 use Rattle.session_model.specs.Lists.{IsPrefix}
 
 pub prefix_refl : {A : Type 0} (xs : List A) → IsPrefix xs xs
@@ -18,19 +18,6 @@ prefix_more xs ys more p = (p.0 ++ more, sym (append_assoc xs p.0 more) ∙ ap (
 pub prefix_take : {A : Type 0} (n : ℕ) (xs : List A) → IsPrefix (take n xs) xs
 prefix_take n xs = (drop n xs, take-append-drop n xs)
 
--- behind fronts of one length
-pub prefix_behind : {A : Type 0} (xs ys fronts all : List A) → length xs ≡ length fronts → IsPrefix (xs ++ ys) (fronts ++ all) → IsPrefix ys all
-prefix_behind [] ys [] all e p = p
-prefix_behind [] ys (f ∷ fronts) all e p = absurd (omega arith)
-prefix_behind (x ∷ xs) ys [] all e p = absurd (omega arith)
-prefix_behind (x ∷ xs) ys (f ∷ fronts) all e p =
-    let tail : (xs ++ ys) ++ p.0 ≡ fronts ++ all = cc (p.1) in
-    prefix_behind xs ys fronts all (omega arith) (p.0, tail)
-
-pub same_behind : {A : Type 0} (xs ys fronts all : List A) → length xs ≡ length fronts → xs ++ ys ≡ fronts ++ all → ys ≡ all
-same_behind [] ys [] all e p = p
-same_behind [] ys (f ∷ fronts) all e p = absurd (omega arith)
-same_behind (x ∷ xs) ys [] all e p = absurd (omega arith)
-same_behind (x ∷ xs) ys (f ∷ fronts) all e p =
-    let tail : xs ++ ys ≡ fronts ++ all = cc (p) in
-    same_behind xs ys fronts all (omega arith) tail
+-- a prefix of two lists after one another, as long as the first at least, goes on with a prefix of the second
+pub prefix_drop : {A : Type 0} (n : ℕ) (xs first ys : List A) → n ≤ length xs → length first ≡ n → IsPrefix xs (first ++ ys) → IsPrefix (drop n xs) ys
+prefix_drop n xs first ys le e p = (p.0, sym (drop-append-le n xs p.0 le) ∙ (ap (λ l. drop n l) p.1 ∙ drop_at first ys n e))

@@ -5,10 +5,10 @@ use Rattle.rs_wire.specs.declared.settings.Settings.{Settings}
 use Rattle.tape.specs.declared.entry.Entry.{Entry}
 use Rattle.session_model.specs.Life.{closed}
 use Rattle.session_model.specs.Frames.{due, came}
-use Rattle.session_model.specs.Legal.{IsPlain, Legal}
+use Rattle.session_model.specs.Legal.{Fair, IsPlain, Legal}
 use Rattle.session_model.specs.Joined.{Joined, is_accepted}
 
--- a client under settings g and a server under settings h, each with the legal entries of a plain session
+-- a client under settings g and a server under settings h, each with the legal and fair entries of a plain session
 pub record AreEnds (g h : Settings) (C S : List Entry) : Type 0 where
   pub client : g.side ≡ Client
   pub server : h.side ≡ Server
@@ -16,6 +16,8 @@ pub record AreEnds (g h : Settings) (C S : List Entry) : Type 0 where
   pub server_plain : IsPlain h
   pub client_legal : Legal g C
   pub server_legal : Legal h S
+  pub client_fair : Fair g C
+  pub server_fair : Fair h S
 
 -- the two ends of a session, whose bytes crossed
 pub record AreJoined (g h : Settings) (C S : List Entry) (pair : ℕ → ℕ) : Type 0 where
@@ -26,7 +28,7 @@ pub record AreJoined (g h : Settings) (C S : List Entry) (pair : ℕ → ℕ) : 
 pub record AreDrained (g h : Settings) (C S : List Entry) (c d : ℕ) : Type 0 where
   pub at_client : is_accepted C c ≡ true
   pub at_server : is_accepted S d ≡ true
-  pub client_is_whole : closed C ≡ None
-  pub server_is_whole : closed S ≡ None
+  pub client_is_whole : closed g C ≡ None
+  pub server_is_whole : closed h S ≡ None
   pub up : came S d ≡ due g C c
   pub down : came C c ≡ due h S d

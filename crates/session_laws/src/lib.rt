@@ -5,9 +5,10 @@
 //! fragments. The frames that count are those of streams, and positions count their bytes
 //! (RSocket 1.0, "Resuming Operation").
 //!
-//! The promise to the rooms above: what holds here holds of every list of entries that the core
-//! leaves, since each of them is legal. First of all, what an end has handled is the beginning of
-//! what the other made, in order, with nothing lost and nothing twice.
+//! The promise to the layers above: what holds here holds of every list of entries that the core
+//! leaves, since each of them is legal, and fair where the caller keeps the conditions of events.
+//! First of all, what an end has handled is a prefix of what the other made, in order, with nothing
+//! lost and nothing twice.
 //!
 //! Left out: how the entries come about (the core), and what only time decides, such as that all
 //! that is due comes in the end.

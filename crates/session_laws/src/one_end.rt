@@ -10,26 +10,27 @@ ghost use Rattle.tape.specs.declared.entry.Entry.{Entry};
 ghost use Rattle.session_model.specs.Life.{closed, leases_agreed, live, resumption_agreed};
 ghost use Rattle.session_model.specs.Lists.{IsPrefix};
 ghost use Rattle.session_model.specs.Frames.{came, drawn, due, handled, made, queued, seen};
-ghost use Rattle.session_model.specs.Legal.{IsPlain, Legal};
+ghost use Rattle.session_model.specs.Legal.{Fair, IsPlain, Legal};
 ghost use Rattle.session_laws.specs.Marks.{got, sent};
 
 /// A closed session stays closed, for the cause that closed it first.
 pub fn closed_stays_closed()
-    ensures stays { (more past : List Entry) (why : Cause) →
-        closed past ≡ Some why → closed (more ++ past) ≡ Some why }
+    ensures stays { (g : Settings) (more past : List Entry) (why : Cause) →
+        closed g past ≡ Some why → closed g (more ++ past) ≡ Some why }
 {}
 
 /// What an end made and what it handled only grow: further entries append to them (RSocket 1.0,
 /// "Resuming Operation", counts both).
 pub fn frames_only_grow()
-    ensures made { (more past : List Entry) → IsPrefix (made past) (made (more ++ past)) }
+    ensures made { (g : Settings) (more past : List Entry) →
+        IsPrefix (made g past) (made g (more ++ past)) }
     ensures handled { (more past : List Entry) → IsPrefix (handled past) (handled (more ++ past)) }
 {}
 
 /// The frames seen are those made and those handled, each kind in its order.
 pub fn seen_is_made_and_handled()
-    ensures made { (past : List Entry) → sent (seen past) ≡ made past }
-    ensures handled { (past : List Entry) → got (seen past) ≡ handled past }
+    ensures made { (g : Settings) (past : List Entry) → sent (seen g past) ≡ made g past }
+    ensures handled { (g : Settings) (past : List Entry) → got (seen g past) ≡ handled past }
 {}
 
 /// The bytes queued on the live connection are those due there, framed, less those drawn. So no
@@ -50,13 +51,14 @@ pub fn nothing_more_is_agreed()
         g.lease ≡ false → leases_agreed g past ≡ false }
 {}
 
-/// Every frame that a plain end makes, owes or is brought has its fields in range and a length
-/// below 2^24 bytes, so it can be written (RSocket 1.0, "Framing Format").
+/// Every frame that a plain end makes or owes has its fields in range and a length below 2^24
+/// bytes, so it can be written (RSocket 1.0, "Framing Format"), where its caller asks for what can
+/// be asked. What comes is so by the conditions of its events.
 pub fn frames_are_spellable()
-    ensures made { (g : Settings) (past : List Entry) → IsPlain g → Legal g past →
-        AllByRecursion IsSpellable (made past) }
-    ensures due { (g : Settings) (past : List Entry) (c : ℕ) → IsPlain g → Legal g past →
-        AllByRecursion IsSpellable (due g past c) }
-    ensures came { (g : Settings) (past : List Entry) (c : ℕ) → Legal g past →
-        AllByRecursion IsSpellable (came past c) }
+    ensures made { (g : Settings) (past : List Entry) →
+        IsPlain g → Legal g past → Fair g past → AllByRecursion IsSpellable (made g past) }
+    ensures due { (g : Settings) (past : List Entry) (c : ℕ) →
+        IsPlain g → Legal g past → Fair g past → AllByRecursion IsSpellable (due g past c) }
+    ensures came { (g : Settings) (past : List Entry) (c : ℕ) →
+        Fair g past → AllByRecursion IsSpellable (came past c) }
 {}

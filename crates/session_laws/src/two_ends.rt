@@ -4,34 +4,34 @@ ghost use Rattle.std.specs.Prelude.{◌≡◌, ℕ, List};
 ghost use Rattle.rs_wire.specs.declared.settings.Settings.{Settings};
 ghost use Rattle.tape.specs.declared.entry.Entry.{Entry};
 ghost use Rattle.session_model.specs.Lists.{IsPrefix};
-ghost use Rattle.session_model.specs.Positions.{IsBoundary, pos};
+ghost use Rattle.position.specs.Boundaries.{IsBoundary, pos};
 ghost use Rattle.session_model.specs.Frames.{handled, made};
 ghost use Rattle.session_laws.specs.Ends.{AreDrained, AreEnds, AreJoined};
 
-/// What an end has handled is the beginning of what the other made, in whatever pieces the bytes
-/// came, and however many are still under way: every frame in its order, none left out, none twice
-/// and none that was never made.
+/// What an end has handled is a prefix of what the other made, in whatever pieces the bytes came,
+/// and however many are still under way: every frame in its order, none left out, none twice and
+/// none that was never made.
 pub fn handled_begins_made()
     ensures up { (g h : Settings) (C S : List Entry) (pair : ℕ → ℕ) →
-        AreJoined g h C S pair → IsPrefix (handled S) (made C) }
+        AreJoined g h C S pair → IsPrefix (handled S) (made g C) }
     ensures down { (g h : Settings) (C S : List Entry) (pair : ℕ → ℕ) →
-        AreJoined g h C S pair → IsPrefix (handled C) (made S) }
+        AreJoined g h C S pair → IsPrefix (handled C) (made h S) }
 {}
 
-/// The position that an end tells as handled lies between two frames that the other made, before
-/// the first or behind the last, and never inside one (RSocket 1.0, "Resuming Operation").
+/// The position up to which an end has handled lies between two frames that the other made, before
+/// the first or after the last, and never inside one (RSocket 1.0, "Resuming Operation").
 pub fn handled_is_a_boundary()
     ensures up { (g h : Settings) (C S : List Entry) (pair : ℕ → ℕ) →
-        AreJoined g h C S pair → IsBoundary (made C) (pos (handled S)) }
+        AreJoined g h C S pair → IsBoundary (made g C) (pos (handled S)) }
     ensures down { (g h : Settings) (C S : List Entry) (pair : ℕ → ℕ) →
-        AreJoined g h C S pair → IsBoundary (made S) (pos (handled C)) }
+        AreJoined g h C S pair → IsBoundary (made h S) (pos (handled C)) }
 {}
 
 /// Where all that was due came, and neither end is closed, each end has handled all that the other
 /// made.
 pub fn drained_is_equal()
     ensures up { (g h : Settings) (C S : List Entry) (c d : ℕ) →
-        AreEnds g h C S → AreDrained g h C S c d → handled S ≡ made C }
+        AreEnds g h C S → AreDrained g h C S c d → handled S ≡ made g C }
     ensures down { (g h : Settings) (C S : List Entry) (c d : ℕ) →
-        AreEnds g h C S → AreDrained g h C S c d → handled C ≡ made S }
+        AreEnds g h C S → AreDrained g h C S c d → handled C ≡ made h S }
 {}

@@ -70,20 +70,38 @@ Strays t (event.Draw conn room) = is_live t.live conn ≡ false
 Strays t (event.Open first taken) = Unit {0}
 Strays t (event.Asked asked) = ⊥
 
--- what comes breaks a rule on the live connection of a session that is not closed
-abbrev pub Breaks : Facts → Event → Type 0
-Breaks t (event.Came conn f) = (is_live t.live conn ≡ true) × (t.closed ≡ None)
-Breaks t (event.Bad conn rule) = (is_live t.live conn ≡ true) × (t.closed ≡ None)
-Breaks t _ = ⊥
+-- something came on the live connection of a session that is not closed
+abbrev pub Lands : Facts → Event → Type 0
+Lands t (event.Came conn f) = (is_live t.live conn ≡ true) × (t.closed ≡ None)
+Lands t (event.Bad conn rule) = (is_live t.live conn ≡ true) × (t.closed ≡ None)
+Lands t _ = ⊥
+
+-- a first frame is refused on a session that is not closed
+abbrev pub RefusesFirst : Facts → Event → Type 0
+RefusesFirst t (event.Open (Some f) taken) = t.closed ≡ None
+RefusesFirst t _ = ⊥
+
+-- a call is refused
+abbrev pub RefusesCall : Event → Type 0
+RefusesCall (event.Asked asked) = Unit {0}
+RefusesCall _ = ⊥
+
+-- nothing waits to be drawn on the live connection
+abbrev pub FindsNothing : Facts → Event → Type 0
+FindsNothing t (event.Draw conn room) = (is_live t.live conn ≡ true) × (t.queued ≡ 0)
+FindsNothing t _ = ⊥
 
 abbrev pub Means : Settings → Facts → Event → Answer → Type 0
 Means g t e (answer.Opened n) = Opens g t n e
 Means g t e (answer.Started id) = Starts g t id e
 Means g t e (answer.Drawn n) = Draws t n e
 Means g t e answer.Handled = Handles g t e
-Means g t e (answer.Violation rule) = Breaks t e
+Means g t e (answer.Violation rule) = Lands t e
+Means g t e (answer.OutBusy n) = Lands t e
+Means g t e (answer.SetupRefused fault) = RefusesFirst t e
+Means g t e (answer.Refused why) = RefusesCall e
+Means g t e answer.NotYet = FindsNothing t e
 Means g t e (answer.Stale n) = Strays t e
 Means g t e (answer.Closed why) = t.closed ≡ Some why
 Means g t e answer.TapeFull = ⊥
 Means g t e answer.OutOfMemory = ⊥
-Means g t e _ = Unit {0}

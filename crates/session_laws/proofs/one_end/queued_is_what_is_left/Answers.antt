@@ -1,4 +1,4 @@
-use Rattle.session_laws.proofs.Queue.{drawn_le, queued_exact}
+use Rattle.session_model.proofs.Queue.{drawn_le, queued_exact}
 use Rattle.session_laws.proofs.one_end.queued_is_what_is_left.Goals as goal
 
 pub returns-clause-exact : goal.returns-clause-exact
