@@ -122,11 +122,12 @@ impl<T: Tape> Session<T> {
         ensures err { OnErr result (self.new ≡ record self.old { spare = self.new.spare }) }
         ensures spare { self.old.spare ≤ self.new.spare + 1 }
     {
-        let prepared = self.state.prepare(self.alloc, &self.settings, event, answer)?;
-        let noted = self.tape.note(who, event, answer);
-        if noted.is_err() {
+        let prepared = self
+            .state
+            .prepare(self.alloc, &self.settings, event, answer)?;
+        if let Err(error) = self.tape.note(who, event, answer) {
             self.state.forget(&prepared);
-            return noted;
+            return Err(error);
         }
         self.history.note(who, event, answer);
         self.state.act(&self.settings, event, answer, prepared);
@@ -202,11 +203,7 @@ impl<T: Tape> Session<T> {
         let again = answered_again(&answer);
         let event = Event::Draw { conn, room };
         self.history.note(who, &event, &answer);
-        self.tape.push(Entry {
-            who,
-            event,
-            answer,
-        });
+        self.tape.push(Entry { who, event, answer });
         again
     }
 
