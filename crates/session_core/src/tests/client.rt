@@ -1,0 +1,222 @@
+//! Lists of a client. SETUP has 68 bytes, and a fire-and-forget 6 and those of its message: each 3
+//! more in the queue, for its length.
+
+use super::ends::{BEGUN, CLIENT, NOT_BEGUN, SETUP, WIDE_CLIENT, refused_as_closed};
+use super::play::play;
+use super::step::{Step, Strange};
+use rs_wire::{Cause, Refusal, Rule};
+use std::test::Fail;
+use tape::Answer;
+
+#[test]
+fn a_client_opens_once_and_draws_what_waits(rt: HostRuntime) -> Result<(), Fail> {
+    let alloc = rt.alloc();
+    play(
+        &rt,
+        alloc,
+        CLIENT,
+        &[
+            (Step::Open, Answer::Opened(1)),
+            (Step::Open, Answer::Stale(1)),
+            (Step::Draw(1, 70), Answer::Drawn(70)),
+            (Step::Draw(1, 70), Answer::Drawn(1)),
+            (Step::Draw(1, 70), Answer::NotYet),
+        ],
+        &[SETUP],
+        BEGUN.after(4, 0),
+    )?;
+    let first = b"\x00\x00\x08\x00\x00\x00\x01\x14\x00hh";
+    let second = b"\x00\x00\x08\x00\x00\x00\x03\x14\x00hh";
+    play(
+        &rt,
+        alloc,
+        CLIENT,
+        &[
+            (Step::Open, Answer::Opened(1)),
+            (Step::Ask(2), Answer::Started(1)),
+            (Step::Draw(1, 75), Answer::Drawn(75)),
+            (Step::Ask(2), Answer::Started(3)),
+            (Step::Draw(1, 100), Answer::Drawn(18)),
+        ],
+        &[SETUP, first, second],
+        BEGUN.after(5, 0).made(2, 16),
+    )
+}
+
+#[test]
+fn another_connection_is_stale(rt: HostRuntime) -> Result<(), Fail> {
+    let alloc = rt.alloc();
+    play(
+        &rt,
+        alloc,
+        CLIENT,
+        &[
+            (Step::Draw(1, 9), Answer::Stale(0)),
+            (Step::Odd(1, Strange::Cancel), Answer::Stale(0)),
+            (Step::Bad(0, 3), Answer::Stale(0)),
+        ],
+        &[],
+        NOT_BEGUN.after(3, 0),
+    )?;
+    play(
+        &rt,
+        alloc,
+        CLIENT,
+        &[
+            (Step::Open, Answer::Opened(1)),
+            (Step::Draw(2, 9), Answer::Stale(1)),
+            (Step::Odd(2, Strange::Cancel), Answer::Stale(1)),
+            (Step::Bad(0, 3), Answer::Stale(1)),
+        ],
+        &[],
+        BEGUN.after(4, 71),
+    )
+}
+
+#[test]
+fn a_call_is_refused_for_the_first_cause(rt: HostRuntime) -> Result<(), Fail> {
+    let alloc = rt.alloc();
+    play(
+        &rt,
+        alloc,
+        CLIENT,
+        &[
+            (Step::Ask(101), Answer::Refused(Refusal::TooLarge(101))),
+            (Step::Ask(100), Answer::Refused(Refusal::NotConnected)),
+            (Step::Open, Answer::Opened(1)),
+            (Step::Ask(11), Answer::Refused(Refusal::PositionSpent)),
+            (Step::Ask(10), Answer::Started(1)),
+            (Step::Ask(0), Answer::Refused(Refusal::PositionSpent)),
+        ],
+        &[],
+        BEGUN.after(6, 71 + 19).made(1, 16),
+    )?;
+    play(
+        &rt,
+        alloc,
+        CLIENT,
+        &[
+            (Step::Open, Answer::Opened(1)),
+            (Step::Ask(0), Answer::Started(1)),
+            (Step::Ask(4), Answer::Started(3)),
+            (Step::Ask(0), Answer::Refused(Refusal::IdsGone)),
+            (Step::Ask(101), Answer::Refused(Refusal::TooLarge(101))),
+        ],
+        &[],
+        BEGUN.after(5, 71 + 9 + 13).made(2, 16),
+    )
+}
+
+#[test]
+fn a_full_queue_refuses_and_makes_wait(rt: HostRuntime) -> Result<(), Fail> {
+    let alloc = rt.alloc();
+    // 71 and 16,000,009 bytes wait; 16,778,239 may, and 67 of them are kept for an answer.
+    let full = Answer::Refused(Refusal::OutFull(16_000_080));
+    play(
+        &rt,
+        alloc,
+        WIDE_CLIENT,
+        &[
+            (Step::Open, Answer::Opened(1)),
+            (Step::Ask(16_000_000), Answer::Started(1)),
+            (Step::Ask(778_151), full),
+            (Step::Came(2, 778_087), Answer::OutBusy(16_000_080)),
+            (Step::Came(2, 778_086), Answer::Handled),
+        ],
+        &[],
+        BEGUN
+            .after(4, 16_000_080)
+            .made(1, 16_000_006)
+            .handled(1, 778_092),
+    )?;
+    let third = Rule::BadFrame(3);
+    let at_end = BEGUN.after(5, 16_778_172).made(2, 16_778_162);
+    play(
+        &rt,
+        alloc,
+        WIDE_CLIENT,
+        &[
+            (Step::Open, Answer::Opened(1)),
+            (Step::Ask(16_000_000), Answer::Started(1)),
+            (Step::Ask(778_150), Answer::Started(3)),
+            (Step::Bad(1, 3), Answer::OutBusy(16_778_239)),
+            (Step::Draw(1, 67), Answer::Drawn(67)),
+            (Step::Bad(1, 3), Answer::Violation(third)),
+        ],
+        &[&SETUP[..67]],
+        at_end.closed(Cause::Broken(third)),
+    )
+}
+
+#[test]
+fn a_closed_session_refuses_for_its_first_cause(rt: HostRuntime) -> Result<(), Fail> {
+    let alloc = rt.alloc();
+    let third = Cause::Broken(Rule::BadFrame(3));
+    play(
+        &rt,
+        alloc,
+        CLIENT,
+        &[
+            (Step::Open, Answer::Opened(1)),
+            (Step::Bad(1, 3), Answer::Violation(Rule::BadFrame(3))),
+            (Step::Bad(1, 4), Answer::Closed(third)),
+            (Step::Odd(1, Strange::Cancel), Answer::Closed(third)),
+            (Step::Open, Answer::Closed(third)),
+            (Step::Ask(101), refused_as_closed(third)),
+            (Step::Draw(1, 99), Answer::Drawn(71)),
+        ],
+        &[SETUP],
+        BEGUN.after(7, 0).closed(third),
+    )?;
+    let not_now = Cause::Broken(Rule::NotNow);
+    let odd = Step::Odd(1, Strange::Cancel);
+    play(
+        &rt,
+        alloc,
+        CLIENT,
+        &[
+            (Step::Open, Answer::Opened(1)),
+            (odd, Answer::Violation(Rule::NotNow)),
+            (Step::Bad(1, 3), Answer::Closed(not_now)),
+            (Step::Ask(0), refused_as_closed(not_now)),
+        ],
+        &[],
+        BEGUN.after(4, 71).closed(not_now),
+    )
+}
+
+#[test]
+fn frames_both_ways_are_counted(rt: HostRuntime) -> Result<(), Fail> {
+    let alloc = rt.alloc();
+    let third = Rule::BadFrame(3);
+    let at_end = BEGUN.after(6, 14).made(2, 12).handled(1, 6);
+    play(
+        &rt,
+        alloc,
+        WIDE_CLIENT,
+        &[
+            (Step::Open, Answer::Opened(1)),
+            (Step::Ask(0), Answer::Started(1)),
+            (Step::Draw(1, 75), Answer::Drawn(75)),
+            (Step::Came(2, 0), Answer::Handled),
+            (Step::Ask(0), Answer::Started(3)),
+            (Step::Bad(1, 3), Answer::Violation(third)),
+        ],
+        &[SETUP, b"\x00\x00\x06\x00"],
+        at_end.closed(Cause::Broken(third)),
+    )?;
+    // A server's streams are even.
+    let odd = Rule::StreamId(5);
+    play(
+        &rt,
+        alloc,
+        CLIENT,
+        &[
+            (Step::Open, Answer::Opened(1)),
+            (Step::Came(2, 0), Answer::Handled),
+            (Step::Came(5, 0), Answer::Violation(odd)),
+        ],
+        &[],
+        BEGUN.after(3, 71).handled(1, 6).closed(Cause::Broken(odd)),
+    )
+}

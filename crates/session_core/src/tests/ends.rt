@@ -1,0 +1,77 @@
+//! The ends that the lists are played on, and what they show.
+
+use super::play::{Limits, Shown};
+use crate::Counts;
+use rs_wire::{Cause, Refusal, Side};
+use tape::Answer;
+
+/// A client whose messages have 100 bytes at most, up to stream 3 and position 16.
+pub const CLIENT: Limits = Limits {
+    side: Side::Client,
+    max_payload: 100,
+    last_id: 3,
+    top_position: 16,
+};
+
+/// A client without narrow limits.
+pub const WIDE_CLIENT: Limits = Limits {
+    side: Side::Client,
+    max_payload: 16_000_000,
+    last_id: 9,
+    top_position: 100_000_000,
+};
+
+/// A server whose messages have 4 bytes at most, up to position 14.
+pub const SERVER: Limits = Limits {
+    side: Side::Server,
+    max_payload: 4,
+    last_id: 9,
+    top_position: 14,
+};
+
+/// No frame was made or handled.
+pub const NO_FRAMES: Counts = Counts {
+    made_frames: 0,
+    made: 0,
+    handled_frames: 0,
+    handled: 0,
+};
+
+/// A session that is not begun.
+pub const NOT_BEGUN: Shown = Shown {
+    entries: 0,
+    live: 0,
+    carrying: false,
+    queued: 0,
+    cause: None,
+    keepalive: None,
+    counts: NO_FRAMES,
+};
+
+/// A client that opened. Its SETUP waits.
+pub const BEGUN: Shown = Shown {
+    entries: 1,
+    live: 1,
+    carrying: true,
+    queued: 71,
+    ..NOT_BEGUN
+};
+
+/// A server that was opened.
+pub const OPENED: Shown = Shown {
+    queued: 0,
+    keepalive: Some(20_000),
+    ..BEGUN
+};
+
+/// The SETUP of a client after its length of 68: stream 0, type 1 without flags, version 1.0, a
+/// keepalive of 20,000 and a lifetime of 90,000 milliseconds, and two MIME types of 24 bytes.
+pub const SETUP: &[u8] = b"\
+    \x00\x00\x44\x00\x00\x00\x00\x04\x00\x00\x01\x00\x00\x00\x00\x4e\x20\x00\x01\x5f\x90\
+    \x18application/octet-stream\
+    \x18application/octet-stream";
+
+/// A call is refused, since the session is closed for this cause.
+pub fn refused_as_closed(cause: Cause) -> Answer {
+    Answer::Refused(Refusal::Closed(cause))
+}

@@ -1,0 +1,227 @@
+//! Plays a list of steps on a session, and compares each answer and what the session shows at the
+//! end.
+
+ghost use Rattle.std.specs.Prelude.{IsTrue};
+ghost use Rattle.session_model.specs.Legal.{IsAskable, IsFair};
+ghost use Rattle.session_core.specs.Seen.{IsNoDrawEvent};
+
+use super::step::Step;
+use crate::{Counts, Session};
+use rs_frame::spellable;
+use rs_wire::{Call, Cause, Kind, Settings, Side, check};
+use std::alloc::Global;
+use std::process::Abort;
+use std::test::Fail;
+use tape::{Answer, Event, Kept, Tape};
+
+/// What an end is set to. It may queue 16,778,239 bytes.
+#[derive(Clone, Copy)]
+pub struct Limits {
+    /// Which end it is.
+    pub side: Side,
+    /// How many bytes a message may have.
+    pub max_payload: u32,
+    /// The last stream id that the end uses.
+    pub last_id: u32,
+    /// The last position, in bytes.
+    pub top_position: u64,
+}
+
+/// What a session shows of itself.
+#[derive(Clone, Copy, Debug, PartialEq, Eq)]
+pub struct Shown {
+    /// How many entries its tape has.
+    pub entries: u64,
+    /// The live connection, 0 for none.
+    pub live: u64,
+    /// Whether frames go out on it at once.
+    pub carrying: bool,
+    /// How many bytes wait to be drawn.
+    pub queued: u64,
+    /// Why it is closed, where it is.
+    pub cause: Option<Cause>,
+    /// The keepalive of the SETUP that it accepted, in milliseconds.
+    pub keepalive: Option<u32>,
+    /// How many frames it made and handled, and their positions.
+    pub counts: Counts,
+}
+
+impl Shown {
+    /// The same with this many entries, and this many bytes that wait.
+    pub fn after(self, entries: u64, queued: u64) -> Shown {
+        Shown {
+            entries,
+            queued,
+            ..self
+        }
+    }
+
+    /// The same, closed for this cause.
+    pub fn closed(self, cause: Cause) -> Shown {
+        Shown {
+            cause: Some(cause),
+            ..self
+        }
+    }
+
+    /// The same with frames made up to this position.
+    pub fn made(self, frames: u64, position: u64) -> Shown {
+        Shown {
+            counts: Counts {
+                made_frames: frames,
+                made: position,
+                ..self.counts
+            },
+            ..self
+        }
+    }
+
+    /// The same with frames handled up to this position.
+    pub fn handled(self, frames: u64, position: u64) -> Shown {
+        Shown {
+            counts: Counts {
+                handled_frames: frames,
+                handled: position,
+                ..self.counts
+            },
+            ..self
+        }
+    }
+}
+
+fn session(alloc: Global, limits: Limits) -> Result<Session<Kept>, Fail> {
+    let mut settings = Settings::usual(alloc, limits.side)?;
+    settings.hold = 0;
+    settings.slack = 0;
+    settings.max_payload = limits.max_payload;
+    settings.last_id = limits.last_id;
+    settings.top_position = limits.top_position;
+    let Ok(checked) = check(settings) else {
+        return Err(Fail::from("the settings are right"));
+    };
+    // The contract of this call says that the limits are in their ranges, as a session requires.
+    let _limits = checked.settings();
+    match Session::new(alloc, checked, Kept::new(alloc)) {
+        Ok(session) => Ok(session),
+        Err(_) => Err(Fail::from("there is memory")),
+    }
+}
+
+// A call that can be made: a fire-and-forget without metadata.
+fn is_askable(call: &Call) -> bool
+    ensures { IsTrue result → IsAskable call.now }
+{
+    let Call::Request {
+        kind,
+        initial,
+        message,
+        complete,
+    } = call;
+    *kind == Kind::Fnf && initial.is_none() && message.metadata.is_none() && !*complete
+}
+
+// An event that can happen at that end, and is no draw.
+fn is_act(settings: &Settings, event: &Event) -> bool
+    ensures fair { IsTrue result → IsFair settings.now event.now }
+    ensures no_draw { IsTrue result → IsNoDrawEvent event.now }
+{
+    match event {
+        Event::Open { first: None, .. } => settings.side == Side::Client,
+        Event::Open {
+            first: Some(first),
+            ..
+        } => settings.side == Side::Server && spellable(first),
+        Event::Draw { .. } => false,
+        Event::Came { frame, .. } => spellable(frame),
+        Event::Bad { rule, .. } => 0 < *rule && *rule <= 10,
+        Event::Asked(call) => is_askable(call),
+    }
+}
+
+fn act(session: &mut Session<Kept>, event: &Event) -> Result<Answer, Fail> {
+    if !is_act(session.settings().settings(), event) {
+        return Err(Fail::from("the event can happen"));
+    }
+    Ok(session.step(1, event))
+}
+
+// The answer to a draw. The bytes drawn are appended to those sent.
+fn draw(
+    alloc: Global,
+    session: &mut Session<Kept>,
+    conn: u64,
+    room: u32,
+    sent: &mut Vec<u8>,
+) -> Result<Answer, Fail> {
+    let mut buffer = Vec::new(alloc);
+    buffer.resize(room as usize, 0)?;
+    if buffer.is_empty() || buffer.len() >= 1 << 32 {
+        return Err(Fail::from("there is room for 1 byte to 4,294,967,295"));
+    }
+    let answer = session.draw(1, conn, buffer.as_mut_slice());
+    if let Answer::Drawn(n) = &answer {
+        buffer.truncate(*n as usize);
+        sent.extend_from_slice(buffer.as_slice())?;
+    }
+    Ok(answer)
+}
+
+fn answer(
+    alloc: Global,
+    session: &mut Session<Kept>,
+    step: Step,
+    sent: &mut Vec<u8>,
+) -> Result<Answer, Fail> {
+    match step {
+        Step::Draw(conn, room) => draw(alloc, session, conn, room, sent),
+        _ => act(session, &step.event(alloc)?),
+    }
+}
+
+fn show(session: &Session<Kept>) -> Shown {
+    let keepalive = match session.setup() {
+        Some(setup) => Some(setup.keepalive.get()),
+        None => None,
+    };
+    Shown {
+        entries: session.tape().count(),
+        live: session.live(),
+        carrying: session.carrying(),
+        queued: session.queued(),
+        cause: session.cause().copied(),
+        keepalive,
+        counts: session.counts(),
+    }
+}
+
+// The pieces, one after another.
+fn joined(alloc: Global, pieces: &[&[u8]]) -> Result<Vec<u8>, Fail> {
+    let mut bytes = Vec::new(alloc);
+    for piece in pieces {
+        bytes.extend_from_slice(piece)?;
+    }
+    Ok(bytes)
+}
+
+/// Plays the steps one after another on a new session of these limits. Each has the answer that
+/// stands beside it; at the end the bytes drawn are the pieces, and the session shows what is given.
+pub fn play(
+    rt: &impl Abort,
+    alloc: Global,
+    limits: Limits,
+    steps: &[(Step, Answer)],
+    pieces: &[&[u8]],
+    at_end: Shown,
+) -> Result<(), Fail> {
+    let mut session = session(alloc, limits)?;
+    let mut sent = Vec::new(alloc);
+    for (step, expected) in steps {
+        let given = answer(alloc, &mut session, *step, &mut sent)?;
+        assert_eq!(rt; given, *expected, "to {step:?}");
+    }
+    let joined = joined(alloc, pieces)?;
+    assert!(rt; sent.as_slice() == joined.as_slice());
+    assert_eq!(rt; show(&session), at_end);
+    assert_eq!(rt; session.into_tape().count(), at_end.entries);
+    Ok(())
+}

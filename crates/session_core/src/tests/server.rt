@@ -1,0 +1,129 @@
+//! Lists of a server, whose client's SETUP has no MIME types. A fire-and-forget has 6 bytes and
+//! those of its message, and 3 more in the queue, for its length.
+
+use super::ends::{NOT_BEGUN, OPENED, SERVER, refused_as_closed};
+use super::play::play;
+use super::step::{First, Step, Strange};
+use rs_wire::{Cause, Refusal, Rule, SetupFault};
+use std::alloc::Global;
+use std::process::Abort;
+use std::test::Fail;
+use tape::Answer;
+
+#[test]
+fn a_server_is_opened_once(rt: HostRuntime) -> Result<(), Fail> {
+    let taken = Answer::SetupRefused(SetupFault::TokenTaken);
+    play(
+        &rt,
+        rt.alloc(),
+        SERVER,
+        &[
+            (Step::Opened(First::Good, false), Answer::Opened(1)),
+            (Step::Opened(First::Good, false), taken),
+            (Step::Draw(1, 9), Answer::NotYet),
+            (Step::Came(1, 2), Answer::Handled),
+            (Step::Ask(2), Answer::Started(2)),
+            (Step::Draw(2, 9), Answer::Stale(1)),
+            (Step::Draw(1, 9), Answer::Drawn(9)),
+            (Step::Draw(1, 9), Answer::Drawn(2)),
+            (Step::Ask(0), Answer::Started(4)),
+        ],
+        &[b"\x00\x00\x08\x00\x00\x00\x02\x14\x00hh"],
+        OPENED.after(8, 9).made(2, 14).handled(1, 8),
+    )
+}
+
+// Plays a wrong first frame whose token is taken, and what is refused for it afterwards.
+fn play_refused(
+    rt: &impl Abort,
+    alloc: Global,
+    first: First,
+    fault: SetupFault,
+) -> Result<(), Fail> {
+    let cause = Cause::Setup(fault);
+    play(
+        rt,
+        alloc,
+        SERVER,
+        &[
+            (Step::Opened(first, true), Answer::SetupRefused(fault)),
+            (Step::Opened(First::Good, false), Answer::Closed(cause)),
+            (Step::Ask(9), refused_as_closed(cause)),
+            (Step::Draw(1, 9), Answer::Stale(0)),
+        ],
+        &[],
+        NOT_BEGUN.after(4, 0).closed(cause),
+    )
+}
+
+#[test]
+fn a_wrong_first_frame_is_refused(rt: HostRuntime) -> Result<(), Fail> {
+    for (first, fault) in [
+        (First::Other, SetupFault::NotFirst),
+        (First::Newer, SetupFault::BadVersion(2, 0)),
+        (First::Resuming, SetupFault::NoResume),
+        (First::Leasing, SetupFault::NoLease),
+        (First::Good, SetupFault::TokenTaken),
+    ] {
+        play_refused(&rt, rt.alloc(), first, fault)?;
+    }
+    Ok(())
+}
+
+// Plays a request of 8 bytes on stream 3, and a second frame that breaks a rule.
+fn play_broken(rt: &impl Abort, alloc: Global, second: Step, rule: Rule) -> Result<(), Fail> {
+    let cause = Cause::Broken(rule);
+    play(
+        rt,
+        alloc,
+        SERVER,
+        &[
+            (Step::Opened(First::Good, false), Answer::Opened(1)),
+            (Step::Came(3, 2), Answer::Handled),
+            (second, Answer::Violation(rule)),
+            (Step::Came(5, 0), Answer::Closed(cause)),
+            (Step::Odd(2, Strange::Cancel), Answer::Stale(1)),
+        ],
+        &[],
+        OPENED.after(5, 0).handled(1, 8).closed(cause),
+    )
+}
+
+#[test]
+fn a_frame_breaks_the_least_rule(rt: HostRuntime) -> Result<(), Fail> {
+    for (second, rule) in [
+        (Step::Odd(1, Strange::Cancel), Rule::NotNow),
+        (Step::Odd(1, Strange::Unknown), Rule::NotNow),
+        (Step::Odd(1, Strange::Setup), Rule::NotNow),
+        (Step::Odd(1, Strange::Response), Rule::NotNow),
+        (Step::Odd(1, Strange::Fragment), Rule::NotNow),
+        (Step::Odd(1, Strange::WithMetadata), Rule::NotNow),
+        (Step::Came(4, 5), Rule::StreamId(4)),
+        (Step::Came(3, 5), Rule::StreamId(3)),
+        (Step::Came(1, 5), Rule::StreamId(1)),
+        (Step::Came(5, 5), Rule::TooLarge(5)),
+        (Step::Came(5, 1), Rule::PositionSpent),
+        (Step::Bad(1, 10), Rule::BadFrame(10)),
+    ] {
+        play_broken(&rt, rt.alloc(), second, rule)?;
+    }
+    Ok(())
+}
+
+#[test]
+fn a_request_is_handled_up_to_the_top_position(rt: HostRuntime) -> Result<(), Fail> {
+    play(
+        &rt,
+        rt.alloc(),
+        SERVER,
+        &[
+            (Step::Opened(First::Good, false), Answer::Opened(1)),
+            (Step::Came(1, 2), Answer::Handled),
+            (Step::Came(9, 0), Answer::Handled),
+            (Step::Ask(4), Answer::Started(2)),
+            (Step::Ask(0), Answer::Refused(Refusal::PositionSpent)),
+        ],
+        &[],
+        OPENED.after(5, 13).made(1, 10).handled(2, 14),
+    )
+}
