@@ -4,7 +4,7 @@ use Rattle.std.specs.List.{flat_map, AllByRecursion}
 use Rattle.std.proofs.lemmas.List.{length-append}
 use Rattle.std.proofs.lemmas.List.Concat.{flat_map-cons}
 use Rattle.byteorder.specs.Endian.{big_bytes, big_number}
-use Rattle.rs_frame.specs.Rules.{counted}
+use Rattle.rs_frame.specs.Rules.{prefixed}
 use Rattle.rs_frame.proofs.Fields.{counted_again, number_again}
 use Rattle.rs_frame.specs.Framed.{framed}
 use Rattle.rs_chunk.specs.Stream.{HasFrame, Reads}
@@ -15,7 +15,7 @@ same_pair a b e =
     (ap (λ (p : List ℕ × List ℕ). p.0) both, ap (λ (p : List ℕ × List ℕ). p.1) both)
 
 same_front : (f g x y : List ℕ) → length f < 2 ^ 24 → length g < 2 ^ 24 → framed f ++ x ≡ framed g ++ y → (f ≡ g) × (x ≡ y)
-same_front f g x y a b e = same_pair (f, x) (g, y) (sym (counted_again 3 f x a) ∙ ap (counted 3) e ∙ counted_again 3 g y b)
+same_front f g x y a b e = same_pair (f, x) (g, y) (sym (counted_again 3 f x a) ∙ ap (prefixed 3) e ∙ counted_again 3 g y b)
 
 has_front : (f x : List ℕ) → length f < 2 ^ 24 → HasFrame (framed f ++ x)
 has_front f x a =

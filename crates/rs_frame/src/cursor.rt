@@ -4,7 +4,7 @@
 ghost use Rattle.std.specs.Prelude.{◌≡◌, ◌+◌, ◌<◌, ◌≤◌, ◌^◌, ◌++◌, ◌↔◌, IsTrue, length, vec_len, vec_capacity};
 ghost use Rattle.std.specs.Option.{option_map};
 ghost use Rattle.byteorder.specs.Endian.{big_bytes};
-ghost use Rattle.rs_frame.specs.Rules.{counted};
+ghost use Rattle.rs_frame.specs.Rules.{prefixed};
 ghost use Rattle.rs_frame.specs.Spelling.{IsStream, counted_bytes};
 ghost use Rattle.rs_frame.specs.Table.{long_at};
 ghost use Rattle.rs_frame.specs.Views.{cut_of};
@@ -24,7 +24,7 @@ pub fn cut(len: usize, bytes: &[u8]) -> Option<(&[u8], &[u8])>
 
 /// A length of one byte and that many bytes: these, and what follows.
 pub fn counted_u8(bytes: &[u8]) -> Option<(&[u8], &[u8])>
-    ensures { option_map (λ x. (x.0.now, x.1.now)) result ≡ counted 1 bytes.now }
+    ensures { option_map (λ x. (x.0.now, x.1.now)) result ≡ prefixed 1 bytes.now }
 {
     match bytes {
         [] => None,
@@ -34,7 +34,7 @@ pub fn counted_u8(bytes: &[u8]) -> Option<(&[u8], &[u8])>
 
 /// A length of two bytes and that many bytes: these, and what follows.
 pub fn counted_u16(bytes: &[u8]) -> Option<(&[u8], &[u8])>
-    ensures { option_map (λ x. (x.0.now, x.1.now)) result ≡ counted 2 bytes.now }
+    ensures { option_map (λ x. (x.0.now, x.1.now)) result ≡ prefixed 2 bytes.now }
 {
     if bytes.len() < 2 {
         return None;
@@ -44,7 +44,7 @@ pub fn counted_u16(bytes: &[u8]) -> Option<(&[u8], &[u8])>
 
 /// A length of three bytes and that many bytes: these, and what follows.
 pub fn counted_u24(bytes: &[u8]) -> Option<(&[u8], &[u8])>
-    ensures { option_map (λ x. (x.0.now, x.1.now)) result ≡ counted 3 bytes.now }
+    ensures { option_map (λ x. (x.0.now, x.1.now)) result ≡ prefixed 3 bytes.now }
 {
     if bytes.len() < 3 {
         return None;

@@ -18,15 +18,15 @@ use Rattle.session_model.specs.Frames.{request_frame}
 use Rattle.session_model.specs.Answers.{Facts, broken_rule}
 
 -- the first frame, where there is one, is one that a server can keep
-abbrev pub Suits : Settings → Option Frame → Bool → Type 0
-Suits g None taken = Unit {0}
-Suits g (Some f) taken = setup_fault f g taken ≡ None
+abbrev pub SuitsFirst : Settings → Option Frame → Bool → Type 0
+SuitsFirst g None taken = Unit {0}
+SuitsFirst g (Some f) taken = setup_fault f g taken ≡ None
 
 pub record Opening (g : Settings) (t : Facts) (first : Option Frame) (taken : Bool) (n : ℕ) : Type 0 where
   pub next : n ≡ t.openings + 1
   pub fresh : t.begun ≡ false
   pub free : t.closed ≡ None
-  pub suits : Suits g first taken
+  pub suits : SuitsFirst g first taken
 
 pub record Starting (g : Settings) (t : Facts) (kind : Kind) (initial : Option ℕ) (message : Message) (complete : Bool) (id : ℕ) : Type 0 where
   pub next : id ≡ next_id g.side t.streams
@@ -54,9 +54,9 @@ abbrev pub Starts : Settings → Facts → ℕ → Event → Type 0
 Starts g t id (event.Asked (call.Request kind initial message complete)) = Starting g t kind initial message complete id
 Starts g t id _ = ⊥
 
-abbrev pub Draws : Facts → ℕ → Event → Type 0
-Draws t n (event.Draw conn room) = Drawing t conn room n
-Draws t n _ = ⊥
+abbrev pub GivesBytes : Facts → ℕ → Event → Type 0
+GivesBytes t n (event.Draw conn room) = Drawing t conn room n
+GivesBytes t n _ = ⊥
 
 abbrev pub Handles : Settings → Facts → Event → Type 0
 Handles g t (event.Came conn f) = Handling g t conn f
@@ -94,7 +94,7 @@ FindsNothing t _ = ⊥
 abbrev pub Means : Settings → Facts → Event → Answer → Type 0
 Means g t e (answer.Opened n) = Opens g t n e
 Means g t e (answer.Started id) = Starts g t id e
-Means g t e (answer.Drawn n) = Draws t n e
+Means g t e (answer.Drawn n) = GivesBytes t n e
 Means g t e answer.Handled = Handles g t e
 Means g t e (answer.Violation rule) = Lands t e
 Means g t e (answer.OutBusy n) = Lands t e

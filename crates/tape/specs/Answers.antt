@@ -12,9 +12,9 @@ leaves answer.OutOfMemory = false
 leaves _ = true
 
 -- how many bytes were drawn, where some were
-abbrev pub drawn : Answer → Option ℕ
-drawn (answer.Drawn count) = Some count
-drawn _ = None
+abbrev pub drawn_by : Answer → Option ℕ
+drawn_by (answer.Drawn count) = Some count
+drawn_by _ = None
 
 -- out of memory, or of places on the tape
 abbrev pub is_out_of_memory : Answer → Bool

@@ -1,7 +1,7 @@
 //! What a session answers.
 
 ghost use Rattle.std.specs.Prelude.{◌≡◌, IfOk};
-ghost use Rattle.tape.specs.Answers.{drawn, is_out_of_memory, leaves};
+ghost use Rattle.tape.specs.Answers.{drawn_by, is_out_of_memory, leaves};
 
 use rs_wire::{Cause, OutOfMemory, Refusal, Rule, SetupFault};
 use std::alloc::Global;
@@ -51,7 +51,7 @@ impl Answer {
 
     /// How many bytes were drawn, where some were.
     pub fn drawn(&self) -> Option<u32>
-        ensures { result ≡ drawn self.now }
+        ensures { result ≡ drawn_by self.now }
     {
         match self {
             Answer::Drawn(count) => Some(*count),
