@@ -81,7 +81,7 @@ module _ (s : Shape) (bare : IsBare s) where
       go false is (Some p) found f = inr (p, found, first_empty _ _ f)
       go false is None found f = absurd (not_long (short_of word) word rows (first_empty _ _ f) (second_empty _ _ f))
 
-  -- no word stands behind `--`
+  -- no word stands after `--`
   pub end_is_last : (words : List Text) (rows : List Row) → walk_fault s [] (behind_the_end rows) words ≡ [] → words ≡ []
   unfolding walk_fault
   end_is_last [] rows e = refl

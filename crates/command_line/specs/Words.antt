@@ -1,4 +1,4 @@
--- The words that ask for each task of the program: its first word is a command, and the others are
+-- The words that ask for each task of the program: the first word is a command, and the others are
 -- those that clap takes by this command.
 use Rattle.std.specs.Prelude.{◌≡◌, ◌⊎◌, ◌++◌, ◌∷◌, ℕ, true, false, Bool, List, [], Some, codes, slice_get}
 use Rattle.std.specs.List.{All}
@@ -47,6 +47,6 @@ Asks words (Frames back) =
 
 -- ---- words of a law
 
--- the words are these, and maybe `--` behind them
+-- the words are these, and maybe `--` after them
 abbrev pub AreJust : List (List ℕ) → List (List ℕ) → Type 0
 AreJust words these = (words ≡ these) ⊎ (words ≡ these ++ codes "--" ∷ [])

@@ -1,12 +1,13 @@
 //! The words of the program's command line.
 //!
 //! The first word after the program's name is the command; the words after it are read by `clap`, as
-//! those of one simple command. The promise to the room above: [`read_words`] gives a task exactly
-//! where clap takes the words, and says that they ask for nothing only where they ask for no task.
-//! [`words_laws`] writes out what that comes to.
+//! those of one simple command. The promise to the layer above: [`read_words`] gives a task only
+//! where `clap` takes the words of it, and refuses them as [`WordsFault::Usage`] only where they ask
+//! for no task; where memory runs out it may say so in place of either. [`words_laws`] writes out
+//! which words those are.
 //!
 //! Left out: what a task does, and texts of help, of the version and of what is wrong with the words:
-//! every faulty command line is answered alike.
+//! every faulty command line has the same answer.
 #![tactic(auto)]
 
 mod cable;

@@ -7,8 +7,8 @@ use crate::fault::WordsFault;
 use clap::error::ErrorKind;
 use clap::{ArgMatches, Command};
 
-/// What clap reads of the words, the first of which is the command's name. `Usage` where it refuses
-/// them.
+/// What `clap` reads of the words, the first of which is the command's name. `Usage` where it
+/// refuses them.
 pub fn parse<'a>(command: Command<'a>, words: &'a [&'a str]) -> Result<ArgMatches<'a>, WordsFault>
     requires { is_simple_and_free (app_of command) ≡ true }
     ensures taken { OnOk result (fault_of (app_of command.entry) (map (λ w. w.now) words.entry.now) ≡ []) }

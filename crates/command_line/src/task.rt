@@ -43,8 +43,8 @@ fn read_texts<'a>(alloc: Global, words: &'a [&'a str]) -> Result<Task, WordsFaul
     }
 }
 
-/// Reads the words after the program's name. Beside [`WordsFault::Usage`], which is exact, memory may
-/// run out; nothing is left behind by either.
+/// Reads the words after the program's name. [`WordsFault::Usage`] comes only where they ask for no
+/// task, and a task only where they ask for it.
 pub fn read_words(alloc: Global, words: &[Blob]) -> Result<Task, WordsFault>
     ensures asked { IfOk result (Asks words.now) }
     ensures usage { result ≡ Err WordsFault.Usage → (task : Task) → ¬ (Asks words.now task) }

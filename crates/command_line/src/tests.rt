@@ -26,7 +26,7 @@ fn is_usage(alloc: Global, words: &[&[u8]]) -> Result<bool, Fail> {
 }
 
 #[test]
-fn cable_has_no_word_behind_it(rt: HostRuntime) -> Result<(), Fail> {
+fn cable_has_no_word_after_it(rt: HostRuntime) -> Result<(), Fail> {
     let cable = Ok(Task::Cable);
     assert!(rt; answer(rt.alloc(), &[CABLE])? == cable);
     assert!(rt; answer(rt.alloc(), &[CABLE, END])? == cable);

@@ -14,7 +14,7 @@ pub record Times : Type 0 where
   -- the moments of the last arrival and of the last sending
   pub arrival : ℕ
   pub sending : ℕ
-  -- the moment that was told last
+  -- the last moment that was handed in
   pub moment : ℕ
 
 -- nothing came for a lifetime

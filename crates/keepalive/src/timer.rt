@@ -31,7 +31,7 @@ pub struct Timer {
     arrival: u64,
     /// The moment of the last sending.
     sending: u64,
-    /// The moment that was told last.
+    /// The last moment that was handed in.
     moment: u64,
 }
 
@@ -70,7 +70,7 @@ impl Timer {
     /// The timer of a connection that is opened at the moment `now`, in milliseconds, with the
     /// interval between two KEEPALIVEs and the lifetime, in milliseconds. `sends` says whether this
     /// end sends KEEPALIVEs: a client does, and a server only answers them (RSocket 1.0, "Keepalive
-    /// Frame"). The opening counts as an arrival and as a sending. Takes no memory.
+    /// Frame"). The opening counts as an arrival and as a sending.
     pub fn new(interval: Amount, lifetime: Amount, now: u64, sends: bool) -> Timer
         ensures { result ≡ record {
           interval = interval;
@@ -91,14 +91,14 @@ impl Timer {
         }
     }
 
-    /// Takes note that something came, at the moment that was told last. Takes no memory.
+    /// Notes that something came, at the last moment that was handed in.
     pub fn came(&mut self)
         ensures { self.new ≡ record self.old { arrival = self.old.moment } }
     {
         self.arrival = self.moment;
     }
 
-    /// Takes note that a KEEPALIVE was sent, at the moment that was told last. Takes no memory.
+    /// Notes that a KEEPALIVE was sent, at the last moment that was handed in.
     pub fn sent(&mut self)
         ensures { self.new ≡ record self.old { sending = self.old.moment } }
     {
@@ -108,7 +108,7 @@ impl Timer {
     /// Takes the moment `now`, in milliseconds, and says what is due at it: [`Due::Dead`] with the
     /// last arrival, exactly where that and the lifetime are at most `now` together; else
     /// [`Due::Send`], exactly where this end sends KEEPALIVEs, and the last sending and the interval
-    /// are at most `now` together; else [`Due::Nothing`]. Takes no memory.
+    /// are at most `now` together; else [`Due::Nothing`].
     pub fn tick(&mut self, now: u64) -> Due
         ensures due { result ≡ due_at self.old now }
         ensures dead { (result ≡ Due.Dead self.old.arrival) ↔ IsDead self.old now }

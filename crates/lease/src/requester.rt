@@ -8,7 +8,7 @@ use std::marker::Model;
 /// Why a request may not be made now (RSocket 1.0, "Lease Semantics").
 #[derive(Clone, Copy, Debug, PartialEq, Eq)]
 pub enum LeaseFault {
-    /// All requests of the lease, which are so many, are used; 0 where there is no lease.
+    /// All requests of the lease, which this number counts, are used; 0 where there is no lease.
     Used(u32),
     /// The lease is over since this moment, in milliseconds.
     Over(u64),
@@ -48,7 +48,7 @@ impl Model for Lease {
 }
 
 impl Lease {
-    /// No lease. Takes no memory.
+    /// No lease.
     pub fn new() -> Lease
         ensures { result ≡ None }
     {
@@ -57,7 +57,7 @@ impl Lease {
 
     /// Takes a LEASE that came at the moment `now`, in milliseconds, with this time to live, in
     /// milliseconds, and this count of requests. It replaces the former lease; its end is `now` plus
-    /// its time to live. Takes no memory.
+    /// its time to live.
     pub fn grant(&mut self, now: u64, ttl: u32, count: u32)
         ensures { self.new ≡ Some (record { count = count; expires = now + ttl; used = 0 }) }
     {
@@ -68,14 +68,14 @@ impl Lease {
         });
     }
 
-    /// Gives the lease up, as it ends with its connection. Takes no memory.
+    /// Gives the lease up, as it ends with its connection.
     pub fn gone(&mut self)
         ensures { self.new ≡ None }
     {
         self.terms = None;
     }
 
-    /// Counts a request that [`Lease::may`] let through. Takes no memory.
+    /// Counts a request that [`Lease::may`] let through.
     pub fn use_one(&mut self)
         requires { HasLeft self.old }
         ensures { IfSome self.old (λ l. self.new ≡ Some (record l { used = l.used + 1 })) }
@@ -88,7 +88,7 @@ impl Lease {
     /// Whether a request may be made at this moment, in milliseconds. [`LeaseFault::Used`] exactly
     /// where all requests of the lease are used, with their number, or there is no lease, with 0;
     /// else [`LeaseFault::Over`] exactly where the moment is at or after the end of the lease, with
-    /// that end. Takes no memory.
+    /// that end.
     pub fn may(&self, now: u64) -> Result<(), LeaseFault>
         ensures accepted { IsOk result ↔ IsUsable self.now now }
         ensures first_fault { MatchResult result

@@ -30,7 +30,7 @@ impl Model for Granted {
 }
 
 impl Granted {
-    /// Nothing granted and nothing admitted. Takes no memory.
+    /// Nothing granted and nothing admitted.
     pub fn new() -> Granted
         ensures { result ≡ record { granted = 0; admitted = 0 } }
     {
@@ -40,7 +40,7 @@ impl Granted {
         }
     }
 
-    /// Grants so many requests more. Takes no memory.
+    /// Grants `count` more requests.
     pub fn grant(&mut self, count: Amount)
         requires { self.old.granted < 2 ^ 100 }
         ensures { self.new ≡ record self.old { granted = self.old.granted + count } }
@@ -49,7 +49,7 @@ impl Granted {
     }
 
     /// Admits a request: true exactly where fewer were admitted than were granted in sum. It is then
-    /// counted, and else nothing changes. Takes no memory.
+    /// counted, and else nothing changes.
     pub fn admit(&mut self) -> bool
         ensures answer { IsTrue result ↔ (self.old.admitted < self.old.granted) }
         ensures counted { OnTrue result
@@ -64,7 +64,7 @@ impl Granted {
         true
     }
 
-    /// What [`Granted::admit`] would answer. Takes no memory.
+    /// What [`Granted::admit`] would answer.
     pub fn would_admit(&self) -> bool
         ensures { IsTrue result ↔ (self.now.admitted < self.now.granted) }
     {

@@ -32,7 +32,7 @@ impl Model for Counter {
 }
 
 impl Counter {
-    /// A counter at 0 with this top, in bytes. Takes no memory.
+    /// A counter at 0 with this top, in bytes.
     pub fn new(top: u64) -> Counter
         ensures { result ≡ record { bytes = 0; top = top } }
     {
@@ -40,7 +40,7 @@ impl Counter {
     }
 
     /// Adds the length of a frame, in bytes. [`Spent`] exactly where the sum would pass the top,
-    /// and then the counter is as before. Takes no memory.
+    /// and then the counter is as before.
     pub fn add(&mut self, length: u32) -> Result<(), Spent>
         ensures spent { IsErr result ↔ (self.old.top < self.old.bytes + length) }
         ensures ok { OnOk result
@@ -55,7 +55,7 @@ impl Counter {
         Ok(())
     }
 
-    /// The sum of the lengths that were added, in bytes. Takes no memory.
+    /// The sum of the lengths that were added, in bytes.
     pub fn now(&self) -> u64
         ensures value { result ≡ self.now.bytes }
         ensures within { self.now.bytes ≤ self.now.top }

@@ -9,8 +9,8 @@ use rs_wire::{Blob, Gone};
 /// Judges a RESUME that came to a server. `token` is that of the session, `first` the position from
 /// which frames are held, `end` the position where the frames made end, and `handled` that of the
 /// frames handled, all in bytes. `boundary` says whether a held frame begins or ends at the server
-/// position that RESUME tells. The first of these faults is answered, and each leaves everything as
-/// it was:
+/// position that RESUME has. The first of these faults is answered, and each leaves everything as it
+/// was:
 ///
 /// 1. [`Gone::Version`], with the major version of RESUME, where that is not 1;
 /// 2. [`Gone::Token`], where the tokens differ in any byte;
@@ -19,7 +19,7 @@ use rs_wire::{Blob, Gone};
 /// 5. [`Gone::NotBoundary`], where `boundary` is false;
 /// 6. [`Gone::ClientGone`], with `handled`, where the client position is above it.
 ///
-/// RSocket 1.0, "Resuming Operation". Takes no memory.
+/// RSocket 1.0, "Resuming Operation".
 pub fn judge_resume(
     frame: &Resume,
     token: &Blob,

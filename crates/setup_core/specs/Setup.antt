@@ -31,7 +31,7 @@ abbrev pub IsAcceptable : Frame → Settings → Bool → Type 0
 IsAcceptable (frames.Setup setup) settings taken = Suits setup settings taken
 IsAcceptable _ settings taken = ⊥
 
--- the code of the ERROR frame that tells the fault (RSocket 1.0, "Error Codes")
+-- the code of the ERROR frame that names the fault (RSocket 1.0, "Error Codes")
 abbrev pub code_of : SetupFault → ℕ
 code_of NotFirst = 0x001
 code_of (BadVersion major minor) = 0x001

@@ -27,7 +27,7 @@ fn judge_setup(setup: &Setup, settings: &Settings, taken: bool) -> Result<(), Se
 }
 
 /// Judges the first frame of a connection, on a server with these settings. `taken` says whether
-/// another session has the token that SETUP tells. The first of these faults is answered, and each
+/// another session has the token that SETUP names. The first of these faults is answered, and each
 /// leaves everything as it was:
 ///
 /// 1. [`SetupFault::NotFirst`], where the frame is no SETUP;
@@ -38,7 +38,7 @@ fn judge_setup(setup: &Setup, settings: &Settings, taken: bool) -> Result<(), Se
 /// 4. [`SetupFault::NoLease`], where SETUP asks for leases and the settings have none;
 /// 5. [`SetupFault::TokenTaken`], where `taken` is true.
 ///
-/// RSocket 1.0, "Setup". Takes no memory.
+/// RSocket 1.0, "Setup".
 pub fn judge(first: &Frame, settings: &Checked, taken: bool) -> Result<(), SetupFault>
     ensures accepted { IsOk result ↔ IsAcceptable first.now settings.now taken }
     ensures first_fault { MatchResult result
