@@ -12,7 +12,7 @@ use Rattle.rs_frame.specs.declared.frame.Frame.{Frame}
 use Rattle.rs_frame.specs.declared.frame.Frame.TheVariants as frames
 use Rattle.rs_frame.specs.declared.frame.Request.{Request}
 use Rattle.rs_frame.specs.Spelling.{length_of, if_there, number_there, payload, IsSpellable, InitialFits}
-use Rattle.fragment.specs.Splitting.{IsWhole, field_length, first_part, left_part, left_metadata, room_of, first_fragment, rest_after}
+use Rattle.fragment.specs.Splitting.{IsSplittable, field_length, first_part, left_part, left_metadata, room_of, first_fragment, rest_after}
 
 -- how many bytes a message takes in a frame
 abbrev pub carried_length : Message → ℕ
@@ -34,7 +34,7 @@ length_payload stream follows complete next m = omega (arith, payload_length m.m
 
 -- a request or a payload without F, that is longer than an mtu of 64 or more
 pub record IsLong (mtu : ℕ) (f : Frame) : Type 0 where
-  pub whole : IsWhole f
+  pub whole : IsSplittable f
   pub least : 64 ≤ mtu
   pub longer : mtu < length_of f
 
@@ -82,7 +82,7 @@ rest_length mtu (frames.Payload stream follows complete next m) long =
     omega (arith, length_payload stream false complete next (left_part (mtu - 6) m))
 rest_length mtu _ long = absurd long.whole
 
-pub rest_whole : (mtu : ℕ) (f : Frame) → IsWhole f → IsWhole (rest_after mtu f)
+pub rest_whole : (mtu : ℕ) (f : Frame) → IsSplittable f → IsSplittable (rest_after mtu f)
 rest_whole mtu (frames.Request r) whole = refl
 rest_whole mtu (frames.Payload stream follows complete next m) whole = refl
 rest_whole mtu _ whole = absurd whole

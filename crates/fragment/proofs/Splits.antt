@@ -7,7 +7,7 @@ use Rattle.std.proofs.lemmas.List.Elements.{All-cons, All-nil}
 use Rattle.rs_frame.specs.declared.frame.Frame.{Frame}
 use Rattle.rs_frame.specs.declared.frame.Frame.TheVariants as frames
 use Rattle.rs_frame.specs.Spelling.{length_of, stream_of, IsSpellable}
-use Rattle.fragment.specs.Splitting.{IsWhole, IsMtu, first_fragment, rest_after, fragments, split_of, EachButLast, follows_of, complete_of}
+use Rattle.fragment.specs.Splitting.{IsSplittable, IsMtu, first_fragment, rest_after, fragments, split_of, EachButLast, follows_of, complete_of}
 use Rattle.fragment.proofs.Cuts.{IsLong, first_length, rest_length, rest_whole, first_spellable, rest_spellable}
 
 fragments_fit : (n mtu : ℕ) (f : Frame) → length_of f ≤ mtu → fragments n mtu f ≡ f ∷ []
@@ -20,7 +20,7 @@ unfolding fragments
 fragments_cut n mtu f longer = rw (lt-leb (length_of f) mtu longer)
 
 -- as many cuts as the frame has bytes are enough, and more change nothing
-fragments_enough : (n m mtu : ℕ) (f : Frame) → IsWhole f → 64 ≤ mtu → length_of f ≤ n → length_of f ≤ m → fragments n mtu f ≡ fragments m mtu f
+fragments_enough : (n m mtu : ℕ) (f : Frame) → IsSplittable f → 64 ≤ mtu → length_of f ≤ n → length_of f ≤ m → fragments n mtu f ≡ fragments m mtu f
 fragments_enough zero m mtu f whole least n_enough m_enough =
     fragments_fit zero mtu f (omega arith) ∙ sym (fragments_fit m mtu f (omega arith))
 fragments_enough (suc n) zero mtu f whole least n_enough m_enough =
@@ -58,9 +58,9 @@ split_cut f mtu long =
 
 -- what holds of a frame that fits, and of a longer one where it holds of the rest, holds of every split
 by_fuel : (P : Frame → List Frame → Type 0) (mtu : ℕ) → 64 ≤ mtu
-    → ((f : Frame) → IsWhole f → length_of f ≤ mtu → P f (f ∷ []))
+    → ((f : Frame) → IsSplittable f → length_of f ≤ mtu → P f (f ∷ []))
     → ((f : Frame) (fs : List Frame) → IsLong mtu f → P (rest_after mtu f) fs → P f (first_fragment mtu f ∷ fs))
-    → (n : ℕ) (f : Frame) → IsWhole f → length_of f ≤ n → P f (fragments n mtu f)
+    → (n : ℕ) (f : Frame) → IsSplittable f → length_of f ≤ n → P f (fragments n mtu f)
 by_fuel P mtu least base step zero f whole enough =
     subst (P f) (sym (fragments_fit zero mtu f (omega arith))) (base f whole (omega arith))
 by_fuel P mtu least base step (suc n) f whole enough = elim (cases_lt mtu (length_of f)) [
@@ -73,29 +73,29 @@ by_fuel P mtu least base step (suc n) f whole enough = elim (cases_lt mtu (lengt
 ]
 
 pub by_cuts : (P : Frame → List Frame → Type 0) (mtu : ℕ) → 64 ≤ mtu
-    → ((f : Frame) → IsWhole f → length_of f ≤ mtu → P f (f ∷ []))
+    → ((f : Frame) → IsSplittable f → length_of f ≤ mtu → P f (f ∷ []))
     → ((f : Frame) (fs : List Frame) → IsLong mtu f → P (rest_after mtu f) fs → P f (first_fragment mtu f ∷ fs))
-    → (f : Frame) → IsWhole f → P f (split_of f mtu)
+    → (f : Frame) → IsSplittable f → P f (split_of f mtu)
 by_cuts P mtu least base step f whole =
     subst (P f) (sym (split_limited f mtu least)) (by_fuel P mtu least base step (length_of f) f whole (omega arith))
 
 -- the same for every mtu, where a frame alone is enough without a limit
 pub by_mtu : (P : Frame → List Frame → Type 0) (mtu : ℕ) → IsMtu mtu
-    → ((f : Frame) → IsWhole f → P f (f ∷ []))
+    → ((f : Frame) → IsSplittable f → P f (f ∷ []))
     → ((f : Frame) (fs : List Frame) → IsLong mtu f → P (rest_after mtu f) fs → P f (first_fragment mtu f ∷ fs))
-    → (f : Frame) → IsWhole f → P f (split_of f mtu)
+    → (f : Frame) → IsSplittable f → P f (split_of f mtu)
 by_mtu P zero limit base step f whole = base f whole
 by_mtu P (suc m) limit base step f whole =
     by_cuts P (suc m) (limit.1 (omega arith)) (λ g g_whole fits. base g g_whole) step f whole
 
-pub all_spellable : (f : Frame) (mtu : ℕ) → IsSpellable f → IsWhole f → IsMtu mtu → All IsSpellable (split_of f mtu)
+pub all_spellable : (f : Frame) (mtu : ℕ) → IsSpellable f → IsSplittable f → IsMtu mtu → All IsSpellable (split_of f mtu)
 all_spellable f mtu spellable whole limit =
     by_mtu (λ g gs. IsSpellable g → All IsSpellable gs) mtu limit
     (λ g g_whole g_spellable. All-cons IsSpellable g [] g_spellable (All-nil IsSpellable))
     (λ g gs long rest g_spellable. All-cons IsSpellable (first_fragment mtu g) gs (first_spellable mtu g long g_spellable) (rest (rest_spellable mtu g long g_spellable)))
     f whole spellable
 
-pub all_short : (f : Frame) (mtu : ℕ) → IsWhole f → 64 ≤ mtu → All (λ g. length_of g ≤ mtu) (split_of f mtu)
+pub all_short : (f : Frame) (mtu : ℕ) → IsSplittable f → 64 ≤ mtu → All (λ g. length_of g ≤ mtu) (split_of f mtu)
 all_short f mtu whole least =
     let IsShort : Frame → Type 0 = λ g. length_of g ≤ mtu in
     by_cuts (λ g gs. All IsShort gs) mtu least
@@ -113,7 +113,7 @@ rest_stream mtu (frames.Request r) = refl
 rest_stream mtu (frames.Payload stream follows complete next m) = refl
 rest_stream mtu _ = refl
 
-pub all_on_stream : (f : Frame) (mtu : ℕ) → IsWhole f → IsMtu mtu → All (λ g. stream_of g ≡ stream_of f) (split_of f mtu)
+pub all_on_stream : (f : Frame) (mtu : ℕ) → IsSplittable f → IsMtu mtu → All (λ g. stream_of g ≡ stream_of f) (split_of f mtu)
 all_on_stream f mtu whole limit =
     let IsOn : ℕ → Frame → Type 0 = λ stream g. stream_of g ≡ stream in
     by_mtu (λ g gs. All (IsOn (stream_of g)) gs) mtu limit
@@ -125,12 +125,12 @@ EachButLast-cons : (P : Frame → Type 0) (f : Frame) (fs : List Frame) → P f 
 EachButLast-cons P f [] here there = tt
 EachButLast-cons P f (g ∷ gs) here there = (here, there)
 
-first_flags : (mtu : ℕ) (f : Frame) → IsWhole f → (follows_of (first_fragment mtu f) ≡ true) × (complete_of (first_fragment mtu f) ≡ false)
+first_flags : (mtu : ℕ) (f : Frame) → IsSplittable f → (follows_of (first_fragment mtu f) ≡ true) × (complete_of (first_fragment mtu f) ≡ false)
 first_flags mtu (frames.Request r) whole = (refl, refl)
 first_flags mtu (frames.Payload stream follows complete next m) whole = (refl, refl)
 first_flags mtu _ whole = absurd whole
 
-pub each_full : (f : Frame) (mtu : ℕ) → IsWhole f → 64 ≤ mtu → EachButLast (λ g. (length_of g ≡ mtu) × (follows_of g ≡ true) × (complete_of g ≡ false)) (split_of f mtu)
+pub each_full : (f : Frame) (mtu : ℕ) → IsSplittable f → 64 ≤ mtu → EachButLast (λ g. (length_of g ≡ mtu) × (follows_of g ≡ true) × (complete_of g ≡ false)) (split_of f mtu)
 each_full f mtu whole least =
     let IsFull : Frame → Type 0 = λ g. (length_of g ≡ mtu) × (follows_of g ≡ true) × (complete_of g ≡ false) in
     by_cuts (λ g gs. EachButLast IsFull gs) mtu least

@@ -7,10 +7,10 @@ use Rattle.fragment.specs.declared.glue.Glued.{Glued}
 use Rattle.fragment.specs.declared.glue.Glued.TheVariants.{Part, Whole}
 use Rattle.fragment.specs.declared.glue.GlueFault.{GlueFault}
 use Rattle.fragment.specs.declared.glue.GlueFault.TheVariants.{TooLarge, OutOfMemory}
-use Rattle.fragment.specs.Splitting.{message_of, complete_of, next_of, follows_of}
+use Rattle.fragment.specs.Splitting.{carried_by, complete_of, next_of, follows_of}
 
 -- what one part brings, or several have brought: bytes, and whether C and N came
-pub record Held : Type 0 where
+pub record Gathered : Type 0 where
   pub message : Message
   pub complete : Bool
   pub next : Bool
@@ -18,9 +18,9 @@ pub record Held : Type 0 where
 -- what a glue is seen as: what it holds, and how many bytes that may be at most
 pub record Holding : Type 0 where
   pub max_payload : ℕ
-  pub held : Held
+  pub held : Gathered
 
-abbrev pub nothing : Held
+abbrev pub nothing : Gathered
 nothing = record { message = record { metadata = None; content = [] }; complete = false; next = false }
 
 -- metadata is there where either part had it
@@ -32,7 +32,7 @@ join_metadata (Some bytes) (Some more) = Some (bytes ++ more)
 abbrev pub join_messages : Message → Message → Message
 join_messages m more = record { metadata = join_metadata m.metadata more.metadata; content = m.content ++ more.content }
 
-abbrev pub join : Held → Held → Held
+abbrev pub join : Gathered → Gathered → Gathered
 join held part = record {
   message = join_messages held.message part.message;
   complete = held.complete || part.complete;
@@ -40,39 +40,46 @@ join held part = record {
 }
 
 -- what a glue holds once it has taken in a part
-abbrev pub grown : Holding → Message → Bool → Bool → Held
+abbrev pub grown : Holding → Message → Bool → Bool → Gathered
 grown glue message complete next = join glue.held (record { message = message; complete = complete; next = next })
 
 -- the parts of a message, in order
-abbrev pub joined : List Held → Held
+abbrev pub joined : List Gathered → Gathered
 joined [] = nothing
 joined (part ∷ parts) = join part (joined parts)
 
-abbrev pub part_of : Frame → Held
-part_of f = record { message = message_of f; complete = complete_of f; next = next_of f }
+abbrev pub part_of : Frame → Gathered
+part_of f = record { message = carried_by f; complete = complete_of f; next = next_of f }
 
 -- the answer to a part, by whether more follows, and what is held then in all
-abbrev pub glued_of : Bool → Held → Glued
+abbrev pub glued_of : Bool → Gathered → Glued
 glued_of true sum = Part
 glued_of false sum = Whole sum.message sum.complete sum.next
 
-abbrev pub left_held : Bool → Held → Held
+abbrev pub left_held : Bool → Gathered → Gathered
 left_held true sum = sum
 left_held false sum = nothing
 
--- the size that is too large is the sum; memory is wanted only where it is not
-abbrev pub IsFaultOf : GlueFault → ℕ → ℕ → Type 0
-IsFaultOf (TooLarge n) size max_payload = (n ≡ size) × (max_payload < size)
-IsFaultOf OutOfMemory size max_payload = size ≤ max_payload
+-- the size that is too large is the sum; out of memory comes only where it is not
+abbrev pub IsGlueFaultOf : GlueFault → ℕ → ℕ → Type 0
+IsGlueFaultOf (TooLarge n) size max_payload = (n ≡ size) × (max_payload < size)
+IsGlueFaultOf OutOfMemory size max_payload = size ≤ max_payload
 
--- the answers to frames that are pushed in turn, with ample memory; a request has no N
+-- the answers to the parts of frames that are pushed in turn, where memory is enough; a request has no N
 abbrev pub answers : Holding → List Frame → List (Result Glued GlueFault)
 answers glue [] = []
 answers glue (f ∷ fs) =
-    let sum = grown glue (message_of f) (complete_of f) (next_of f) in
+    let sum = grown glue (carried_by f) (complete_of f) (next_of f) in
     if nat_lt glue.max_payload (size_of sum.message)
     then Err (TooLarge (size_of sum.message)) ∷ answers glue fs
     else Ok (glued_of (follows_of f) sum) ∷ answers (record glue { held = left_held (follows_of f) sum }) fs
+
+-- what a push is handed is what the frame has
+pub record IsPushOf (f : Frame) (follows : Bool) (message : Message) (complete next : Bool) : Type 0 where
+  pub follows_is : follows ≡ follows_of f
+  pub message_is : message ≡ carried_by f
+  pub complete_is : complete ≡ complete_of f
+  pub next_is : next ≡ next_of f
 
 -- a glue that holds nothing
 abbrev pub empty_glue : ℕ → Holding

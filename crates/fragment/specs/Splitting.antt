@@ -7,20 +7,20 @@ use Rattle.rs_frame.specs.declared.frame.Frame.TheVariants as frames
 use Rattle.rs_frame.specs.Spelling.{length_of, number_there}
 
 -- what is split: a request or a payload that nothing follows
-abbrev pub IsWhole : Frame → Type 0
-IsWhole (frames.Request r) = r.follows ≡ false
-IsWhole (frames.Payload stream follows complete next message) = follows ≡ false
-IsWhole _ = ⊥
+abbrev pub IsSplittable : Frame → Type 0
+IsSplittable (frames.Request r) = r.follows ≡ false
+IsSplittable (frames.Payload stream follows complete next message) = follows ≡ false
+IsSplittable _ = ⊥
 
 -- the length that a frame may have at most: 0, which sets no limit, or 64 to 16,777,215
 abbrev pub IsMtu : ℕ → Type 0
 IsMtu mtu = (mtu < 2 ^ 24) × (0 < mtu → 64 ≤ mtu)
 
 -- what a request or a payload carries
-abbrev pub message_of : Frame → Message
-message_of (frames.Request r) = r.message
-message_of (frames.Payload stream follows complete next message) = message
-message_of _ = record { metadata = None; content = [] }
+abbrev pub carried_by : Frame → Message
+carried_by (frames.Request r) = r.message
+carried_by (frames.Payload stream follows complete next message) = message
+carried_by _ = record { metadata = None; content = [] }
 
 abbrev pub follows_of : Frame → Bool
 follows_of (frames.Request r) = r.follows

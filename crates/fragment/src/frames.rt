@@ -22,21 +22,21 @@ impl Model for Frames {
 }
 
 impl Frames {
-    /// The frames of this vector. Takes no memory.
+    /// The frames of this vector.
     pub fn from_vec(frames: Vec<Frame>) -> Frames
         ensures { result ≡ frames.items }
     {
         Frames { frames }
     }
 
-    /// The frames, borrowed. Takes no memory.
+    /// The frames, borrowed.
     pub fn as_slice(&self) -> &[Frame]
         ensures { result.now ≡ self.now }
     {
         self.frames.as_slice()
     }
 
-    /// The vector of the frames. Takes no memory.
+    /// The vector of the frames.
     pub fn into_vec(self) -> Vec<Frame>
         ensures { result.items ≡ self }
     {

@@ -1,34 +1,40 @@
 //! Joining the fragments that came.
 
-ghost use Rattle.std.specs.Prelude.{◌≡◌, ◌<◌, ◌≤◌, ◌^◌, false, IfOk, OnOk, OnErr, IfErr};
+ghost use Rattle.std.specs.Prelude.{◌≡◌, ◌≢◌, ◌<◌, ◌≤◌, ◌^◌, false, List, ◌∷◌, Err, IfOk, OnOk, OnErr, IfErr};
+ghost use Rattle.rs_frame.specs.declared.frame.Frame.{Frame};
 ghost use Rattle.rs_wire.specs.Message.{size_of};
-ghost use Rattle.fragment.specs.Joining.{nothing, empty_glue, grown, glued_of, left_held, IsFaultOf};
+ghost use Rattle.fragment.specs.Joining.{nothing, empty_glue, grown, glued_of, left_held, answers, IsGlueFaultOf, IsPushOf};
 
 use rs_wire::{Blob, Message, OutOfMemory};
 use std::alloc::{AllocError, Global};
 use std::marker::Model;
 use std::mem;
+use thiserror::Error;
 
 /// What a push gives.
 #[derive(Debug, Drop, PartialEq, Eq)]
 pub enum Glued {
     /// More fragments of the message follow.
     Part,
-    /// The message is whole. Its metadata is present where a fragment had M, and `complete` and
-    /// `next` are set where a fragment had C and N.
+    /// The message is whole. Its metadata is present where a fragment had M.
     Whole {
+        /// The metadata and the content of all fragments, joined.
         message: Message,
+        /// Whether a fragment had C.
         complete: bool,
+        /// Whether a fragment had N.
         next: bool,
     },
 }
 
 /// Why a push is refused. The glue then holds what it held before.
-#[derive(Clone, Copy, Debug, PartialEq, Eq)]
+#[derive(Clone, Copy, Debug, PartialEq, Eq, Error)]
 pub enum GlueFault {
-    /// The message would have so many bytes of metadata and content, more than the glue takes.
+    /// The message would have this many bytes of metadata and content, more than the glue takes.
+    #[error("the joined message would have {0} bytes, more than is taken")]
     TooLarge(u64),
     /// There was not enough memory.
+    #[error("out of memory")]
     OutOfMemory,
 }
 
@@ -59,7 +65,7 @@ pub struct Glue {
 
 impl Model for Glue {
     ghost use Rattle.std.specs.Prelude.{◌≡◌, ◌≤◌, ◌+◌, false, Some, None, vec_len, if◌then◌else◌};
-    ghost use Rattle.fragment.specs.Joining.{Held, Holding};
+    ghost use Rattle.fragment.specs.Joining.{Gathered, Holding};
 
     ghost Value = { Holding };
 
@@ -81,8 +87,7 @@ impl Model for Glue {
 }
 
 impl Glue {
-    /// An empty glue, for messages of at most `max_payload` bytes of metadata and content. Takes
-    /// no memory.
+    /// An empty glue, for messages of at most `max_payload` bytes of metadata and content.
     pub fn new(alloc: Global, max_payload: u32) -> Glue
         ensures { result ≡ empty_glue max_payload }
     {
@@ -96,17 +101,18 @@ impl Glue {
         }
     }
 
-    // How many bytes it holds.
-    fn size(&self) -> u64
+    /// How many bytes of metadata and content it holds, at most `max_payload`.
+    pub fn size(&self) -> u64
         ensures value { result ≡ size_of self.now.held.message }
         ensures bound { result ≤ self.now.max_payload }
     {
         self.metadata.len() as u64 + self.content.len() as u64
     }
 
-    // Takes a part in, for which the limit has room.
+    // Takes a part in that does not pass the limit.
     fn append(&mut self, message: &Message, complete: bool, next: bool) -> Result<(), OutOfMemory>
-        requires { size_of (grown self.old message.now complete next).message ≤ self.old.max_payload }
+        requires { let sum = grown self.old message.now complete next in
+            size_of sum.message ≤ self.old.max_payload }
         ensures grown { OnOk result (self.new.held ≡ grown self.old message.now complete next) }
         ensures limit { self.new.max_payload ≡ self.old.max_payload }
         ensures kept { OnErr result (self.new ≡ self.old) }
@@ -154,13 +160,13 @@ impl Glue {
         }
     }
 
-    /// Takes in the next fragment: whether it has F, what it carries, and whether it has C and N, each
-    /// as it came, since every choice of M, C and N is taken. Where none follows it gives the whole
-    /// message, and is empty then. A fragment's metadata and content are below 2^63 bytes. Over all
-    /// pushes it costs what the fragments carry.
+    /// Takes in the next fragment: whether it has F, what it carries, and whether it has C and N,
+    /// each as it came, since every choice of M, C and N is taken. Where none follows it gives the
+    /// whole message, and is empty then. A fragment's metadata and content are below 2^63 bytes.
+    /// Over all pushes it costs what the fragments carry.
     ///
-    /// `TooLarge` says how many bytes of metadata and content the message would have then, and comes
-    /// exactly where that is above `max_payload`. After a refusal the glue is as before.
+    /// `TooLarge` says how many bytes of metadata and content the message would have then, and
+    /// comes exactly where that is above `max_payload`. After a refusal the glue is as before.
     pub fn push(
         &mut self,
         follows: bool,
@@ -179,7 +185,12 @@ impl Glue {
         ensures fits { OnOk result
             (size_of (grown self.old message.now complete next).message ≤ self.old.max_payload) }
         ensures fault { IfErr result (λ fault.
-            IsFaultOf fault (size_of (grown self.old message.now complete next).message) self.old.max_payload) }
+            let size = size_of (grown self.old message.now complete next).message in
+            IsGlueFaultOf fault size self.old.max_payload) }
+        // It gives the first of the answers to frames that this part begins, and leaves the others.
+        ensures in_turn { (f : Frame) (fs : List Frame) →
+            IsPushOf f follows message.now complete next → result ≢ Err GlueFault.OutOfMemory →
+            answers self.old (f ∷ fs) ≡ result ∷ answers self.new fs }
         ensures limit { self.new.max_payload ≡ self.old.max_payload }
         ensures kept { OnErr result (self.new ≡ self.old) }
     {

@@ -14,7 +14,9 @@ const LENGTH_FIELD: usize = 3;
 /// The metadata and the content of a message, borrowed.
 #[derive(Clone, Copy)]
 pub struct Parts<'a> {
+    /// The metadata that is left, where any is.
     pub metadata: Option<&'a [u8]>,
+    /// The content that is left.
     pub content: &'a [u8],
 }
 
@@ -34,7 +36,8 @@ fn past(bytes: &[u8], n: usize) -> &[u8]
 
 // The metadata after the first n bytes, where there is more.
 fn metadata_past(metadata: Option<&[u8]>, n: usize) -> Option<&[u8]>
-    ensures { option_map (λ x. x.now) result ≡ left_metadata n (option_map (λ x. x.now) metadata.entry) }
+    ensures { option_map (λ x. x.now) result
+        ≡ left_metadata n (option_map (λ x. x.now) metadata.entry) }
 {
     match metadata {
         Some(bytes) if bytes.len() > n => Some(past(bytes, n)),
@@ -68,7 +71,7 @@ impl<'a> Parts<'a> {
         }
     }
 
-    /// What stands in a fragment with room for so many bytes.
+    /// What stands in a fragment that has `room` bytes left.
     pub fn first(&self, room: usize) -> Parts<'a>
         requires { field_length (message_in self.now).metadata < 2 ^ 32 }
         ensures { message_in result ≡ first_part room (message_in self.now) }

@@ -2,7 +2,7 @@
 
 ghost use Rattle.std.specs.Prelude.{◌≡◌, ◌≢◌, ◌<◌, ◌≤◌, ◌+◌, ◌^◌, All, IfOk};
 ghost use Rattle.rs_frame.specs.Spelling.{IsSpellable, length_of};
-ghost use Rattle.fragment.specs.Splitting.{IsWhole, IsMtu, split_of, first_fragment, rest_after, head_length};
+ghost use Rattle.fragment.specs.Splitting.{IsSplittable, IsMtu, split_of, first_fragment, rest_after, head_length};
 ghost use Rattle.fragment.specs.Views.{carried, frame_by, frame_in, message_in};
 
 use crate::frames::Frames;
@@ -22,7 +22,7 @@ use std::alloc::Global;
 /// none of a PAYLOAD's, as the whole has it.
 pub fn split(alloc: Global, frame: &Frame, mtu: u32) -> Result<Frames, OutOfMemory>
     requires spellable { IsSpellable frame.now }
-    requires whole { IsWhole frame.now }
+    requires whole { IsSplittable frame.now }
     requires limit { IsMtu mtu }
     ensures split { IfOk result (λ frames. frames ≡ split_of frame.now mtu) }
     ensures spellable { IfOk result (λ frames. All IsSpellable frames) }
@@ -61,7 +61,7 @@ struct Rest<'a> {
 impl<'a> Rest<'a> {
     /// All of a frame.
     fn of(frame: &'a Frame) -> Rest<'a>
-        requires { IsWhole frame.now }
+        requires { IsSplittable frame.now }
         ensures { frame_in result ≡ frame.now }
     {
         match frame {

@@ -1,5 +1,5 @@
 ghost use Rattle.std.specs.Prelude.{◌≡◌, IfOk};
-ghost use Rattle.fragment.specs.Splitting.{IsWhole, IsMtu};
+ghost use Rattle.fragment.specs.Splitting.{IsSplittable, IsMtu};
 
 use super::*;
 use rs_frame::{Frame, Request, encode, spellable};
@@ -28,7 +28,7 @@ fn text(alloc: Global, content: &[u8]) -> Result<Message, OutOfMemory> {
 }
 
 fn fnf(alloc: Global, metadata: Option<usize>, content: usize) -> Result<Frame, OutOfMemory>
-    ensures { IfOk result IsWhole }
+    ensures { IfOk result IsSplittable }
 {
     let message = sized(alloc, metadata, content)?;
     Ok(Frame::Request(Request {
@@ -48,7 +48,7 @@ fn payload(
     complete: bool,
     next: bool,
 ) -> Result<Frame, OutOfMemory>
-    ensures { IfOk result IsWhole }
+    ensures { IfOk result IsSplittable }
 {
     let message = sized(alloc, metadata, content)?;
     Ok(Frame::Payload {
@@ -61,7 +61,7 @@ fn payload(
 }
 
 fn channel(alloc: Global, content: usize) -> Result<Frame, OutOfMemory>
-    ensures { IfOk result IsWhole }
+    ensures { IfOk result IsSplittable }
 {
     let message = sized(alloc, None, content)?;
     Ok(Frame::Request(Request {
@@ -81,7 +81,7 @@ fn shapes<R: Abort>(
     frame: &Frame,
     mtu: u32,
 ) -> Result<Vec<(u16, usize)>, Fail>
-    requires whole { IsWhole frame.now }
+    requires whole { IsSplittable frame.now }
     requires limit { IsMtu mtu }
 {
     assert!(rt; spellable(frame));
@@ -104,7 +104,7 @@ fn splits_into<R: Abort>(
     mtu: u32,
     expected: &[(u16, usize)],
 ) -> Result<(), Fail>
-    requires whole { IfOk frame IsWhole }
+    requires whole { IfOk frame IsSplittable }
     requires limit { IsMtu mtu }
 {
     let shapes = shapes(rt, alloc, &frame?, mtu)?;

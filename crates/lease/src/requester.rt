@@ -4,13 +4,16 @@ ghost use Rattle.std.specs.Prelude.{◌≡◌, ◌+◌, ◌↔◌, None, Some, I
 ghost use Rattle.lease.specs.Lease.{HasLeft, IsUsable, lease_fault};
 
 use std::marker::Model;
+use thiserror::Error;
 
 /// Why a request may not be made now (RSocket 1.0, "Lease Semantics").
-#[derive(Clone, Copy, Debug, PartialEq, Eq)]
+#[derive(Clone, Copy, Debug, PartialEq, Eq, Error)]
 pub enum LeaseFault {
     /// All requests of the lease, which this number counts, are used; 0 where there is no lease.
+    #[error("all {0} requests that were allowed are used")]
     Used(u32),
     /// The lease is over since this moment, in milliseconds.
+    #[error("the lease is over since the moment {0} ms")]
     Over(u64),
 }
 

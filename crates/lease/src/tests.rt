@@ -66,3 +66,16 @@ fn a_responder_admits_as_many_as_it_granted_in_sum(rt: HostRuntime) -> Result<()
     );
     Ok(())
 }
+
+#[test]
+fn a_fault_says_why_in_a_sentence(rt: HostRuntime) -> Result<(), Fail> {
+    assert_eq!(rt;
+        format!(in rt.alloc(); "{}", LeaseFault::Used(2))?.as_str(),
+        "all 2 requests that were allowed are used"
+    );
+    assert_eq!(rt;
+        format!(in rt.alloc(); "{}", LeaseFault::Over(1_000))?.as_str(),
+        "the lease is over since the moment 1000 ms"
+    );
+    Ok(())
+}

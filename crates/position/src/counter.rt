@@ -3,9 +3,11 @@
 ghost use Rattle.std.specs.Prelude.{◌≡◌, ◌+◌, ◌<◌, ◌≤◌, ◌↔◌, IsErr, OnOk, OnErr};
 
 use std::marker::Model;
+use thiserror::Error;
 
 /// The sum would pass the top.
-#[derive(Clone, Copy, Debug, PartialEq, Eq)]
+#[derive(Clone, Copy, Debug, PartialEq, Eq, Error)]
+#[error("the sum of the lengths would pass its top")]
 pub struct Spent;
 
 /// A position: the sum of the lengths that were added, in bytes, at most a top. Contracts see the

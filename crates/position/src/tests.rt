@@ -1,4 +1,5 @@
 use super::*;
+use std::test::Fail;
 
 #[test]
 fn a_length_that_passes_the_top_is_not_added(rt: HostRuntime) {
@@ -24,4 +25,14 @@ fn a_top_of_zero_takes_nothing_and_sums_may_pass_32_bits(rt: HostRuntime) {
         assert_eq!(rt; counter.add(u32::MAX), Ok(()));
     }
     assert_eq!(rt; counter.now(), 8_589_934_590);
+}
+
+#[test]
+fn a_spent_position_says_so_in_a_sentence(rt: HostRuntime) -> Result<(), Fail> {
+    let sentence = format!(in rt.alloc(); "{}", Spent)?;
+    assert_eq!(rt;
+        sentence.as_str(),
+        "the sum of the lengths would pass its top"
+    );
+    Ok(())
 }

@@ -1,121 +1,88 @@
--- What forgetting frame by frame comes to.
-use Rattle.std.proofs.Common.{◌≡◌, ℕ, ◌+◌, ◌-◌, ◌<◌, ◌≤◌, max, inl, inr, length, take, drop, refl, sym, ap, ◌∙◌, add-zero, arith}
-use Rattle.std.proofs.lemmas.List.{length-drop, take_all}
-use Rattle.std.proofs.lemmas.List.Sums.{sum_by-take-drop}
+-- Forgetting frame by frame comes to what is left in the end.
+use Rattle.std.proofs.Common.{◌≡◌, ℕ, ◌+◌, ◌-◌, ◌<◌, ◌≤◌, inl, inr, List, [], ◌∷◌, length, take, drop, refl, sym, ap, ◌∙◌, arith}
 use Rattle.std.proofs.lemmas.Bool.{cases_lt}
-use Rattle.replay_buffer.specs.Positions.{pos, frames_from, IsLeastBoundary, IsGreatestBoundary}
-use Rattle.replay_buffer.specs.Held.{Held, Buffer, end_of, from_boundary, without_oldest, OldestEndsBy}
-use Rattle.replay_buffer.proofs.Boundaries.{rising, frames_from-boundary, without_more}
+use Rattle.position.specs.Boundaries.{pos_by, acked_by, least_boundary_by, frames_from_by}
+use Rattle.position.proofs.Boundaries.{acked-in, acked-out, acked-at_most, least-zero, least-in, from-zero, from-in}
+use Rattle.replay_buffer.specs.Held.{Held, Buffer, end_of, without_first, from_least, from_acked, without_oldest, OldestEndsBy}
+use Rattle.replay_buffer.proofs.Boundaries.{pos-one}
 
--- the oldest `k` frames were forgotten, and the rest starts above each of their starts
-pub record Forgets (old now : Held) (k : ℕ) : Type 0 where
-  pub within : k ≤ length old.frames
-  pub is : now ≡ without_oldest k old
-  pub rises : (j : ℕ) → j < k → pos (take j old.frames) < pos (take k old.frames)
+pub same_held : (h g : Held) → h.first ≡ g.first → h.frames ≡ g.frames → h.hold ≡ g.hold → h ≡ g
+same_held h g first frames hold =
+    ap (λ n. record h { first = n }) first ∙ ap (λ fs. record h { first = g.first; frames = fs }) frames ∙ ap (λ n. record g { hold = n }) hold
 
-pub first_is : (old now : Held) (k : ℕ) → Forgets old now k → now.first ≡ old.first + pos (take k old.frames)
-first_is old now k f = ap (λ (h : Held). h.first) f.is
+-- what is left of the frames after the oldest one is what is left of all
+without_more : (h : Held) (n m : ℕ) (f : List ℕ) (fs : List (List ℕ)) → h.frames ≡ f ∷ fs → 0 < length f → n ≡ length f + m → without_first (without_oldest h) m ≡ without_first h n
+without_more h n m f fs frames some is =
+    let left : n - length f ≡ m = omega (arith, is) in
+    let one : pos_by length (take 1 h.frames) ≡ length f = ap (λ l. pos_by length (take 1 l)) frames ∙ pos-one f fs in
+    let rest : drop 1 h.frames ≡ fs = ap (drop 1) frames in
+    same_held (without_first (without_oldest h) m) (without_first h n)
+    (omega (arith, is, one))
+    (ap (λ l. frames_from_by length l m) rest ∙ ap (frames_from_by length fs) (sym left) ∙ sym (ap (λ l. frames_from_by length l n) frames ∙ from-in length f fs n (omega (arith, is))))
+    refl
 
-pub length_is : (old now : Held) (k : ℕ) → Forgets old now k → length now.frames ≡ length old.frames - k
-length_is old now k f = ap (λ (h : Held). length h.frames) f.is ∙ length-drop k old.frames
+-- a frame is the oldest one
+oldest : (fs : List (List ℕ)) → 0 < length fs → (f : List ℕ) × (rest : List (List ℕ)) × (fs ≡ f ∷ rest)
+oldest [] some = absurd (omega arith)
+oldest (f ∷ fs) some = (f, fs, refl)
 
-pub forgets_none : (h : Held) → Forgets h h 0
-forgets_none h = record {
-  within = omega arith;
-  is = ap (λ n. record h { first = n }) (sym (add-zero h.first));
-  rises = λ j lt. absurd (omega arith);
-}
+nothing_more : (h : Held) (n : ℕ) → n ≡ 0 → without_first h n ≡ h
+nothing_more h n none = same_held (without_first h n) h (omega (arith, none)) (ap (frames_from_by length h.frames) none ∙ from-zero length h.frames) refl
 
-pub forgets_one : (old now next : Held) (k : ℕ) → Forgets old now k → 0 < length now.frames → next ≡ without_oldest 1 now → now.first < next.first → Forgets old next (k + 1)
-forgets_one old now next k f some step up =
-    let short : k < length old.frames = omega (arith, length_is old now k f) in
-    let is : next ≡ without_oldest (k + 1) old = step ∙ ap (without_oldest 1) f.is ∙ without_more old k short in
-    let here : next.first ≡ old.first + pos (take (k + 1) old.frames) = ap (λ (h : Held). h.first) is in
-    record {
-      within = omega arith;
-      is = is;
-      rises = λ j lt. omega (arith, rising old.frames j k (omega arith), first_is old now k f, here);
-    }
+pub least_step : (h : Held) (low : ℕ) → h.first < low → 0 < length h.frames → h.first < (without_oldest h).first → from_least (without_oldest h) low ≡ from_least h low
+least_step h low below some rises =
+    let o = oldest h.frames some in
+    let one : pos_by length (take 1 h.frames) ≡ length o.0 = ap (λ l. pos_by length (take 1 l)) o.2 ∙ pos-one o.0 o.1 in
+    let further : low - (h.first + pos_by length (take 1 h.frames)) ≡ (low - h.first) - length o.0 = omega (arith, one) in
+    without_more h (least_boundary_by length h.frames (low - h.first)) (least_boundary_by length (drop 1 h.frames) (low - (h.first + pos_by length (take 1 h.frames)))) o.0 o.1 o.2
+    (omega (arith, rises, one))
+    (ap (λ l. least_boundary_by length l (low - h.first)) o.2
+    ∙ least-in length o.0 o.1 (low - h.first) (omega arith)
+    ∙ ap (λ n. length o.0 + least_boundary_by length o.1 n) (sym further)
+    ∙ ap (λ l. length o.0 + least_boundary_by length (drop 1 l) (low - (h.first + pos_by length (take 1 h.frames)))) (sym o.2))
 
-pub still_held : (old now : Held) (k : ℕ) → Forgets old now k → now.first < end_of old → 0 < length now.frames
-still_held old now k f below =
-    elim (cases_lt k (length old.frames)) [
-      | inl short ↦ omega (arith, length_is old now k f)
-      | inr all ↦ absurd (omega (arith, first_is old now k f, ap pos (take_all k old.frames all)))
+pub least_done : (h : Held) (low : ℕ) → low ≤ h.first → from_least h low ≡ h
+least_done h low reached =
+    let none : low - h.first ≡ 0 = omega arith in
+    nothing_more h (least_boundary_by length h.frames (low - h.first)) (ap (least_boundary_by length h.frames) none ∙ least-zero length h.frames)
+
+pub acked_step : (h : Held) (position : ℕ) → OldestEndsBy h position → h.first < (without_oldest h).first → from_acked (without_oldest h) position ≡ from_acked h position
+acked_step h position past rises =
+    let o = oldest h.frames past.0 in
+    let one : pos_by length (take 1 h.frames) ≡ length o.0 = ap (λ l. pos_by length (take 1 l)) o.2 ∙ pos-one o.0 o.1 in
+    let further : position - (h.first + pos_by length (take 1 h.frames)) ≡ (position - h.first) - length o.0 = omega (arith, one) in
+    without_more h (acked_by length h.frames (position - h.first)) (acked_by length (drop 1 h.frames) (position - (h.first + pos_by length (take 1 h.frames)))) o.0 o.1 o.2
+    (omega (arith, rises, one))
+    (ap (λ l. acked_by length l (position - h.first)) o.2
+    ∙ acked-in length o.0 o.1 (position - h.first) (omega (arith, past.1, one))
+    ∙ ap (λ n. length o.0 + acked_by length o.1 n) (sym further)
+    ∙ ap (λ l. length o.0 + acked_by length (drop 1 l) (position - (h.first + pos_by length (take 1 h.frames)))) (sym o.2))
+
+pub acked_done : (h : Held) (position : ℕ) → (OldestEndsBy h position → ⊥) → from_acked h position ≡ h
+unfolding acked_by
+acked_done h position done = nothing_more h (acked_by length h.frames (position - h.first)) (none h.first h.frames (λ some past. done (some, past)))
+  where
+    none : (at : ℕ) (fs : List (List ℕ)) → (0 < length fs → at + pos_by length (take 1 fs) ≤ position → ⊥) → acked_by length fs (position - at) ≡ 0
+    none at [] stays = refl
+    none at (f ∷ fs) stays = elim (cases_lt position at) [
+      | inl below ↦ omega (arith, acked-at_most length (f ∷ fs) (position - at))
+      | inr from ↦ elim (cases_lt (position - at) (length f)) [
+        | inl short ↦ acked-out length f fs (position - at) short
+        | inr past ↦ absurd (stays (omega arith) (omega (arith, pos-one f fs)))
+      ]
     ]
 
-pub from_boundary_is : (old now : Held) (k : ℕ) → Forgets old now k → now ≡ from_boundary old now.first
-from_boundary_is old now k f =
-    let rest : frames_from (old.first + pos (take k old.frames)) old.first old.frames ≡ drop k old.frames = frames_from-boundary old.first old.frames k f.within f.rises in
-    f.is ∙ ap (λ fs. record { first = old.first + pos (take k old.frames); frames = fs; hold = old.hold }) (sym rest) ∙ ap (from_boundary old) (sym (first_is old now k f))
+-- what a loop that forgets frames keeps, where `left` is what it comes to
+pub record IsOnTheWay (left : Held → Held) (old now : Buffer) : Type 0 where
+  pub same : left now.held ≡ left old.held
+  pub end : end_of now.held ≡ end_of old.held
+  pub spare : now.spare ≡ old.spare
 
-pub end_is : (old now : Held) (k : ℕ) → Forgets old now k → end_of now ≡ end_of old
-end_is old now k f = ap end_of f.is ∙ omega (arith, sum_by-take-drop length old.frames k)
-
--- frames are forgotten that start below `low`
-pub record IsUntil (old now : Buffer) (low : ℕ) : Type 0 where
-  pub gone : ℕ
-  pub forgets : Forgets old.held now.held gone
-  pub below : (j : ℕ) → j < gone → old.held.first + pos (take j old.held.frames) < low
-  pub room : now.room ≡ old.room
-
-pub until_none : (old : Buffer) (low : ℕ) → IsUntil old old low
-until_none old low = record { gone = 0; forgets = forgets_none old.held; below = λ j lt. absurd (omega arith); room = refl }
-
-pub until_one : (old now next : Buffer) (low : ℕ) → IsUntil old now low → 0 < length now.held.frames → next.held ≡ without_oldest 1 now.held → now.held.first < next.held.first → next.room ≡ now.room → now.held.first < low → IsUntil old next low
-until_one old now next low u some step up room lt = record {
-  gone = u.gone + 1;
-  forgets = forgets_one old.held now.held next.held u.gone u.forgets some step up;
-  below = λ j less. omega (arith, rising old.held.frames j u.gone (omega arith), first_is old.held now.held u.gone u.forgets);
-  room = room ∙ u.room;
-}
-
-pub until_least : (old now : Buffer) (low : ℕ) → IsUntil old now low → low ≤ now.held.first → IsLeastBoundary old.held.first old.held.frames low now.held.first
-until_least old now low u reached =
-    let here : now.held.first ≡ old.held.first + pos (take u.gone old.held.frames) = first_is old.held now.held u.gone u.forgets in
-    record {
-      boundary = (u.gone, u.forgets.within, here);
-      at_least = reached;
-      least = λ b (m, within, is) above.
-          elim (cases_lt m u.gone) [
-            | inl before ↦ absurd (omega (arith, u.below m before))
-            | inr after ↦ omega (arith, rising old.held.frames u.gone m after)
-          ];
-    }
-
--- frames are forgotten that end at or before the position
-pub record IsReleased (old now : Buffer) (position : ℕ) : Type 0 where
-  pub gone : ℕ
-  pub forgets : Forgets old.held now.held gone
-  pub at_most : now.held.first ≤ max position old.held.first
-  pub room : now.room ≡ old.room
-
-pub released_none : (old : Buffer) (position : ℕ) → IsReleased old old position
-released_none old position = record { gone = 0; forgets = forgets_none old.held; at_most = omega arith; room = refl }
-
-pub released_one : (old now next : Buffer) (position : ℕ) → IsReleased old now position → OldestEndsBy now.held position → next.held ≡ without_oldest 1 now.held → now.held.first < next.held.first → next.room ≡ now.room → IsReleased old next position
-released_one old now next position r past step up room = record {
-  gone = r.gone + 1;
-  forgets = forgets_one old.held now.held next.held r.gone r.forgets past.0 step up;
-  at_most = omega (arith, past.1, ap (λ (h : Held). h.first) step);
-  room = room ∙ r.room;
-}
-
-pub released_greatest : (old now : Buffer) (position : ℕ) → IsReleased old now position → (OldestEndsBy now.held position → ⊥) → IsGreatestBoundary old.held.first old.held.frames (max position old.held.first) now.held.first
-released_greatest old now position r done =
-    let here : now.held.first ≡ old.held.first + pos (take r.gone old.held.frames) = first_is old.held now.held r.gone r.forgets in
-    record {
-      boundary = (r.gone, r.forgets.within, here);
-      at_most = r.at_most;
-      greatest = λ b (m, within, is) under.
-          elim (cases_lt r.gone m) [
-            | inl after ↦
-                let next : (without_oldest 1 now.held).first ≡ old.held.first + pos (take (r.gone + 1) old.held.frames) = ap (λ (h : Held). h.first) (ap (without_oldest 1) r.forgets.is ∙ without_more old.held r.gone (omega arith)) in
-                let up : pos (take (r.gone + 1) old.held.frames) ≤ pos (take m old.held.frames) = rising old.held.frames (r.gone + 1) m (omega arith) in
-                elim (cases_lt position b) [
-                  | inl past ↦ omega arith
-                  | inr by ↦ absurd (done (omega (arith, length_is old.held now.held r.gone r.forgets), omega arith))
-                ]
-            | inr before ↦ omega (arith, rising old.held.frames m r.gone before)
-          ];
-    }
+-- a frame is held where the newest one ends above the first
+pub some_held : (h : Held) → h.first < end_of h → 0 < length h.frames
+unfolding pos_by
+some_held h below = some h.frames (omega arith)
+  where
+    some : (fs : List (List ℕ)) → 0 < pos_by length fs → 0 < length fs
+    some [] above = absurd (omega arith)
+    some (f ∷ fs) above = omega arith

@@ -1,5 +1,5 @@
 pub mod Boundaries
+pub mod Stored
 pub mod Forgotten
 pub mod Found
-pub mod Standing
-pub mod Stored
+pub mod HeldOf

@@ -1,14 +1,14 @@
 -- The fields hold the list of frames: reading, appending and dropping.
-use Rattle.std.proofs.Common.{◌≡◌, ℕ, ◌+◌, ◌-◌, ◌*◌, ◌≤◌, List, [], ◌∷◌, ◌++◌, length, take, drop, refl, sym, ap, ◌∙◌, append_assoc, zero-add, arith}
-use Rattle.std.specs.List.{AllByRecursion}
-use Rattle.std.proofs.lemmas.List.{length-append, take_at, drop_at, append-nil, drop-append-le, drop-drop, length-drop}
+use Rattle.std.proofs.Common.{◌≡◌, ℕ, ◌+◌, ◌-◌, ◌*◌, ◌≤◌, List, [], ◌∷◌, ◌++◌, length, take, drop, refl, sym, ap, ◌∙◌, append_assoc, arith}
+use Rattle.std.specs.List.{AllByRecursion, flat_map}
+use Rattle.std.proofs.lemmas.List.{length-append, take_at, drop_at, append-nil}
 use Rattle.std.proofs.lemmas.List.Concat.{flat_map-append, flat_map-cons}
-use Rattle.std.proofs.lemmas.List.Sums.{sum_by_push}
 use Rattle.byteorder.specs.Endian.{big_bytes}
 use Rattle.byteorder.specs.Numbers.{length-bytes_high_first}
-use Rattle.replay_buffer.specs.Positions.{pos, framed, framed_all}
+use Rattle.rs_frame.specs.Framed.{framed}
+use Rattle.position.specs.Boundaries.{pos_by}
 use Rattle.replay_buffer.specs.Storage.{ends_of, frames_in, Stores}
-use Rattle.replay_buffer.proofs.Boundaries.{pos-cons}
+use Rattle.replay_buffer.proofs.Boundaries.{pos-cons, pos-one}
 
 length-prefix : (f : List ℕ) → length (big_bytes 3 (length f)) ≡ 3
 length-prefix f = length-bytes_high_first 3 (length f)
@@ -16,15 +16,16 @@ length-prefix f = length-bytes_high_first 3 (length f)
 pub length-framed : (f : List ℕ) → length (framed f) ≡ 3 + length f
 length-framed f = omega (arith, length-append (big_bytes 3 (length f)) f, length-prefix f)
 
-pub framed_all-cons : (f : List ℕ) (fs : List (List ℕ)) → framed_all (f ∷ fs) ≡ framed f ++ framed_all fs
+pub framed_all-cons : (f : List ℕ) (fs : List (List ℕ)) → flat_map framed (f ∷ fs) ≡ framed f ++ flat_map framed fs
 framed_all-cons f fs = flat_map-cons framed f fs
 
-pub framed_all-push : (fs : List (List ℕ)) (f : List ℕ) → framed_all (fs ++ f ∷ []) ≡ framed_all fs ++ framed f
-framed_all-push fs f = flat_map-append framed fs (f ∷ []) ∙ ap (λ t. framed_all fs ++ t) (append-nil (framed f))
+pub framed_all-push : (fs : List (List ℕ)) (f : List ℕ) → flat_map framed (fs ++ f ∷ []) ≡ flat_map framed fs ++ framed f
+framed_all-push fs f = flat_map-append framed fs (f ∷ []) ∙ ap (λ t. flat_map framed fs ++ t) (append-nil (framed f))
 
-pub length-framed_all : (fs : List (List ℕ)) → length (framed_all fs) ≡ pos fs + 3 * length fs
+pub length-framed_all : (fs : List (List ℕ)) → length (flat_map framed fs) ≡ pos_by length fs + 3 * length fs
+unfolding pos_by
 length-framed_all [] = refl
-length-framed_all (f ∷ fs) = omega (arith, ap length (framed_all-cons f fs), length-append (framed f) (framed_all fs), length-framed f, pos-cons f fs, length-framed_all fs)
+length-framed_all (f ∷ fs) = omega (arith, ap length (framed_all-cons f fs), length-append (framed f) (flat_map framed fs), length-framed f, pos-cons f fs, length-framed_all fs)
 
 -- the first frame is cut out of the bytes
 take_first : (f rest : List ℕ) (n : ℕ) → n ≡ length f → take n (drop 3 (framed f ++ rest)) ≡ f
@@ -36,11 +37,11 @@ take_first f rest n is =
 drop_first : (f rest : List ℕ) (n : ℕ) → n ≡ length f → drop (3 + n) (framed f ++ rest) ≡ rest
 drop_first f rest n is = drop_at (framed f) rest (3 + n) (omega (arith, length-framed f, is))
 
-read_again : (at : ℕ) (fs : List (List ℕ)) → frames_in at (ends_of at fs) (framed_all fs) ≡ fs
+read_again : (at : ℕ) (fs : List (List ℕ)) → frames_in at (ends_of at fs) (flat_map framed fs) ≡ fs
 read_again at [] = refl
 read_again at (f ∷ fs) =
     let n : (at + length f) - at ≡ length f = omega arith in
-    rw (framed_all-cons f fs, take_first f (framed_all fs) ((at + length f) - at) n, drop_first f (framed_all fs) ((at + length f) - at) n) (ap (λ t. f ∷ t) (read_again (at + length f) fs))
+    rw (framed_all-cons f fs, take_first f (flat_map framed fs) ((at + length f) - at) n, drop_first f (flat_map framed fs) ((at + length f) - at) n) (ap (λ t. f ∷ t) (read_again (at + length f) fs))
 
 pub reads : (at : ℕ) (ends bytes : List ℕ) (fs : List (List ℕ)) → Stores at ends bytes fs → frames_in at ends bytes ≡ fs
 reads at ends bytes fs s = rw (s.ends_are, s.bytes_are) (read_again at fs)
@@ -53,58 +54,50 @@ all_push : {X : Type 0} (P : X → Type 0) (xs : List X) (x : X) → AllByRecurs
 all_push P [] x all one = (one, tt)
 all_push P (y ∷ xs) x all one = (all.0, all_push P xs x all.1 one)
 
-ends_of-push : (at : ℕ) (fs : List (List ℕ)) (f : List ℕ) → ends_of at (fs ++ f ∷ []) ≡ ends_of at fs ++ (at + pos fs + length f) ∷ []
+ends_of-push : (at : ℕ) (fs : List (List ℕ)) (f : List ℕ) → ends_of at (fs ++ f ∷ []) ≡ ends_of at fs ++ (at + pos_by length fs + length f) ∷ []
+unfolding pos_by
 ends_of-push at [] f =
-    let same : at + length f ≡ at + pos [] + length f = omega arith in
+    let same : at + length f ≡ at + pos_by (length {A = ℕ}) [] + length f = omega arith in
     ap (λ n. n ∷ []) same
 ends_of-push at (g ∷ fs) f =
-    let same : (at + length g) + pos fs + length f ≡ at + pos (g ∷ fs) + length f = omega (arith, pos-cons g fs) in
+    let same : (at + length g) + pos_by length fs + length f ≡ at + pos_by length (g ∷ fs) + length f = omega (arith, pos-cons g fs) in
     ap (λ t. (at + length g) ∷ t) (ends_of-push (at + length g) fs f ∙ ap (λ n. ends_of (at + length g) fs ++ n ∷ []) same)
 
-pub Stores-push : (at end : ℕ) (ends bytes : List ℕ) (fs : List (List ℕ)) (f : List ℕ) → Stores at ends bytes fs → 6 ≤ length f → end ≡ at + pos fs + length f → Stores at (ends ++ end ∷ []) (bytes ++ framed f) (fs ++ f ∷ [])
+Stores-push : (at end : ℕ) (ends bytes : List ℕ) (fs : List (List ℕ)) (f : List ℕ) → Stores at ends bytes fs → 6 ≤ length f → end ≡ at + pos_by length fs + length f → Stores at (ends ++ end ∷ []) (bytes ++ framed f) (fs ++ f ∷ [])
 Stores-push at end ends bytes fs f s long is = record {
   bytes_are = rw s.bytes_are (sym (framed_all-push fs f));
   ends_are = rw (s.ends_are, is) (sym (ends_of-push at fs f));
   longer = all_push (λ g. 6 ≤ length g) fs f s.longer long;
 }
 
--- what the fields hold once the oldest frame is gone, with the bytes that are left of `start` on
-pub record Pops (at end start : ℕ) (ends bytes : List ℕ) (fs : List (List ℕ)) : Type 0 where
-  pub rest : Stores end ends (drop (start + (3 + (end - at))) bytes) (drop 1 fs)
-  pub end_is : end ≡ at + pos (take 1 fs)
+-- what the fields hold once the oldest frame is gone
+pub record Pops (at end : ℕ) (ends bytes : List ℕ) (fs : List (List ℕ)) : Type 0 where
+  pub rest : Stores end ends (drop (3 + (end - at)) bytes) (drop 1 fs)
+  pub end_is : end ≡ at + pos_by length (take 1 fs)
   pub rises : at + 6 ≤ end
-  pub within : start + (3 + (end - at)) ≤ length bytes
-  pub all : pos fs ≡ pos (take 1 fs) + pos (drop 1 fs)
+  pub within : 3 + (end - at) ≤ length bytes
+  pub all : pos_by length fs ≡ pos_by length (take 1 fs) + pos_by length (drop 1 fs)
 
-pub Stores-pop : (at end start : ℕ) (ends left bytes : List ℕ) (fs : List (List ℕ)) → Stores at ends (drop start bytes) fs → ends ≡ end ∷ left → start ≤ length bytes → Pops at end start left bytes fs
-Stores-pop at end start ends left bytes [] s is within = let none : ends ≡ [] = s.ends_are in absurd (cc (none, is))
-Stores-pop at end start ends left bytes (f ∷ fs) s is within =
+pub Stores-pop : (at end : ℕ) (ends left bytes : List ℕ) (fs : List (List ℕ)) → Stores at ends bytes fs → ends ≡ end ∷ left → Pops at end left bytes fs
+Stores-pop at end ends left bytes [] s is = let none : ends ≡ [] = s.ends_are in absurd (cc (none, is))
+Stores-pop at end ends left bytes (f ∷ fs) s is =
     let split : end ∷ left ≡ (at + length f) ∷ ends_of (at + length f) fs = sym is ∙ s.ends_are in
     let e : end ≡ at + length f = cc split in
     let es : left ≡ ends_of (at + length f) fs = cc split in
     let n : end - at ≡ length f = omega (arith, e) in
-    let bs : drop start bytes ≡ framed f ++ framed_all fs = s.bytes_are ∙ framed_all-cons f fs in
-    let gone : drop (start + (3 + (end - at))) bytes ≡ drop (3 + (end - at)) (drop start bytes) = sym (drop-drop (3 + (end - at)) start bytes) in
+    let bs : bytes ≡ framed f ++ flat_map framed fs = s.bytes_are ∙ framed_all-cons f fs in
     record {
       rest = record {
-        bytes_are = gone ∙ ap (drop (3 + (end - at))) bs ∙ drop_first f (framed_all fs) (end - at) n;
+        bytes_are = ap (drop (3 + (end - at))) bs ∙ drop_first f (flat_map framed fs) (end - at) n;
         ends_are = es ∙ ap (λ t. ends_of t fs) (sym e);
         longer = s.longer.1;
       };
-      end_is = omega (arith, e);
+      end_is = omega (arith, e, pos-one f fs);
       rises = omega (arith, e, s.longer.0);
-      within = omega (arith, n, within, ap length bs, length-drop start bytes, length-append (framed f) (framed_all fs), length-framed f);
-      all =
-          let first : pos (take 1 (f ∷ fs)) ≡ length f = zero-add (length f) in
-          let both : pos (f ∷ fs) ≡ length f + pos (drop 1 (f ∷ fs)) = pos-cons f fs in
-          omega (arith, first, both);
+      within = omega (arith, n, ap length bs, length-append (framed f) (flat_map framed fs), length-framed f);
+      all = omega (arith, pos-one f fs, pos-cons f fs);
     }
 
 -- the fields once a frame was appended
-pub Stores-append : (at end start : ℕ) (ends bytes longer more : List ℕ) (fs : List (List ℕ)) (f : List ℕ) → Stores at ends (drop start bytes) fs → start ≤ length bytes → longer ≡ bytes ++ framed f → more ≡ ends ++ end ∷ [] → 6 ≤ length f → end ≡ at + pos fs + length f → Stores at more (drop start longer) (fs ++ f ∷ [])
-Stores-append at end start ends bytes longer more fs f s within l m long is =
-    let live : drop start longer ≡ drop start bytes ++ framed f = ap (drop start) l ∙ drop-append-le start bytes (framed f) within in
-    rw (m, live) (Stores-push at end ends (drop start bytes) fs f s long is)
-
-pub pos-push : (fs : List (List ℕ)) (f : List ℕ) → pos (fs ++ f ∷ []) ≡ pos fs + length f
-pos-push fs f = sum_by_push length fs f
+pub Stores-append : (at end : ℕ) (ends bytes longer more : List ℕ) (fs : List (List ℕ)) (f : List ℕ) → Stores at ends bytes fs → longer ≡ bytes ++ framed f → more ≡ ends ++ end ∷ [] → 6 ≤ length f → end ≡ at + pos_by length fs + length f → Stores at more longer (fs ++ f ∷ [])
+Stores-append at end ends bytes longer more fs f s l m long is = rw (m, l) (Stores-push at end ends bytes fs f s long is)

@@ -1,68 +1,81 @@
--- What is held, and how it changes.
-use Rattle.std.specs.Prelude.{◌≡◌, ℕ, ◌+◌, ◌-◌, ◌<◌, ◌≤◌, max, List, [], ◌∷◌, ◌++◌, length, take, drop}
-use Rattle.replay_buffer.specs.Positions.{pos, IsGreatestBoundary, IsLeastBoundary, frames_from, framed_all}
+-- What is held of the frames made, and how it changes (RSocket 1.0, "Resuming Operation").
+use Rattle.std.specs.Prelude.{◌≡◌, ℕ, ◌+◌, ◌-◌, ◌<◌, ◌≤◌, max, List, [], ◌∷◌, ◌++◌, length, take, drop, map}
+use Rattle.std.specs.List.{flat_map}
+use Rattle.rs_frame.specs.declared.frame.Frame.{Frame}
+use Rattle.rs_frame.specs.Spelling.{canonical}
+use Rattle.rs_frame.specs.Framed.{framed}
+use Rattle.position.specs.Boundaries.{pos_by, IsBoundaryBy, acked_by, least_boundary_by, frames_from_by, first, frames_from}
 
--- the frames held, the position where the oldest one starts, and how many bytes may be held
+-- the bytes of the frames held, the position where the oldest one starts, and how many bytes may be held
 pub record Held : Type 0 where
   pub first : ℕ
   pub frames : List (List ℕ)
   pub hold : ℕ
 
 -- how many frames may be kept before more is reserved, and their bytes in sum
-pub record Room : Type 0 where
+pub record Spare : Type 0 where
   pub frames : ℕ
   pub bytes : ℕ
 
 pub record Buffer : Type 0 where
   pub held : Held
-  pub room : Room
+  pub spare : Spare
+
+-- this is held of the frames made, where the peer is known to have them up to `told`
+pub record IsHeldOf (made : List Frame) (told : ℕ) (h : Held) : Type 0 where
+  pub first_is : h.first ≡ first made told h.hold
+  pub frames_are : h.frames ≡ map canonical (frames_from made h.first)
+
+abbrev pub new_buffer : ℕ → Buffer
+new_buffer hold = record {
+  held = record { first = 0; frames = []; hold = hold };
+  spare = record { frames = 0; bytes = 0 };
+}
 
 -- the position where the newest frame ended
 abbrev pub end_of : Held → ℕ
-end_of h = h.first + pos h.frames
+end_of h = h.first + pos_by length h.frames
 
-abbrev pub nothing : ℕ → Buffer
-nothing hold = record {
-  held = record { first = 0; frames = []; hold = hold };
-  room = record { frames = 0; bytes = 0 };
-}
+-- a held frame starts at the position, or the newest one ended there
+abbrev pub IsHeldBoundary : Held → ℕ → Type 0
+IsHeldBoundary h p = (h.first ≤ p) × IsBoundaryBy length h.frames (p - h.first)
 
--- this is held of the frames made, where the peer told that it has them up to `told`: the frames
--- from the least boundary that is at least what is acknowledged and at least the end minus `hold`
-pub record StandsFor (made : List (List ℕ)) (told : ℕ) (h : Held) : Type 0 where
-  pub acked : ℕ
-  pub acked_is : IsGreatestBoundary 0 made told acked
-  pub first_is : IsLeastBoundary 0 made (max acked (pos made - h.hold)) h.first
-  pub frames_are : h.frames ≡ frames_from h.first 0 made
+-- the held frames from a position on, each after its length
+abbrev pub framed_from : Held → ℕ → List ℕ
+framed_from h p = flat_map framed (frames_from_by length h.frames (p - h.first))
 
--- one frame more, and none forgotten
-abbrev pub grown : Held → List ℕ → Held
-grown h frame = record h { frames = h.frames ++ frame ∷ [] }
+-- a frame more
+abbrev pub with_newest : Held → List ℕ → Held
+with_newest h frame = record h { frames = h.frames ++ frame ∷ [] }
 
--- the frames before a boundary are forgotten
-abbrev pub from_boundary : Held → ℕ → Held
-from_boundary h p = record h { first = p; frames = frames_from p h.first h.frames }
+-- the oldest frames are forgotten, which have `n` bytes
+abbrev pub without_first : Held → ℕ → Held
+without_first h n = record h { first = h.first + n; frames = frames_from_by length h.frames n }
 
--- the oldest `k` frames are forgotten
-abbrev pub without_oldest : ℕ → Held → Held
-without_oldest k h = record h { first = h.first + pos (take k h.frames); frames = drop k h.frames }
+-- the frames are left from the least boundary on that is at least `low`
+abbrev pub from_least : Held → ℕ → Held
+from_least h low = without_first h (least_boundary_by length h.frames (low - h.first))
+
+-- the frames are left from the greatest boundary on that is not above the position
+abbrev pub from_acked : Held → ℕ → Held
+from_acked h position = without_first h (acked_by length h.frames (position - h.first))
+
+-- the oldest frame is forgotten
+abbrev pub without_oldest : Held → Held
+without_oldest h = record h { first = h.first + pos_by length (take 1 h.frames); frames = drop 1 h.frames }
 
 -- a frame is held, and the oldest one ends at or before the position
 abbrev pub OldestEndsBy : Held → ℕ → Type 0
-OldestEndsBy h position = (0 < length h.frames) × (h.first + pos (take 1 h.frames) ≤ position)
+OldestEndsBy h position = (0 < length h.frames) × (h.first + pos_by length (take 1 h.frames) ≤ position)
 
--- the held frames from a boundary on, each after its length
-abbrev pub framed_from : Held → ℕ → List ℕ
-framed_from h p = framed_all (frames_from p h.first h.frames)
+-- a frame of `n` bytes may be kept
+abbrev pub HasSpare : Spare → ℕ → Type 0
+HasSpare s n = (0 < s.frames) × (n ≤ s.bytes)
 
--- there is room for a frame of so many bytes
-abbrev pub HasRoom : Room → ℕ → Type 0
-HasRoom r bytes = (0 < r.frames) × (bytes ≤ r.bytes)
+-- what may be kept once it was reserved
+abbrev pub spare_for : Spare → ℕ → ℕ → Spare
+spare_for s frames bytes = record { frames = max s.frames frames; bytes = max s.bytes bytes }
 
--- the room once so much was reserved
-abbrev pub room_for : Room → ℕ → ℕ → Room
-room_for r frames bytes = record { frames = max r.frames frames; bytes = max r.bytes bytes }
-
--- the room once a frame of so many bytes was kept
-abbrev pub room_after : Room → ℕ → Room
-room_after r bytes = record { frames = r.frames - 1; bytes = r.bytes - bytes }
+-- what may be kept once a frame of `n` bytes was
+abbrev pub spare_after : Spare → ℕ → Spare
+spare_after s n = record { frames = s.frames - 1; bytes = s.bytes - n }

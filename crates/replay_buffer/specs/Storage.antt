@@ -1,8 +1,9 @@
 -- How what is held lies in the fields.
-use Rattle.std.specs.Prelude.{◌≡◌, ℕ, ◌+◌, ◌-◌, ◌*◌, ◌≤◌, List, [], ◌∷◌, length, take, drop, vec_len, vec_capacity}
+use Rattle.std.specs.Prelude.{◌≡◌, ℕ, ◌+◌, ◌-◌, ◌*◌, ◌≤◌, List, [], ◌∷◌, length, take, drop}
 use Rattle.std.specs.VecDeque.{deque_len, deque_capacity}
-use Rattle.std.specs.List.{AllByRecursion}
-use Rattle.replay_buffer.specs.Positions.{pos, framed_all}
+use Rattle.std.specs.List.{AllByRecursion, flat_map}
+use Rattle.rs_frame.specs.Framed.{framed}
+use Rattle.position.specs.Boundaries.{pos_by}
 use Rattle.replay_buffer.specs.Held.{Buffer}
 use Rattle.replay_buffer.specs.declared.replay.Replay.TheInside.{Inside}
 
@@ -18,23 +19,22 @@ frames_in at (e ∷ ends) bytes = take (e - at) (drop 3 bytes) ∷ frames_in e e
 
 -- the frames lie in these bytes and end at these positions
 pub record Stores (at : ℕ) (ends bytes : List ℕ) (frames : List (List ℕ)) : Type 0 where
-  pub bytes_are : bytes ≡ framed_all frames
+  pub bytes_are : bytes ≡ flat_map framed frames
   pub ends_are : ends ≡ ends_of at frames
   pub longer : AllByRecursion (λ f. 6 ≤ length f) frames
 
 abbrev pub frames_of : Inside → List (List ℕ)
-frames_of r = frames_in r.first r.ends.items (drop r.start r.bytes.items)
+frames_of r = frames_in r.first r.ends.items r.bytes.bytes
 
 abbrev pub buffer_of : Inside → Buffer
 buffer_of r = record {
   held = record { first = r.first; frames = frames_of r; hold = r.hold };
-  room = record { frames = r.spare_frames; bytes = r.spare_bytes };
+  spare = record { frames = r.spare_frames; bytes = r.spare_bytes };
 }
 
 pub record IsStored (r : Inside) : Type 0 where
-  pub stored : Stores r.first r.ends.items (drop r.start r.bytes.items) (frames_of r)
-  pub end : r.end ≡ r.first + pos (frames_of r)
+  pub stored : Stores r.first r.ends.items r.bytes.bytes (frames_of r)
+  pub end : r.end ≡ r.first + pos_by length (frames_of r)
   pub top : r.end ≤ 9223372036854775807
-  pub start : r.start ≤ vec_len r.bytes
-  pub room_of_bytes : vec_len r.bytes + (r.spare_bytes + 3 * r.spare_frames) ≤ vec_capacity r.bytes
-  pub room_of_frames : deque_len r.ends + r.spare_frames ≤ deque_capacity r.ends
+  pub spare_of_bytes : r.spare_bytes + 3 * r.spare_frames ≤ r.bytes.reserved
+  pub spare_of_frames : deque_len r.ends + r.spare_frames ≤ deque_capacity r.ends

@@ -1,16 +1,24 @@
 //! What is held, seen from the list of all frames made.
 
 ghost use Rattle.std.specs.Prelude.{◌≡◌, ◌≤◌, ◌↔◌, ℕ, List};
-ghost use Rattle.replay_buffer.specs.Positions.{IsBoundary, frames_from, pos};
-ghost use Rattle.replay_buffer.specs.Held.{Held, StandsFor, end_of};
+ghost use Rattle.rs_frame.specs.declared.frame.Frame.{Frame};
+ghost use Rattle.rs_frame.specs.Framed.{framed_all};
+ghost use Rattle.position.specs.Boundaries.{IsBoundary, frames_from, pos};
+ghost use Rattle.replay_buffer.specs.Held.{Held, IsHeldBoundary, IsHeldOf, end_of, framed_from};
 
-/// Where `h` is what is held of the frames made: the held boundaries are those of the frames made
-/// that are not below the first; the frames held from a position on are those made; the ends are
-/// the same; and nothing else is held of these frames (RSocket 1.0, "Resuming Operation"). A
-/// statement alone: it does nothing.
+/// What holds of what is held of the frames made (RSocket 1.0, "Resuming Operation"). The call
+/// does nothing; its clauses are the laws.
 pub fn held_of_made()
-    ensures boundaries { (made : List (List ℕ)) (told : ℕ) (h : Held) (p : ℕ) → StandsFor made told h → IsBoundary h.first h.frames p ↔ (IsBoundary 0 made p × (h.first ≤ p)) }
-    ensures frames { (made : List (List ℕ)) (told : ℕ) (h : Held) (p : ℕ) → StandsFor made told h → h.first ≤ p → frames_from p h.first h.frames ≡ frames_from p 0 made }
-    ensures end { (made : List (List ℕ)) (told : ℕ) (h : Held) → StandsFor made told h → end_of h ≡ pos made }
-    ensures only { (made : List (List ℕ)) (told : ℕ) (h g : Held) → StandsFor made told h → StandsFor made told g → h.hold ≡ g.hold → h ≡ g }
+    // The held boundaries are those of the frames made that are not below the first one held.
+    ensures boundaries { (made : List Frame) (told : ℕ) (h : Held) (p : ℕ) →
+        IsHeldOf made told h → IsHeldBoundary h p ↔ (IsBoundary made p × (h.first ≤ p)) }
+    // What is held from a position on is what was made from there on.
+    ensures frames { (made : List Frame) (told : ℕ) (h : Held) (p : ℕ) →
+        IsHeldOf made told h → h.first ≤ p → framed_from h p ≡ framed_all (frames_from made p) }
+    // The newest frame held is the newest one made.
+    ensures end { (made : List Frame) (told : ℕ) (h : Held) →
+        IsHeldOf made told h → end_of h ≡ pos made }
+    // Nothing else is held of these frames.
+    ensures only { (made : List Frame) (told : ℕ) (h g : Held) →
+        IsHeldOf made told h → IsHeldOf made told g → h.hold ≡ g.hold → h ≡ g }
 {}

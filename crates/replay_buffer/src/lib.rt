@@ -6,10 +6,11 @@
 //! position where a frame starts or the newest one ends. The oldest frames are forgotten as whole
 //! frames, when the bytes held pass a limit or when the peer has told that it has them.
 //!
-//! Promise to the room above: what is held is the list of the frames kept, from the position
-//! [`Replay::first`] on, and [`Replay::copy`] gives their bytes as they go onto a stream, each
-//! frame after its length. `first` rises as far as the limit and the peer's words say, and no
-//! frame further. Only [`Replay::reserve`] takes memory.
+//! The promise to the layer above: where the frames kept are those made, what is held of them
+//! starts at `first` of the crate `position` (the peer may still need it, and no more than `hold`
+//! bytes are held), and [`Replay::copy`] gives it as it goes onto a stream, each frame after its
+//! length ([`held_of_made`]). No frame is forgotten sooner or later. In memory are at most twice
+//! the bytes held and what was reserved. Only [`Replay::reserve`] takes memory.
 //!
 //! It leaves out which frames are resumable, how they are spelled, and whether a peer's position
 //! may be believed.

@@ -1,48 +1,27 @@
-//! Bytes at the end and at the front of buffers.
+//! Bytes into a queue and out of it.
 
-ghost use Rattle.std.specs.Prelude.{◌≡◌, ◌+◌, ◌<◌, ◌≤◌, ◌^◌, ◌++◌, length, take, drop, min, vec_len};
-ghost use Rattle.std.specs.Prelude.{vec_capacity};
-ghost use Rattle.replay_buffer.specs.Positions.{framed};
+ghost use Rattle.std.specs.Prelude.{◌≡◌, ◌+◌, ◌-◌, ◌<◌, ◌≤◌, ◌^◌, ◌++◌, length, take, drop, min};
+ghost use Rattle.rs_frame.specs.Framed.{framed};
 
+use byte_queue::ByteQueue;
 use byteorder::{BigEndian, ByteOrder};
 
-/// Appends the frame after its 24-bit length. Takes no memory.
-pub fn append_framed(bytes: &mut Vec<u8>, frame: &[u8])
-    requires room { vec_len bytes.old + (3 + length frame.now) ≤ vec_capacity bytes.old }
+/// Appends the frame after its 24-bit length, for which bytes are reserved.
+pub fn append_framed(queue: &mut ByteQueue, frame: &[u8])
+    requires reserved { 3 + length frame.now ≤ queue.old.reserved }
     requires longest { length frame.now < 2 ^ 24 }
-    ensures items { bytes.new.items ≡ bytes.old.items ++ framed frame.now }
-    ensures len { vec_len bytes.new ≡ vec_len bytes.old + (3 + length frame.now) }
-    ensures room { vec_capacity bytes.old ≤ vec_capacity bytes.new }
+    ensures { queue.new ≡ record {
+      bytes = queue.old.bytes ++ framed frame.now;
+      reserved = queue.old.reserved - (3 + length frame.now);
+    } }
 {
     let mut length = [0; 3];
     BigEndian::write_u24(&mut length, frame.len() as u32);
-    append_reserved(bytes, &length);
-    append_reserved(bytes, frame);
+    queue.append(&length).unwrap();
+    queue.append(frame).unwrap();
 }
 
-// Appends the bytes. Takes no memory.
-fn append_reserved(bytes: &mut Vec<u8>, more: &[u8])
-    requires { vec_len bytes.old + length more.now ≤ vec_capacity bytes.old }
-    ensures items { bytes.new.items ≡ bytes.old.items ++ more.now }
-    ensures len { vec_len bytes.new ≡ vec_len bytes.old + length more.now }
-    ensures room { vec_capacity bytes.old ≤ vec_capacity bytes.new }
-{
-    bytes.extend_from_slice(more).unwrap();
-}
-
-/// Drops the first bytes. Takes no memory.
-pub fn drop_front(bytes: &mut Vec<u8>, count: usize)
-    requires { count ≤ vec_len bytes.old }
-    ensures items { bytes.new.items ≡ drop count bytes.old.items }
-    ensures len { vec_len bytes.new + count ≡ vec_len bytes.old }
-    ensures room { vec_capacity bytes.new ≡ vec_capacity bytes.old }
-{
-    let left = bytes.len() - count;
-    bytes.copy_within(count.., 0);
-    bytes.truncate(left);
-}
-
-/// Writes as many of the bytes as fit to the front of the buffer, and answers how many.
+/// Writes as many of the bytes as fit to the beginning of the buffer, and answers how many.
 pub fn fill(buffer: &mut [u8], bytes: &[u8]) -> usize
     ensures count { result ≡ min (length buffer.old) (length bytes.now) }
     ensures written { buffer.new ≡ take result bytes.now ++ drop result buffer.old }

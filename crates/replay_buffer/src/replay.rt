@@ -1,25 +1,26 @@
-//! The held frames, as one buffer of framed bytes and the positions where the frames end.
+//! The held frames, as one queue of framed bytes and the positions where the frames end.
 
 ghost use Rattle.std.specs.Prelude.{◌≡◌, ◌+◌, ◌-◌, ◌<◌, ◌≤◌, ◌↔◌, ◌++◌, [], ◌∷◌, length, take, drop, min, max, IsTrue, OnOk, OnErr, IfOk, ℕ, List, slice_index};
 ghost use Rattle.std.specs.VecDeque.{deque_len};
 ghost use Rattle.std.specs.List.Sorted.{IsNonDecreasing};
-ghost use Rattle.replay_buffer.specs.Positions.{IsBoundary, IsGreatestBoundary, IsLeastBoundary, pos};
-ghost use Rattle.replay_buffer.specs.Held.{HasRoom, OldestEndsBy, end_of, framed_from, from_boundary, grown, nothing, room_for, room_after, without_oldest, StandsFor};
+ghost use Rattle.rs_frame.specs.declared.frame.Frame.{Frame};
+ghost use Rattle.rs_frame.specs.Spelling.{canonical};
+ghost use Rattle.position.specs.Boundaries.{pos};
+ghost use Rattle.replay_buffer.specs.Held.{HasSpare, IsHeldBoundary, IsHeldOf, OldestEndsBy, end_of, framed_from, from_acked, from_least, new_buffer, spare_after, spare_for, with_newest, without_oldest};
 
-use crate::pieces::{append_framed, drop_front, fill};
+use crate::pieces::{append_framed, fill};
+use byte_queue::ByteQueue;
 use rs_wire::OutOfMemory;
 use std::alloc::Global;
 use std::collections::VecDeque;
 use std::marker::Model;
 
-/// The frames made that are still held (RSocket 1.0, "Resuming Operation"). Contracts see the list
-/// of the frames with the position where the oldest one starts, and the room that was reserved.
-#[derive(Drop)]
+/// The frames made that are still held (RSocket 1.0, "Resuming Operation"). Contracts see the
+/// bytes of each held frame, the position where the oldest one starts, and what was reserved.
+#[derive(Debug, Drop)]
 pub struct Replay {
-    // The held frames from `start` on, each after its 24-bit length.
-    bytes: Vec<u8>,
-    // How many bytes at the front of `bytes` are forgotten.
-    start: usize,
+    // The held frames, each after its 24-bit length.
+    bytes: ByteQueue,
     // The position where each held frame ends, the oldest first.
     ends: VecDeque<u64>,
     // The position where the oldest held frame starts.
@@ -34,7 +35,6 @@ pub struct Replay {
 }
 
 impl Model for Replay {
-    ghost use Rattle.std.specs.Prelude.{drop};
     ghost use Rattle.replay_buffer.specs.Held.{Buffer};
 
     ghost Value = { Buffer };
@@ -49,13 +49,13 @@ impl Model for Replay {
 impl Replay {
     /// Nothing is held: the first frame will start at position 0. At most `hold` bytes of frames
     /// will be held, without their length fields. With 0 each frame is forgotten as it is kept.
+    #[tactic(auto, unfolding(position::specs::Boundaries::pos_by, position::specs::Boundaries::acked_by, position::specs::Boundaries::least_boundary_by, position::specs::Boundaries::frames_from_by))]
     pub fn new(alloc: Global, hold: u64) -> Result<Replay, OutOfMemory>
-        ensures nothing { IfOk result (λ replay. replay ≡ nothing hold) }
-        ensures stands { IfOk result (λ replay. StandsFor [] 0 replay.held) }
+        ensures empty { IfOk result (λ replay. replay ≡ new_buffer hold) }
+        ensures of_none { IfOk result (λ replay. IsHeldOf [] 0 replay.held) }
     {
         Ok(Replay {
-            bytes: Vec::new(alloc),
-            start: 0,
+            bytes: ByteQueue::new(alloc),
             ends: VecDeque::new(alloc),
             first: 0,
             end: 0,
@@ -65,10 +65,11 @@ impl Replay {
         })
     }
 
-    /// Makes room for so many frames more, of so many bytes in sum. What was reserved and not used
-    /// before counts.
+    /// Reserves memory for so many frames more, of so many bytes in sum. What was reserved and not
+    /// used before counts.
     pub fn reserve(&mut self, frames: usize, bytes: usize) -> Result<(), OutOfMemory>
-        ensures ok { OnOk result (self.new ≡ record self.old { room = room_for self.old.room frames bytes }) }
+        ensures ok { OnOk result
+            (self.new ≡ record self.old { spare = spare_for self.old.spare frames bytes }) }
         ensures err { OnErr result (self.new ≡ self.old) }
     {
         let frames = frames.max(self.spare_frames);
@@ -85,46 +86,47 @@ impl Replay {
     }
 
     /// Appends a frame, without its length field, and forgets the oldest whole frames while more
-    /// than `hold` bytes are held. Takes no memory, and the time to copy the frame and, over all
-    /// calls, a constant for each byte forgotten.
+    /// than `hold` bytes are held. It takes the time to copy the frame and, over all calls, a
+    /// constant for each byte forgotten.
     pub fn keep(&mut self, frame: &[u8])
-        requires room { HasRoom self.old.room (length frame.now) }
+        requires spare { HasSpare self.old.spare (length frame.now) }
         requires shortest { 6 ≤ length frame.now }
         requires longest { length frame.now ≤ 16777215 }
         requires top { end_of self.old.held + length frame.now ≤ 9223372036854775807 }
-        ensures frames { self.new.held ≡ from_boundary (grown self.old.held frame.now) self.new.held.first }
-        ensures first { let all = grown self.old.held frame.now in IsLeastBoundary all.first all.frames (end_of all - all.hold) self.new.held.first }
+        ensures held { let all = with_newest self.old.held frame.now in
+            self.new.held ≡ from_least all (end_of all - all.hold) }
+        ensures of_made { (made : List Frame) (told : ℕ) (newest : Frame) →
+            IsHeldOf made told self.old.held → told ≤ pos made → frame.now ≡ canonical newest →
+            IsHeldOf (made ++ newest ∷ []) told self.new.held }
         ensures end { end_of self.new.held ≡ end_of self.old.held + length frame.now }
-        ensures stands { (made : List (List ℕ)) (told : ℕ) → StandsFor made told self.old.held → told ≤ pos made → StandsFor (made ++ frame.now ∷ []) told self.new.held }
-        ensures room { self.new.room ≡ room_after self.old.room (length frame.now) }
+        ensures spare { self.new.spare ≡ spare_after self.old.spare (length frame.now) }
     {
         self.append(frame);
         self.forget_until(self.end.saturating_sub(self.hold));
     }
 
-    /// Forgets the whole frames that end at or before the position. Takes no memory, and over all
-    /// calls a constant time for each byte forgotten.
+    /// Forgets the whole frames that end at or before the position. Over all calls it takes a
+    /// constant time for each byte forgotten.
     pub fn release(&mut self, position: u64)
-        ensures frames { self.new.held ≡ from_boundary self.old.held self.new.held.first }
-        ensures first { IsGreatestBoundary self.old.held.first self.old.held.frames (max position self.old.held.first) self.new.held.first }
+        ensures held { self.new.held ≡ from_acked self.old.held position }
+        ensures of_made { (made : List Frame) (told : ℕ) →
+            IsHeldOf made told self.old.held → IsHeldOf made (max told position) self.new.held }
         ensures end { end_of self.new.held ≡ end_of self.old.held }
-        ensures stands { (made : List (List ℕ)) (told : ℕ) → StandsFor made told self.old.held → StandsFor made (max told position) self.new.held }
-        ensures room { self.new.room ≡ self.old.room }
+        ensures spare { self.new.spare ≡ self.old.spare }
     {
         while self.is_oldest_past(position) {
             self.forget_oldest();
         }
     }
 
-    /// The position where the oldest held frame starts: [`Replay::end`] where none is held. Takes
-    /// no memory.
+    /// The position where the oldest held frame starts: [`Replay::end`] where none is held.
     pub fn first(&self) -> u64
         ensures { result ≡ self.now.held.first }
     {
         self.first
     }
 
-    /// The position where the newest frame ended, held or not. Takes no memory.
+    /// The position where the newest frame ended, held or not.
     pub fn end(&self) -> u64
         ensures value { result ≡ end_of self.now.held }
         ensures bound { result ≤ 9223372036854775807 }
@@ -132,31 +134,32 @@ impl Replay {
         self.end
     }
 
-    /// Whether a held frame starts at the position, or the newest frame ended there. Takes no
-    /// memory, and the time for a binary search among the frames.
+    /// Whether a held frame starts at the position, or the newest frame ended there. It takes the
+    /// time for a binary search among the frames.
     pub fn is_boundary(&self, position: u64) -> bool
-        ensures { IsTrue result ↔ IsBoundary self.now.held.first self.now.held.frames position }
+        ensures { IsTrue result ↔ IsHeldBoundary self.now.held position }
     {
         position == self.first || self.ends.binary_search(&position).is_ok()
     }
 
-    /// How many bytes the held frames from a held boundary on have, with their length fields. Takes
-    /// no memory.
+    /// How many bytes the held frames from a held boundary on have, with their length fields.
     pub fn framed_len(&self, from: u64) -> u64
-        requires { IsBoundary self.now.held.first self.now.held.frames from }
+        requires { IsHeldBoundary self.now.held from }
         ensures { result ≡ length (framed_from self.now.held from) }
     {
         self.framed(from).len() as u64
     }
 
     /// Writes as many bytes as fit of the held frames from a held boundary on, each after its
-    /// length field, without the first `skip` of these bytes. Answers how many were written. Takes
-    /// no memory, and the time to copy them and for a binary search among the frames.
+    /// length field, without the first `skip` of these bytes. Answers how many were written. It
+    /// takes the time to copy them and for a binary search among the frames.
     pub fn copy(&self, from: u64, skip: u64, buffer: &mut [u8]) -> usize
-        requires boundary { IsBoundary self.now.held.first self.now.held.frames from }
+        requires boundary { IsHeldBoundary self.now.held from }
         requires within { skip ≤ length (framed_from self.now.held from) }
-        ensures count { result ≡ min (length buffer.old) (length (framed_from self.now.held from) - skip) }
-        ensures written { buffer.new ≡ take result (drop skip (framed_from self.now.held from)) ++ drop result buffer.old }
+        ensures count { let framed = framed_from self.now.held from in
+            result ≡ min (length buffer.old) (length framed - skip) }
+        ensures written { let framed = framed_from self.now.held from in
+            buffer.new ≡ take result (drop skip framed) ++ drop result buffer.old }
     {
         let framed = self.framed(from);
         fill(buffer, &framed[skip as usize..])
@@ -164,22 +167,23 @@ impl Replay {
 
     // The held frames from a held boundary on, each after its length field.
     fn framed(&self, from: u64) -> &[u8]
-        requires { IsBoundary self.now.held.first self.now.held.frames from }
+        requires { IsHeldBoundary self.now.held from }
         ensures { result.now ≡ framed_from self.now.held from }
     {
+        let framed = self.bytes.as_slice();
         let before = count_up_to(&self.ends, from);
-        let at = self.start + (from - self.first) as usize + 3 * before;
-        &self.bytes[at..]
+        let at = (from - self.first) as usize + 3 * before;
+        &framed[at..]
     }
 
     // Appends a frame and forgets none.
     fn append(&mut self, frame: &[u8])
-        requires room { HasRoom self.old.room (length frame.now) }
+        requires spare { HasSpare self.old.spare (length frame.now) }
         requires shortest { 6 ≤ length frame.now }
         requires longest { length frame.now ≤ 16777215 }
         requires top { end_of self.old.held + length frame.now ≤ 9223372036854775807 }
-        ensures held { self.new.held ≡ grown self.old.held frame.now }
-        ensures room { self.new.room ≡ room_after self.old.room (length frame.now) }
+        ensures held { self.new.held ≡ with_newest self.old.held frame.now }
+        ensures spare { self.new.spare ≡ spare_after self.old.spare (length frame.now) }
     {
         append_framed(&mut self.bytes, frame);
         self.end += frame.len() as u64;
@@ -191,10 +195,9 @@ impl Replay {
     // Forgets the oldest frames until the rest starts at `low` or later.
     fn forget_until(&mut self, low: u64)
         requires { low ≤ end_of self.old.held }
-        ensures frames { self.new.held ≡ from_boundary self.old.held self.new.held.first }
-        ensures first { IsLeastBoundary self.old.held.first self.old.held.frames low self.new.held.first }
+        ensures held { self.new.held ≡ from_least self.old.held low }
         ensures end { end_of self.new.held ≡ end_of self.old.held }
-        ensures room { self.new.room ≡ self.old.room }
+        ensures spare { self.new.spare ≡ self.old.spare }
     {
         while self.first() < low {
             self.forget_oldest();
@@ -202,6 +205,7 @@ impl Replay {
     }
 
     // Whether a frame is held and the oldest one ends at or before the position.
+    #[tactic(auto, unfolding(position::specs::Boundaries::pos_by))]
     fn is_oldest_past(&self, position: u64) -> bool
         ensures { IsTrue result ↔ OldestEndsBy self.now.held position }
     {
@@ -211,19 +215,16 @@ impl Replay {
     // Forgets the oldest frame.
     fn forget_oldest(&mut self)
         requires { 0 < length self.old.held.frames }
-        ensures held { self.new.held ≡ without_oldest 1 self.old.held }
+        ensures held { self.new.held ≡ without_oldest self.old.held }
         ensures rises { self.old.held.first < self.new.held.first }
-        ensures room { self.new.room ≡ self.old.room }
+        ensures end { end_of self.new.held ≡ end_of self.old.held }
+        ensures spare { self.new.spare ≡ self.old.spare }
     {
         let Some(end) = self.ends.pop_front() else {
             return;
         };
-        self.start += 3 + (end - self.first) as usize;
+        self.bytes.drop_front(3 + (end - self.first) as usize);
         self.first = end;
-        if self.start > self.bytes.len() / 2 {
-            drop_front(&mut self.bytes, self.start);
-            self.start = 0;
-        }
     }
 }
 
@@ -232,7 +233,8 @@ fn count_up_to(positions: &VecDeque<u64>, position: u64) -> usize
     requires { IsNonDecreasing positions.now.items }
     ensures bound { result ≤ deque_len positions.now }
     ensures within { (k : ℕ) → k < result → slice_index positions.now.items k ≤ position }
-    ensures after { (k : ℕ) → result ≤ k → k < deque_len positions.now → position < slice_index positions.now.items k }
+    ensures after { (k : ℕ) → result ≤ k → k < deque_len positions.now →
+        position < slice_index positions.now.items k }
 {
     positions.partition_point(|end| *end <= position)
 }

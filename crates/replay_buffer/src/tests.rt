@@ -4,6 +4,7 @@ use std::test::Fail;
 const EIGHT: [u8; 8] = [1, 2, 3, 4, 5, 6, 7, 8];
 
 // A buffer that kept two frames of eight bytes.
+#[tactic(auto, unfolding(position::specs::Boundaries::pos_by))]
 fn kept_twice(rt: &HostRuntime, hold: u64) -> Result<Replay, Fail> {
     let mut replay = Replay::new(rt.alloc(), hold)?;
     replay.reserve(2, 16)?;

@@ -1,4 +1,4 @@
-use Rattle.fragment.proofs.Joins.{joined_message, joined_complete, joined_next, split_glued}
+use Rattle.fragment.proofs.Joins.{joined_message, joined_complete, joined_next, joined-push, split_glued}
 use Rattle.fragment.proofs.Splits.{split_fits, split_cut, all_spellable, all_on_stream, all_short, each_full}
 use Rattle.fragment.proofs.laws.fragment_laws.Goals as goal
 
@@ -31,3 +31,6 @@ returns-clause-next c = joined_next
 
 pub returns-clause-glued : goal.returns-clause-glued
 returns-clause-glued c = split_glued
+
+pub returns-clause-grows : goal.returns-clause-grows
+returns-clause-grows c = joined-push

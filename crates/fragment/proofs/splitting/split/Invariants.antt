@@ -1,6 +1,6 @@
 use Rattle.std.proofs.Common.{◌≡◌, ◌++◌}
 use Rattle.rs_frame.specs.Spelling.{IsSpellable, length_of}
-use Rattle.fragment.specs.Splitting.{IsWhole, split_of}
+use Rattle.fragment.specs.Splitting.{IsSplittable, split_of}
 use Rattle.fragment.specs.Views.{frame_in}
 use Rattle.fragment.proofs.splitting.split.Given as goal
 
@@ -8,7 +8,7 @@ use Rattle.fragment.proofs.splitting.split.Given as goal
 abbrev pub invariant-loop-rest : goal.invariant-loop-rest
 invariant-loop-rest l = record {
   split : l.frames.items ++ split_of (frame_in l.rest) l.mtu ≡ split_of l.frame l.mtu;
-  whole : IsWhole (frame_in l.rest);
+  whole : IsSplittable (frame_in l.rest);
   spellable : IsSpellable (frame_in l.rest);
 }
 

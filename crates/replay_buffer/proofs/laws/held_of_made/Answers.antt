@@ -1,5 +1,5 @@
-use Rattle.replay_buffer.proofs.Standing.{boundaries_seen, end_made, only_one, rest_seen}
+use Rattle.replay_buffer.proofs.HeldOf.{boundaries_held, end_held, only_one, rest_held}
 use Rattle.replay_buffer.proofs.laws.held_of_made.Goals as goal
 
 pub returns : goal.returns
-returns c = record { boundaries = boundaries_seen; frames = rest_seen; end = end_made; only = only_one }
+returns c = record { boundaries = boundaries_held; frames = rest_held; end = end_held; only = only_one }

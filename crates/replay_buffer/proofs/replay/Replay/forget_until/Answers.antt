@@ -1,18 +1,22 @@
-use Rattle.std.proofs.Common.{arith}
-use Rattle.replay_buffer.proofs.Forgotten.{end_is, from_boundary_is, still_held, until_least, until_one}
+use Rattle.std.proofs.Common.{sym, ap, ◌∙◌, arith}
+use Rattle.replay_buffer.specs.Held.{Held, from_least}
+use Rattle.replay_buffer.proofs.Forgotten.{least_done, least_step, some_held}
 use Rattle.replay_buffer.proofs.replay.Replay.forget_until.Goals as goal
+
+pub forget_oldest-requires : goal.forget_oldest-requires
+forget_oldest-requires c = some_held c.loop-self.self.held (omega (arith, c.loop-self.invariant.end))
 
 pub loop-self-preserved : goal.loop-self-preserved
 loop-self-preserved c =
-    until_one c.args.self.now c.loop-self.self c.forget_oldest.new.self c.args.low c.loop-self.invariant
-    (still_held c.args.self.now.held c.loop-self.self.held c.loop-self.invariant.gone c.loop-self.invariant.forgets (omega arith))
-    c.forget_oldest.ensures.held c.forget_oldest.ensures.rises c.forget_oldest.ensures.room (omega arith)
+    let h = c.loop-self.self.held in
+    record {
+      same =
+          ap (λ (g : Held). from_least g c.args.low) c.forget_oldest.ensures.held
+          ∙ least_step h c.args.low (omega arith) (some_held h (omega (arith, c.loop-self.invariant.end))) (omega (arith, ap (λ (g : Held). g.first) c.forget_oldest.ensures.held))
+          ∙ c.loop-self.invariant.same;
+      end = c.forget_oldest.ensures.end ∙ c.loop-self.invariant.end;
+      spare = c.forget_oldest.ensures.spare ∙ c.loop-self.invariant.spare;
+    }
 
-pub returns-clause-frames : goal.returns-clause-frames
-returns-clause-frames c = from_boundary_is c.args.self.now.held c.loop-self.self.held c.loop-self.invariant.gone c.loop-self.invariant.forgets
-
-pub returns-clause-first : goal.returns-clause-first
-returns-clause-first c = until_least c.args.self.now c.loop-self.self c.args.low c.loop-self.invariant (omega arith)
-
-pub returns-clause-end : goal.returns-clause-end
-returns-clause-end c = end_is c.args.self.now.held c.loop-self.self.held c.loop-self.invariant.gone c.loop-self.invariant.forgets
+pub returns-clause-held : goal.returns-clause-held
+returns-clause-held c = sym (least_done c.loop-self.self.held c.args.low (omega arith)) ∙ c.loop-self.invariant.same

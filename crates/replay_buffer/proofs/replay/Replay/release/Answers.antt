@@ -1,24 +1,24 @@
-use Rattle.std.proofs.Common.{◌≡◌, true, false, refl}
-use Rattle.replay_buffer.proofs.Forgotten.{end_is, from_boundary_is, released_greatest, released_one}
-use Rattle.replay_buffer.proofs.Standing.{stands_released}
+use Rattle.std.proofs.Common.{◌≡◌, true, false, refl, sym, ap, subst, max, ◌∙◌, arith}
+use Rattle.replay_buffer.specs.Held.{Held, IsHeldOf, from_acked}
+use Rattle.replay_buffer.proofs.Forgotten.{acked_done, acked_step}
+use Rattle.replay_buffer.proofs.HeldOf.{released}
 use Rattle.replay_buffer.proofs.replay.Replay.release.Goals as goal
 
 pub loop-self-preserved : goal.loop-self-preserved
-loop-self-preserved c =
-    released_one c.args.self.now c.loop-self.self c.forget_oldest.new.self c.args.position c.loop-self.invariant (c.loop-self-test.ensures.0 refl)
-    c.forget_oldest.ensures.held c.forget_oldest.ensures.rises c.forget_oldest.ensures.room
+loop-self-preserved c = record {
+  same =
+      ap (λ (g : Held). from_acked g c.args.position) c.forget_oldest.ensures.held
+      ∙ acked_step c.loop-self.self.held c.args.position (c.loop-self-test.ensures.0 refl) (omega (arith, ap (λ (g : Held). g.first) c.forget_oldest.ensures.held))
+      ∙ c.loop-self.invariant.same;
+  end = c.forget_oldest.ensures.end ∙ c.loop-self.invariant.end;
+  spare = c.forget_oldest.ensures.spare ∙ c.loop-self.invariant.spare;
+}
 
-pub returns-clause-frames : goal.returns-clause-frames
-returns-clause-frames c = from_boundary_is c.args.self.now.held c.loop-self.self.held c.loop-self.invariant.gone c.loop-self.invariant.forgets
+pub returns-clause-held : goal.returns-clause-held
+returns-clause-held c =
+    sym (acked_done c.loop-self.self.held c.args.position (λ past. let yes : false ≡ true = c.loop-self-test.ensures.1 past in cc)) ∙ c.loop-self.invariant.same
 
-pub returns-clause-first : goal.returns-clause-first
-returns-clause-first c = released_greatest c.args.self.now c.loop-self.self c.args.position c.loop-self.invariant (λ past. let yes : false ≡ true = c.loop-self-test.ensures.1 past in cc)
-
-pub returns-clause-end : goal.returns-clause-end
-returns-clause-end c = end_is c.args.self.now.held c.loop-self.self.held c.loop-self.invariant.gone c.loop-self.invariant.forgets
-
-pub returns-clause-stands : goal.returns-clause-stands
-returns-clause-stands c =
-    λ made told. stands_released made told c.args.position c.args.self.now.held c.loop-self.self.held
-    (from_boundary_is c.args.self.now.held c.loop-self.self.held c.loop-self.invariant.gone c.loop-self.invariant.forgets)
-    (released_greatest c.args.self.now c.loop-self.self c.args.position c.loop-self.invariant (λ past. let yes : false ≡ true = c.loop-self-test.ensures.1 past in cc))
+pub returns-clause-of_made : goal.returns-clause-of_made
+returns-clause-of_made c =
+    let held = sym (acked_done c.loop-self.self.held c.args.position (λ past. let yes : false ≡ true = c.loop-self-test.ensures.1 past in cc)) ∙ c.loop-self.invariant.same in
+    λ made told is. subst (IsHeldOf made (max told c.args.position)) (sym held) (released made told c.args.position c.args.self.now.held is)

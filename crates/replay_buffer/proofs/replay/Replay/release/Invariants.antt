@@ -1,9 +1,10 @@
 use Rattle.std.proofs.Common.{length}
-use Rattle.replay_buffer.proofs.Forgotten.{IsReleased}
+use Rattle.replay_buffer.specs.Held.{from_acked}
+use Rattle.replay_buffer.proofs.Forgotten.{IsOnTheWay}
 use Rattle.replay_buffer.proofs.replay.Replay.release.Given as goal
 
 abbrev pub invariant-loop-self : goal.invariant-loop-self
-invariant-loop-self l = IsReleased l.fn.self l.self l.position
+invariant-loop-self l = IsOnTheWay (λ h. from_acked h l.position) l.fn.self l.self
 
 abbrev pub decreases-loop-self : goal.decreases-loop-self
 decreases-loop-self l = length l.self.held.frames
