@@ -5,23 +5,22 @@ use Rattle.std.proofs.lemmas.Grind.{take_at_read}
 use Rattle.std.proofs.lemmas.List.{take-append-drop}
 use Rattle.rs_frame.specs.declared.frame.Frame.{Frame}
 use Rattle.rs_frame.specs.Spelling.{length_of}
-use Rattle.position.specs.Boundaries.{pos}
+use Rattle.position.specs.Boundaries.{pos, pos_by}
+use Rattle.position.proofs.Boundaries.{pos-append}
 use Rattle.session_model.specs.Answers.{counted}
 use Rattle.session_model.specs.declared.facts.Counted.{Counted}
 use Rattle.session_core.specs.After.{more_counted}
 
 pub pos_one : (f : Frame) → pos (f ∷ []) ≡ length_of f
-unfolding pos
+unfolding pos_by
 pos_one f = omega arith
 
 pub pos_append : (xs ys : List Frame) → pos (xs ++ ys) ≡ pos xs + pos ys
-unfolding pos
-pos_append [] ys = omega arith
-pos_append (x ∷ xs) ys = let i = pos_append xs ys in omega arith
+pos_append xs ys = pos-append length_of xs ys
 
 -- each frame has its header of 6 bytes
 pub six_each : (fs : List Frame) → 6 * length fs ≤ pos fs
-unfolding pos
+unfolding pos_by
 six_each [] = omega arith
 six_each (f ∷ fs) = let i = six_each fs in omega arith
 
@@ -39,7 +38,7 @@ counted_append fs more =
     cc
 
 pub none_counted : (t : Counted) → t ≡ more_counted t []
-unfolding pos
+unfolding pos_by
 none_counted t =
     let n : t.frames ≡ t.frames + length {A = Frame} [] = omega arith in
     let p : t.position ≡ t.position + pos [] = omega arith in
