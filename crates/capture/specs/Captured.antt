@@ -6,11 +6,9 @@ use Rattle.rs_frame.specs.declared.fault.FrameFault.{FrameFault}
 use Rattle.rs_frame.specs.Spelling.{Spells}
 use Rattle.rs_frame.specs.Rules.{broken, number_of_rule}
 use Rattle.rs_chunk.specs.Stream.{HasFrame, IsCut, first_frame}
+use Rattle.plain_text.specs.Lines.{ended}
 use Rattle.frame_text.specs.Lines.{line_of}
-
--- the most bytes of a capture, and of its lines
-abbrev pub longest : ℕ
-longest = 67108864
+use Rattle.capture.specs.declared.TheConstants.{MOST_CAPTURE}
 
 -- the bytes of each frame spell it, one for one
 unfoldable pub AreSpelled : List Frame → List (List ℕ) → Type 0
@@ -27,7 +25,7 @@ pub record Holds (bytes : List ℕ) (frames : List Frame) (rest : List ℕ) : Ty
 
 -- the bytes are these frames and nothing else
 pub record IsCapture (bytes : List ℕ) (frames : List Frame) : Type 0 where
-  pub short : length bytes ≤ longest
+  pub short : length bytes ≤ MOST_CAPTURE
   pub holds : Holds bytes frames []
 
 -- the frame at the front is whole and breaks a rule, the least of which has this number
@@ -44,15 +42,12 @@ IsWrong bytes rule = Breaks bytes rule ⊎ ((rule ≡ 0) × (¬ (HasFrame bytes)
 -- the frame whose length field stands at this place, from 0, is the first that can't be read: these frames stand before it
 pub record IsBadAt (bytes : List ℕ) (place rule : ℕ) (before : List Frame) : Type 0 where
   pub rest : List ℕ
-  pub holds : Holds (take longest bytes) before rest
-  pub place_is : place + length rest ≡ length (take longest bytes)
+  pub holds : Holds (take MOST_CAPTURE bytes) before rest
+  pub place_is : place + length rest ≡ length (take MOST_CAPTURE bytes)
   pub there : place < length bytes
   pub wrong : IsWrong rest rule
 
--- each frame as a line, each line with a line feed behind it
-abbrev pub ended : List ℕ → List ℕ
-ended line = line ++ 10 ∷ []
-
+-- each frame as a line, each line with its line feed
 abbrev pub all_lines : List Frame → List ℕ
 all_lines frames = flat_map (λ f. ended (line_of f)) frames
 

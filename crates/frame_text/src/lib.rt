@@ -1,7 +1,7 @@
 //! Frames as lines of text, one line a frame: the name of the type in the words of RSocket 1.0
 //! ("Frame Types"), and then its fields, with one space between two words.
 //!
-//! [`line_of`] appends the line of a frame. A number is decimal, without a sign or a leading zero.
+//! [`write_line`] appends the line of a frame. A number is decimal, without a sign or a leading zero.
 //! Bytes are lower-case hex digits, two a byte, or `.` for none; bytes that may be absent are `-`
 //! where they are. A word of flags has the letters of those that are set, or `-`.
 //!
@@ -17,6 +17,7 @@ mod fault;
 mod fields;
 mod laws;
 mod lines;
+mod names;
 mod reading;
 mod spelled;
 mod stream_rows;
@@ -25,7 +26,8 @@ mod words;
 
 pub use fault::TextFault;
 pub use laws::line_laws;
-pub use lines::line_of;
+pub use lines::write_line;
+pub use names::{frame_name, kind_name};
 pub use reading::read_line;
 
 #[cfg(test)]
