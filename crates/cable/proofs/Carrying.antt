@@ -9,9 +9,9 @@ use Rattle.rs_wire.specs.declared.settings.Settings.{Settings}
 use Rattle.rs_frame.specs.declared.frame.Frame.{Frame}
 use Rattle.rs_frame.specs.Spelling.{IsSpellable, Spells, canonical}
 use Rattle.rs_frame.proofs.Whole.{canonical_spells}
-use Rattle.rs_chunk.specs.Framed.{framed_all, framed_frame}
+use Rattle.rs_frame.specs.Framed.{framed, framed_all, framed_frame}
 use Rattle.rs_chunk.specs.Rest.{Rest}
-use Rattle.rs_chunk.specs.Stream.{IsWhole, first_frame, first_length, framed}
+use Rattle.rs_chunk.specs.Stream.{IsWhole, first_frame, first_length}
 use Rattle.tape.specs.declared.event.Event.{Event}
 use Rattle.tape.specs.declared.event.Event.TheVariants as event
 use Rattle.tape.specs.declared.answer.Answer.{Answer}

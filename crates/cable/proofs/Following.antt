@@ -17,7 +17,7 @@ use Rattle.rs_wire.specs.declared.call.Call.{Call}
 use Rattle.rs_wire.specs.Settings.{out_limit_of}
 use Rattle.rs_frame.specs.declared.frame.Frame.{Frame}
 use Rattle.rs_frame.specs.Spelling.{IsSpellable, length_of}
-use Rattle.rs_chunk.specs.Framed.{framed_all}
+use Rattle.rs_frame.specs.Framed.{framed_all}
 use Rattle.setup_core.specs.Setup.{setup_fault}
 use Rattle.tape.specs.declared.event.Event.{Event}
 use Rattle.tape.specs.declared.event.Event.TheVariants as event

@@ -6,7 +6,7 @@ use Rattle.rs_wire.specs.declared.settings.Settings.{Settings}
 use Rattle.rs_wire.specs.Settings.{out_limit_of}
 use Rattle.rs_frame.specs.declared.frame.Frame.{Frame}
 use Rattle.rs_frame.specs.Spelling.{IsSpellable, Spells}
-use Rattle.rs_chunk.specs.Framed.{framed_all}
+use Rattle.rs_frame.specs.Framed.{framed_all}
 use Rattle.rs_chunk.specs.Rest.{Rest}
 use Rattle.rs_chunk.specs.Stream.{IsWhole, first_frame}
 use Rattle.tape.specs.declared.event.Event.{Event}

@@ -10,8 +10,8 @@ use Rattle.rs_frame.proofs.Decoded.{none_broken}
 use Rattle.rs_frame.proofs.Fields.{number_again, rest_again}
 use Rattle.rs_frame.proofs.Whole.{canonical_spells, one_frame}
 use Rattle.rs_chunk.proofs.Lengths.{length-canonical}
-use Rattle.rs_chunk.specs.Framed.{framed_all, framed_frame}
-use Rattle.rs_chunk.specs.Stream.{HasFrame, after_frame, first_frame, first_length, framed}
+use Rattle.rs_frame.specs.Framed.{framed, framed_all, framed_frame}
+use Rattle.rs_chunk.specs.Stream.{HasFrame, after_frame, first_frame, first_length}
 use Rattle.capture.specs.declared.TheConstants.{MOST_CAPTURE}
 use Rattle.capture.specs.Captured.{AreSpelled, Holds, IsBadAt, IsCapture, IsWrong}
 

@@ -4,7 +4,7 @@ use Rattle.std.specs.Prelude.{IfErr, OnOk}
 use Rattle.std.specs.List.{AllByRecursion}
 use Rattle.std.proofs.lemmas.List.{append-nil, flat_map_more, length-append, length-take, take_all, take_min}
 use Rattle.rs_frame.specs.declared.frame.Frame.{Frame}
-use Rattle.rs_chunk.specs.Framed.{framed_all, framed_frame}
+use Rattle.rs_frame.specs.Framed.{framed_all, framed_frame}
 use Rattle.frame_text.specs.Lines.{line_of}
 use Rattle.plain_text.specs.Lines.{ended, HasNoFeed}
 use Rattle.capture.specs.declared.TheConstants.{MOST_CAPTURE}

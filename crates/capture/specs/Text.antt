@@ -3,7 +3,7 @@ use Rattle.std.specs.Prelude.{◌≡◌, ℕ, ◌+◌, ◌<◌, ◌≤◌, ◌�
 use Rattle.std.specs.List.{AllByRecursion}
 use Rattle.rs_frame.specs.declared.frame.Frame.{Frame}
 use Rattle.rs_frame.specs.Spelling.{IsSpellable}
-use Rattle.rs_chunk.specs.Framed.{framed_all, framed_frame}
+use Rattle.rs_frame.specs.Framed.{framed_all, framed_frame}
 use Rattle.plain_text.specs.Lines.{ended}
 use Rattle.frame_text.specs.declared.fault.TextFault.{TextFault}
 use Rattle.frame_text.specs.declared.fault.TextFault.TheVariants as texts

@@ -4,7 +4,7 @@ ghost use Rattle.std.specs.Prelude.{◌≡◌, ◌≤◌, ℕ, List, length};
 ghost use Rattle.std.specs.List.{AllByRecursion};
 ghost use Rattle.rs_frame.specs.declared.frame.Frame.{Frame};
 ghost use Rattle.rs_frame.specs.Spelling.{IsSpellable};
-ghost use Rattle.rs_chunk.specs.Framed.{framed_all};
+ghost use Rattle.rs_frame.specs.Framed.{framed_all};
 ghost use Rattle.capture.specs.declared.TheConstants.{MOST_CAPTURE};
 ghost use Rattle.capture.specs.Captured.{IsBadAt, IsCapture};
 

@@ -6,7 +6,8 @@ use Rattle.std.proofs.lemmas.List.Concat.{flat_map-cons}
 use Rattle.byteorder.specs.Endian.{big_bytes, big_number}
 use Rattle.rs_frame.specs.Rules.{counted}
 use Rattle.rs_frame.proofs.Fields.{counted_again, number_again}
-use Rattle.rs_chunk.specs.Stream.{framed, HasFrame, Reads}
+use Rattle.rs_frame.specs.Framed.{framed}
+use Rattle.rs_chunk.specs.Stream.{HasFrame, Reads}
 
 same_pair : (a b : List ℕ × List ℕ) → Some a ≡ Some b → (a.0 ≡ b.0) × (a.1 ≡ b.1)
 same_pair a b e =

@@ -2,7 +2,7 @@
 use Rattle.std.proofs.Common.{◌≡◌, ◌+◌, length, arith}
 use Rattle.rs_frame.specs.declared.frame.Frame.{Frame}
 use Rattle.rs_frame.specs.Spelling.{canonical, length_of}
-use Rattle.rs_chunk.specs.Framed.{framed_frame}
+use Rattle.rs_frame.specs.Framed.{framed_frame}
 
 pub length-canonical : (frame : Frame) → length (canonical frame) ≡ length_of frame
 length-canonical frame = omega arith

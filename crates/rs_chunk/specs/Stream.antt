@@ -1,13 +1,10 @@
 -- Frames on a stream: each after its length, as a number of 24 bits (RSocket 1.0, "Framing Protocol Usage").
 use Rattle.std.specs.Prelude.{◌≡◌, ℕ, ◌+◌, ◌<◌, ◌≤◌, ◌^◌, List, ◌++◌, length, take, drop}
 use Rattle.std.specs.List.{flat_map, AllByRecursion}
-use Rattle.byteorder.specs.Endian.{big_bytes, big_number}
+use Rattle.byteorder.specs.Endian.{big_number}
+use Rattle.rs_frame.specs.Framed.{framed}
 use Rattle.rs_chunk.specs.declared.front.Front.{Front}
 use Rattle.rs_chunk.specs.declared.front.Front.TheVariants.{Whole, TooLong, Part}
-
--- a frame after its length
-abbrev pub framed : List ℕ → List ℕ
-framed frame = big_bytes 3 (length frame) ++ frame
 
 -- the bytes begin with a length field, and the length in it
 abbrev pub HasLength : List ℕ → Type 0

@@ -1,7 +1,8 @@
 //! The frame that bytes begin with.
 
 ghost use Rattle.std.specs.Prelude.{◌≡◌, ◌<◌, ◌^◌, ◌++◌, [], ◌∷◌, ℕ, List, length, None, IfSome};
-ghost use Rattle.rs_chunk.specs.Stream.{HasFrame, IsCut, IsFront, after_frame, first_frame, framed};
+ghost use Rattle.rs_frame.specs.Framed.{framed};
+ghost use Rattle.rs_chunk.specs.Stream.{HasFrame, IsCut, IsFront, after_frame, first_frame};
 
 use byteorder::{BigEndian, ByteOrder};
 

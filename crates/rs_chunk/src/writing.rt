@@ -2,7 +2,7 @@
 
 ghost use Rattle.std.specs.Prelude.{◌≡◌, ◌++◌, OnOk, OnErr};
 ghost use Rattle.rs_frame.specs.Spelling.{IsSpellable};
-ghost use Rattle.rs_chunk.specs.Framed.{framed_frame};
+ghost use Rattle.rs_frame.specs.Framed.{framed_frame};
 
 use byteorder::{BigEndian, ByteOrder};
 use rs_frame::Frame;

@@ -17,7 +17,7 @@ use Rattle.rs_frame.specs.declared.row.Row.{Row}
 use Rattle.rs_frame.specs.declared.row.Row.TheVariants as rows
 use Rattle.rs_frame.specs.Table.{row_of, flag, stream_word, type_word, type_number, flags_word, body}
 use Rattle.rs_frame.specs.Reading.{as_frame, setup_at, row_at, frame_at, as_resume, resume_at}
-use Rattle.rs_frame.specs.Spelling.{payload, FieldsFit, HasFlags, body_of, stream_of, number_of, kind_number, number_there, framed, Spells, length_of, flags_of, bit_if, canonical}
+use Rattle.rs_frame.specs.Spelling.{payload, FieldsFit, HasFlags, body_of, stream_of, number_of, kind_number, number_there, with_header, Spells, length_of, flags_of, bit_if, canonical}
 use Rattle.rs_frame.proofs.Bytes.{IsBytes, IsBytes-drop}
 use Rattle.rs_frame.proofs.Fields.{refuse_all_ok, number_front, number_next, number_again}
 use Rattle.rs_frame.proofs.Rows.{IsRow, ok_is, made, payload_takes, payload_again, request_n_takes, request_n_again, cancel_takes, cancel_again, error_takes, error_again, plain_takes, plain_again, counted_takes, counted_again, setup_takes, setup_again, lease_takes, lease_again, keepalive_takes, keepalive_again, metadata_push_takes, metadata_push_again, resume_takes, resume_again, resume_ok_takes, resume_ok_again, ext_takes, ext_again}
@@ -142,7 +142,7 @@ frame_takes bytes f h e =
     let few : flags_word bytes < 1024 = omega arith in
     let split : type_word bytes ≡ type_number bytes * 1024 + flags_word bytes = omega arith in
     let r = row_takes (row_of (type_number bytes)) (type_number bytes) (stream_word bytes) (flags_word bytes) (body bytes) f refl number few (IsBytes-drop 6 bytes h) low p.1 in
-    let whole : bytes ≡ framed (stream_word bytes) (type_number bytes) (flags_word bytes) (body bytes) =
+    let whole : bytes ≡ with_header (stream_word bytes) (type_number bytes) (flags_word bytes) (body bytes) =
     number_front 4 bytes (omega arith) h ∙ ap (λ (t : List ℕ). big_bytes 4 (stream_word bytes) ++ t) (number_next 2 4 bytes long h)
     ∙ ap (λ (w : ℕ). big_bytes 4 (stream_word bytes) ++ (big_bytes 2 w ++ body bytes)) split in
     record {
@@ -150,7 +150,7 @@ frame_takes bytes f h e =
       flags = flags_word bytes;
       flags_fit = few;
       named = r.named;
-      bytes_are = whole ∙ ap (λ (n : ℕ). framed n (type_number bytes) (flags_word bytes) (body bytes)) (sym r.stream_is) ∙ ap (λ (n : ℕ). framed (stream_of f) n (flags_word bytes) (body bytes)) (sym r.number_is) ∙ ap (framed (stream_of f) (number_of f) (flags_word bytes)) r.body_is;
+      bytes_are = whole ∙ ap (λ (n : ℕ). with_header n (type_number bytes) (flags_word bytes) (body bytes)) (sym r.stream_is) ∙ ap (λ (n : ℕ). with_header (stream_of f) n (flags_word bytes) (body bytes)) (sym r.number_is) ∙ ap (with_header (stream_of f) (number_of f) (flags_word bytes)) r.body_is;
     }
 
 kind_fits : (k : Kind) → kind_number k < 64
@@ -205,7 +205,7 @@ spells_read f bytes s =
     let small = number_fits f s.fits in
     let few = s.flags_fit in
     let after = big_bytes 2 word ++ body_of f in
-    let all = framed (stream_of f) (number_of f) s.flags (body_of f) in
+    let all = with_header (stream_of f) (number_of f) s.flags (body_of f) in
     ap frame_at s.bytes_are
     ∙ frame_of (stream_of f) (number_of f) s.flags (body_of f) all (omega arith) low few (number_again 4 (stream_of f) after (omega arith)) (number_again 2 word (body_of f) (omega arith)) refl
     ∙ row_again f s.flags s.named s.fits

@@ -136,8 +136,8 @@ FieldsFit (frames.Ext stream flags extended rest) = (stream < 2 ^ 31) × (flags 
 FieldsFit (frames.Unknown stream number flags rest) = (stream < 2 ^ 31) × (number < 64) × (row_of number ≡ rows.Unknown) × (flags < 1024)
 
 -- the header, and what follows it
-abbrev pub framed : ℕ → ℕ → ℕ → List ℕ → List ℕ
-framed stream number flags rest = big_bytes 4 stream ++ (big_bytes 2 (number * 1024 + flags) ++ rest)
+abbrev pub with_header : ℕ → ℕ → ℕ → List ℕ → List ℕ
+with_header stream number flags rest = big_bytes 4 stream ++ (big_bytes 2 (number * 1024 + flags) ++ rest)
 
 -- the bytes spell the frame; the flags that the row does not name have any value
 pub record Spells (f : Frame) (bytes : List ℕ) : Type 0 where
@@ -145,7 +145,7 @@ pub record Spells (f : Frame) (bytes : List ℕ) : Type 0 where
   pub flags : ℕ
   pub flags_fit : flags < 1024
   pub named : HasFlags f flags
-  pub bytes_are : bytes ≡ framed (stream_of f) (number_of f) flags (body_of f)
+  pub bytes_are : bytes ≡ with_header (stream_of f) (number_of f) flags (body_of f)
 
 -- a bit where it is set
 abbrev pub bit_if : Bool → ℕ → ℕ
@@ -165,7 +165,7 @@ flags_of _ = 0
 
 -- the spelling that is written
 abbrev pub canonical : Frame → List ℕ
-canonical f = framed (stream_of f) (number_of f) (flags_of f) (body_of f)
+canonical f = with_header (stream_of f) (number_of f) (flags_of f) (body_of f)
 
 -- the length of a frame
 abbrev pub length_of : Frame → ℕ

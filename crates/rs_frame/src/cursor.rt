@@ -89,6 +89,7 @@ pub fn put(out: &mut Vec<u8>, bytes: &[u8])
     ensures len { vec_len out.new ≡ vec_len out.old + length bytes.now }
     ensures room { vec_capacity out.old ≤ vec_capacity out.new }
 {
+    // There is room, so this takes no memory and can't fail.
     let _ = out.extend_from_slice(bytes);
 }
 

@@ -94,7 +94,7 @@ pub fn number(frame: &Frame) -> u16
     }
 }
 
-/// The stream that the frame is of; 0 is the connection. Takes no memory.
+/// The stream that the frame is of; 0 is the connection.
 pub fn stream(frame: &Frame) -> u32
     ensures { result ≡ stream_of frame.now }
 {

@@ -93,6 +93,7 @@ pub fn read(alloc: Global, header: Header, body: &[u8]) -> Result<Frame, FrameFa
 pub fn fits(fields: &Resume) -> bool
     ensures { IsTrue result ↔ FieldsFit (Frame.Resume fields.now) }
 {
+    // The ranges of numbers are known where they are read.
     let _major = fields.major;
     let _minor = fields.minor;
     fields.token.len() < 0x1_0000 && is_63(fields.server_position) && is_63(fields.client_position)

@@ -6,7 +6,7 @@ ghost use Rattle.rs_frame.specs.Spelling.{is_resumable};
 use crate::frame::Frame;
 
 /// Whether the frame counts in the positions of a session and is sent again after a resumption: the
-/// four requests, REQUEST_N, CANCEL, PAYLOAD, and ERROR of a stream. Takes no memory.
+/// four requests, REQUEST_N, CANCEL, PAYLOAD, and ERROR of a stream.
 pub fn resumable(frame: &Frame) -> bool
     ensures { result ≡ is_resumable frame.now }
 {

@@ -149,6 +149,7 @@ pub fn read(alloc: Global, header: Header, body: &[u8]) -> Result<Frame, FrameFa
 pub fn fits(fields: &Setup) -> bool
     ensures { IsTrue result ↔ FieldsFit (Frame.Setup fields.now) }
 {
+    // The ranges of numbers are known where they are read.
     let _ = fields.keepalive.get();
     let _ = fields.lifetime.get();
     let _major = fields.major;

@@ -1,8 +1,8 @@
 //! The plain values that an RSocket endpoint speaks of: bytes, amounts, messages, and settings.
 //!
-//! Everything above this crate stands on it, and it stands on nothing but `std`. It promises two
-//! things to the crates above: a value that it hands out is in the range that its type says, and
-//! settings that passed [`check`] have every field in its range. It knows no frame and no session.
+//! Every other crate stands on it. It promises two things to the crates above: a value that it hands
+//! out is in the range that its type says, and settings that passed [`check`] have every field in
+//! its range. It knows no frame and no session.
 #![tactic(auto)]
 
 mod amount;

@@ -3,14 +3,18 @@
 /// An end of a session. The client opened the connection (RSocket 1.0, "Terminology").
 #[derive(Clone, Copy, Debug, PartialEq, Eq)]
 pub enum Side {
+    /// The end that opened the connection.
     Client,
+    /// The end that accepted it.
     Server,
 }
 
 /// A direction of a stream: from the requester to the responder, or back.
 #[derive(Clone, Copy, Debug, PartialEq, Eq)]
 pub enum Way {
+    /// From the requester to the responder.
     Request,
+    /// From the responder to the requester.
     Reply,
 }
 

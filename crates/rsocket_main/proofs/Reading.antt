@@ -1,7 +1,7 @@
 -- What was read, where it is all of the input.
 use Rattle.std.proofs.Common.{◌≡◌, ℕ, ◌≤◌, ◌+◌, List, [], ◌++◌, length, Option, Result, Err, IfErr, refl, sym, subst, ◌∙◌, arith, true, false}
 use Rattle.rs_frame.specs.declared.frame.Frame.{Frame}
-use Rattle.rs_chunk.specs.Framed.{framed_all}
+use Rattle.rs_frame.specs.Framed.{framed_all}
 use Rattle.capture.specs.Captured.{IsBadAt, IsCapture, all_lines}
 use Rattle.capture.specs.Text.{IsLineFault, IsText, IsWrongLine}
 use Rattle.capture.specs.declared.back.LineFault.{LineFault}

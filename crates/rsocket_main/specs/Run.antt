@@ -4,7 +4,7 @@ use Rattle.std.specs.Io.KnownBytes.{append_known}
 use Rattle.rs_wire.specs.Settings.{usual}
 use Rattle.rs_wire.specs.declared.words.Side.TheVariants.{Client, Server}
 use Rattle.rs_frame.specs.declared.frame.Frame.{Frame}
-use Rattle.rs_chunk.specs.Framed.{framed_all}
+use Rattle.rs_frame.specs.Framed.{framed_all}
 use Rattle.tape.specs.declared.entry.Entry.{Entry}
 use Rattle.session_model.specs.Lists.{IsPrefix}
 use Rattle.session_model.specs.Frames.{made, handled}

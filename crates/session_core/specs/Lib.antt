@@ -1,7 +1,8 @@
-pub mod Tallied
 pub mod Queued
 pub mod Fits
-pub mod Means
+pub mod Past
 pub mod After
 pub mod Seen
 pub mod Sound
+pub mod Outgoing
+pub mod Prepared

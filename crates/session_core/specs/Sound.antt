@@ -1,15 +1,25 @@
 -- What a session keeps of itself.
-use Rattle.std.specs.Prelude.{◌≡◌, ◌≤◌, ℕ, List, Option, Some, reverse}
+use Rattle.std.specs.Prelude.{◌≡◌, ◌≤◌, ◌<◌, ◌*◌, ◌^◌, ℕ, List, Option, length, is_some}
 use Rattle.rs_wire.specs.declared.settings.Settings.{Settings}
 use Rattle.tape.specs.declared.entry.Entry.{Entry}
 use Rattle.session_model.specs.Legal.{IsPlain}
+use Rattle.session_model.specs.declared.facts.Counted.{Counted}
 use Rattle.session_core.specs.declared.state.State.{State}
-use Rattle.session_core.specs.Tallied.{InRange}
 use Rattle.session_core.specs.Fits.{Fits}
+use Rattle.session_core.specs.Seen.{told_by}
 
-pub record IsSound (g : Settings) (s : State) (told : Option (List Entry)) (count : ℕ) : Type 0 where
+-- each frame has 6 bytes and more, and all of them end at a position that the settings allow
+pub record InRange (t : Counted) (top : ℕ) : Type 0 where
+  pub frames : 6 * t.frames ≤ t.position
+  pub position : t.position ≤ top
+
+pub record IsSound (g : Settings) (s : State) (past : List Entry) (told : Option (List Entry)) (count : ℕ) : Type 0 where
   pub plain : IsPlain g
+  pub fits : Fits g s past
+  pub told_is : told ≡ told_by (is_some told) past
+  pub count_is : count ≡ length past
   pub openings : s.openings ≤ count
-  pub made : InRange s.made count g.top_position
-  pub handled : InRange s.handled count g.top_position
-  pub fits : (T : List Entry) → told ≡ Some T → Fits g s (reverse T)
+  pub made : InRange s.made g.top_position
+  pub handled : InRange s.handled g.top_position
+  pub own : s.streams.own < 2 ^ 31
+  pub peer : s.streams.peer < 2 ^ 31

@@ -1,22 +1,23 @@
 //! The core of a session: one end, without input, output, clock or thread.
 //!
-//! A [`Session`] is handed events, and answers each. The promise to the room above: each answer of
+//! A [`Session`] is handed events, and answers each. The promise to the layer above: each answer of
 //! [`Session::step`] and [`Session::draw`] is the one that the definitions of `session_model` give
-//! for the entries before it, each leaves its entry on the tape, and the bytes drawn are those of the
-//! frames due on the connection (RSocket 1.0, "Setup", "Request", "Framing Protocol Usage"). An
-//! event costs what it carries.
+//! for the entries before it, each leaves its entry, and the bytes drawn are those of the frames due
+//! on the connection (RSocket 1.0, "Setup", "Request", "Framing Protocol Usage"). It holds over every
+//! tape, also over one that tells nothing. An event costs what it carries.
 //!
 //! Built are SETUP and REQUEST_FNF: resumption, leases, fragments and the other interactions are
 //! left out, and frames that belong to them are answered as ones that may not come now.
 #![tactic(auto)]
 
+mod counting;
 mod counts;
+mod history;
 mod judge;
 mod outgoing;
 mod queue;
 mod session;
 mod state;
-mod tally;
 
 pub use counts::Counts;
 pub use session::Session;

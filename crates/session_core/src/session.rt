@@ -1,18 +1,18 @@
 //! One end of a session.
 
-ghost use Rattle.std.specs.Prelude.{◌≡◌, ◌≢◌, ◌==◌, ◌<◌, ◌≤◌, ◌^◌, ◌↔◌, [], ℕ, List, Some, IfErr, IfOk, drop, length, not, reverse, take};
+ghost use Rattle.std.specs.Prelude.{◌≡◌, ◌≢◌, ◌+◌, ◌<◌, ◌≤◌, ◌^◌, ◌↔◌, [], ◌∷◌, IfErr, IfOk, OnErr, OnOk, drop, is_some, length, take};
 ghost use Rattle.std.specs.Option.{option_copied};
-ghost use Rattle.rs_chunk.specs.Framed.{framed_all};
-ghost use Rattle.tape.specs.declared.entry.Entry.{Entry as Line};
+ghost use Rattle.rs_frame.specs.Framed.{framed_all};
+ghost use Rattle.tape.specs.Told.{entry_of};
 ghost use Rattle.session_model.specs.Life.{carrying, closed, live, setup};
 ghost use Rattle.session_model.specs.Frames.{drawn, due, queued};
-ghost use Rattle.session_model.specs.Answers.{answer_by, answer_to};
-ghost use Rattle.session_model.specs.Legal.{IsFair, IsPlain, LeavesEntry, Legal};
-ghost use Rattle.session_core.specs.Means.{Means};
-ghost use Rattle.session_core.specs.Queued.{IfDrawn, IsOfDraw, IsUntouched, left_by};
-ghost use Rattle.session_core.specs.Seen.{IfNoEntry, IsNoDrawEvent, IsUnlessWant, Stands, count_after, counts_in, counts_of, tape_after};
+ghost use Rattle.session_model.specs.Answers.{answer_to};
+ghost use Rattle.session_model.specs.Legal.{Fair, IsFair, IsPlain, LeavesEntry, Legal};
+ghost use Rattle.session_core.specs.Queued.{IfDrawn, IsOfDraw, IsUntouched};
+ghost use Rattle.session_core.specs.Seen.{IsNoDrawEvent, IsUnlessWant, counts_of, entries_after, told_by};
 
 use crate::counts::Counts;
+use crate::history::History;
 use crate::judge::{judge, judge_draw};
 use crate::state::State;
 use rs_frame::Setup;
@@ -24,27 +24,39 @@ use tape::{Answer, Entry, Event, Tape};
 /// How many entries a tape has at most.
 const FULL: u64 = 1 << 63;
 
-/// One end of a session, with the tape of its entries. Contracts see its settings, what is known of
-/// its entries, the bytes that wait to be drawn, the entries where the tape tells them, and how many
-/// there are.
+/// One end of a session, with the tape of its entries. Contracts see its settings, its entries, the
+/// newest first, whether the tape tells them, and how many more it takes without memory.
 #[derive(Drop)]
 pub struct Session<T: Tape> {
     alloc: Global,
     settings: Checked,
     state: State,
+    history: History,
     tape: T,
 }
 
 impl<T: Tape> Model for Session<T> {
+    ghost use Rattle.std.specs.Prelude.{is_some};
     ghost use Rattle.session_core.specs.Seen.{Seen};
     ghost use Rattle.session_core.specs.Sound.{IsSound};
-    ghost use Rattle.session_core.specs.Fits.{facts_of};
 
     ghost Value = { Seen };
 
-    ghost view = { λ s. record { settings = s.settings; facts = facts_of s.state; queue = s.state.queue; told = T.told s.tape; count = T.count s.tape } };
+    ghost view = { λ s. record { settings = s.settings; entries = s.history; tells = is_some (T.told s.tape); spare = T.spare s.tape } };
 
-    ghost invariant = { λ s. IsSound s.settings s.state (T.told s.tape) (T.count s.tape) };
+    ghost invariant = { λ s. IsSound s.settings s.state s.history (T.told s.tape) (T.count s.tape) };
+}
+
+// The answer to a draw that leaves an entry, again.
+fn answered_again(answer: &Answer) -> Answer
+    requires { IsOfDraw answer.now }
+    ensures { result ≡ answer.now }
+{
+    match answer {
+        Answer::Drawn(count) => Answer::Drawn(*count),
+        Answer::Stale(live) => Answer::Stale(*live),
+        _ => unreachable!(),
+    }
 }
 
 impl<T: Tape> Session<T> {
@@ -54,16 +66,15 @@ impl<T: Tape> Session<T> {
     pub fn new(alloc: Global, settings: Checked, tape: T) -> Result<Session<T>, (T, OutOfMemory)>
         requires empty { T.count tape ≡ 0 }
         requires plain { IsPlain settings }
-        ensures settings { IfOk result (λ s. s.settings ≡ settings) }
-        ensures told { IfOk result (λ s. s.told ≡ T.told tape) }
-        ensures count { IfOk result (λ s. s.count ≡ 0) }
-        ensures stands { IfOk result (λ s. Stands s []) }
+        ensures ok { IfOk result (λ s. s ≡
+            record { settings = settings; entries = []; tells = is_some (T.told tape); spare = T.spare tape }) }
         ensures back { IfErr result (λ e. e.0 ≡ tape) }
     {
         Ok(Session {
             alloc,
             settings,
             state: State::new(alloc),
+            history: History::new(),
             tape,
         })
     }
@@ -71,211 +82,182 @@ impl<T: Tape> Session<T> {
     /// Answers an event, which is no draw, and notes it on the tape for the caller `who`. An opening
     /// has a first frame exactly on a server, and frames can be spelled.
     ///
-    /// `TapeFull` comes exactly where the tape has 2^63 entries. `OutOfMemory` may come in place of
-    /// any answer that leaves an entry. These two, `NotYet` and `OutBusy` leave all as it was.
+    /// `TapeFull` comes exactly where there are 2^63 entries. `OutOfMemory` may come in place of any
+    /// answer that leaves an entry. These two, `NotYet` and `OutBusy` leave all as it was.
     pub fn step(&mut self, who: u32, event: &Event) -> Answer
         requires fair { IsFair self.old.settings event.now }
         requires no_draw { IsNoDrawEvent event.now }
-
-        // The answer is the definitions' answer, of the entries and of what is known of them.
-        ensures answer { (T : List Line) → Stands self.old T →
-            IsUnlessWant result (answer_to self.old.settings (reverse T) event.now) }
-        ensures answer_told { (T : List Line) → self.old.told ≡ Some T →
-            IsUnlessWant result (answer_to self.old.settings (reverse T) event.now) }
-        ensures answer_known { IsUnlessWant result (answer_by self.old.settings self.old.facts event.now) }
-        ensures full { (result ≡ Answer.TapeFull) ↔ (2 ^ 63 ≤ self.old.count) }
-
-        // The tape has the entry, where one is left.
-        ensures told { (T : List Line) → self.old.told ≡ Some T →
-            self.new.told ≡ Some (tape_after T who event.now result) }
-        ensures stands { (T : List Line) → Stands self.old T →
-            Stands self.new (tape_after T who event.now result) }
-        ensures count { self.new.count ≡ count_after self.old.count result }
-        ensures settings { self.new.settings ≡ self.old.settings }
-        ensures unchanged { IfNoEntry result (self.new ≡ self.old) }
+        ensures answer { IsUnlessWant result (answer_to self.old.settings self.old.entries event.now) }
+        ensures full { (result ≡ Answer.TapeFull) ↔ (2 ^ 63 ≤ length self.old.entries) }
+        ensures after { self.new ≡ record self.old {
+          entries = entries_after who event.now result self.old.entries;
+          spare = self.new.spare;
+        } }
+        ensures spare { self.old.spare ≤ self.new.spare + 1 }
     {
         if self.tape.count() >= FULL {
             return Answer::TapeFull;
         }
         let answer = judge(&self.settings, &self.state, event);
-        match answer {
-            Answer::NotYet | Answer::OutBusy(_) => answer,
-            _ => self.note(who, event, answer),
+        if !answer.leaves_entry() {
+            return answer;
+        }
+        match self.note(who, event, &answer) {
+            Ok(()) => answer,
+            Err(OutOfMemory) => Answer::OutOfMemory,
         }
     }
 
-    // Becomes what an event so answered leaves.
-    fn note(&mut self, who: u32, event: &Event, answer: Answer) -> Answer
+    // Applies the event and its answer.
+    fn note(&mut self, who: u32, event: &Event, answer: &Answer) -> Result<(), OutOfMemory>
         requires fair { IsFair self.old.settings event.now }
         requires no_draw { IsNoDrawEvent event.now }
-        requires not_full { self.old.count < 2 ^ 63 }
-        requires leaves { LeavesEntry answer }
-        requires is { answer ≡ answer_by self.old.settings self.old.facts event.now }
-        requires means { Means self.old.settings self.old.facts event.now answer }
-        ensures answer { IsUnlessWant result answer }
-        ensures not_full { result ≢ Answer.TapeFull }
-        ensures told { (T : List Line) → self.old.told ≡ Some T →
-            self.new.told ≡ Some (tape_after T who event.now result) }
-        ensures stands { (T : List Line) → Stands self.old T →
-            Stands self.new (tape_after T who event.now result) }
-        ensures count { self.new.count ≡ count_after self.old.count result }
-        ensures settings { self.new.settings ≡ self.old.settings }
-        ensures unchanged { IfNoEntry result (self.new ≡ self.old) }
+        requires not_full { length self.old.entries < 2 ^ 63 }
+        requires leaves { LeavesEntry answer.now }
+        requires is { answer.now ≡ answer_to self.old.settings self.old.entries event.now }
+        ensures ok { OnOk result (self.new ≡ record self.old {
+          entries = entry_of who event.now answer.now ∷ self.old.entries;
+          spare = self.new.spare;
+        }) }
+        ensures err { OnErr result (self.new ≡ record self.old { spare = self.new.spare }) }
+        ensures spare { self.old.spare ≤ self.new.spare + 1 }
     {
-        let Ok(noted) = event.copy(self.alloc) else {
-            return Answer::OutOfMemory;
-        };
-        if self.tape.reserve(1).is_err() {
-            return Answer::OutOfMemory;
+        let prepared = self.state.prepare(self.alloc, &self.settings, event, answer)?;
+        let noted = self.tape.note(who, event, answer);
+        if noted.is_err() {
+            self.state.forget(&prepared);
+            return noted;
         }
-        let done = self.state.act(self.alloc, &self.settings, event, answer);
-        let Ok(()) = done else {
-            return Answer::OutOfMemory;
-        };
-        self.tape.push(Entry {
-            who,
-            event: noted,
-            answer,
-        });
-        answer
+        self.history.note(who, event, answer);
+        self.state.act(&self.settings, event, answer, prepared);
+        Ok(())
+    }
+
+    /// Makes spare for one more entry. After it a [`Session::draw`] takes no memory.
+    pub fn reserve(&mut self) -> Result<(), OutOfMemory>
+        ensures same { self.new ≡ record self.old { spare = self.new.spare } }
+        ensures spare { OnOk result (0 < self.new.spare) }
+        ensures kept { self.old.spare ≤ self.new.spare }
+    {
+        self.tape.reserve(1)
     }
 
     /// Moves the next bytes that are due on a connection into the buffer, as many as it has room
     /// for, and notes it on the tape for the caller `who`. The buffer has 1 to 4,294,967,295 bytes;
-    /// behind the bytes that were drawn it is as it was.
+    /// after the bytes that were drawn it is as it was.
     ///
     /// `Stale` comes exactly where the connection is not the live one, else `NotYet` exactly where
-    /// nothing waits. `TapeFull` comes exactly where the tape has 2^63 entries. `OutOfMemory` may
-    /// come in place of `Stale` and `Drawn`. It, `TapeFull` and `NotYet` leave all as it was.
+    /// nothing waits. `TapeFull` comes exactly where there are 2^63 entries. `OutOfMemory` may come
+    /// in place of `Stale` and `Drawn`, where there is no spare. It, `TapeFull` and `NotYet` leave
+    /// all as it was.
     pub fn draw(&mut self, who: u32, conn: u64, buffer: &mut [u8]) -> Answer
         requires some { 0 < length buffer.old }
         requires few { length buffer.old < 2 ^ 32 }
-        ensures answer { (T : List Line) → Stands self.old T →
-            IsUnlessWant result (answer_to self.old.settings (reverse T) (Event.Draw conn (length buffer.old))) }
-        ensures answer_told { (T : List Line) → self.old.told ≡ Some T →
-            IsUnlessWant result (answer_to self.old.settings (reverse T) (Event.Draw conn (length buffer.old))) }
-        ensures answer_known { IsUnlessWant result
-            (answer_by self.old.settings self.old.facts (Event.Draw conn (length buffer.old))) }
-        ensures full { (result ≡ Answer.TapeFull) ↔ (2 ^ 63 ≤ self.old.count) }
-
-        // The bytes drawn are the next ones due on the connection, and the first that waited.
-        ensures bytes { (T : List Line) → Stands self.old T → IfDrawn result (λ n. take n buffer.new ≡
-            take n (drop (drawn (reverse T) conn) (framed_all (due self.old.settings (reverse T) conn)))) }
-        ensures bytes_told { (T : List Line) → self.old.told ≡ Some T → IfDrawn result (λ n. take n buffer.new ≡
-            take n (drop (drawn (reverse T) conn) (framed_all (due self.old.settings (reverse T) conn)))) }
-        ensures front { IfDrawn result (λ n. take n buffer.new ≡ take n self.old.queue) }
-        ensures left { self.new.queue ≡ left_by result self.old.queue }
+        ensures answer { IsUnlessWant result
+            (answer_to self.old.settings self.old.entries (Event.Draw conn (length buffer.old))) }
+        ensures full { (result ≡ Answer.TapeFull) ↔ (2 ^ 63 ≤ length self.old.entries) }
+        ensures memory { 0 < self.old.spare → result ≢ Answer.OutOfMemory }
+        ensures bytes { IfDrawn result (λ n. take n buffer.new ≡ take n
+            (drop (drawn self.old.entries conn) (framed_all (due self.old.settings self.old.entries conn)))) }
         ensures untouched { IsUntouched result buffer.old buffer.new }
-
-        ensures told { (T : List Line) → self.old.told ≡ Some T →
-            self.new.told ≡ Some (tape_after T who (Event.Draw conn (length buffer.old)) result) }
-        ensures stands { (T : List Line) → Stands self.old T →
-            Stands self.new (tape_after T who (Event.Draw conn (length buffer.old)) result) }
-        ensures count { self.new.count ≡ count_after self.old.count result }
-        ensures settings { self.new.settings ≡ self.old.settings }
-        ensures unchanged { IfNoEntry result (self.new ≡ self.old) }
+        ensures after { self.new ≡ record self.old {
+          entries = entries_after who (Event.Draw conn (length buffer.old)) result self.old.entries;
+          spare = self.new.spare;
+        } }
+        ensures spare { self.old.spare ≤ self.new.spare + 1 }
     {
         if self.tape.count() >= FULL {
             return Answer::TapeFull;
         }
         let answer = judge_draw(&self.state, conn, buffer.len() as u32);
-        match answer {
-            Answer::NotYet => answer,
-            _ => self.hand_out(who, conn, answer, buffer),
+        if !answer.leaves_entry() {
+            return answer;
         }
-    }
-
-    // Becomes what a draw so answered leaves, and moves the bytes into the buffer.
-    fn hand_out(&mut self, who: u32, conn: u64, answer: Answer, buffer: &mut [u8]) -> Answer
-        requires not_full { self.old.count < 2 ^ 63 }
-        requires of_draw { IsOfDraw answer }
-        requires is { answer ≡ answer_by self.old.settings self.old.facts (Event.Draw conn (length buffer.old)) }
-        requires fair { IsFair self.old.settings (Event.Draw conn (length buffer.old)) }
-        requires fits { IfDrawn answer (λ n. (n ≤ length buffer.old) × (n ≤ length self.old.queue)) }
-        ensures answer { IsUnlessWant result answer }
-        ensures not_full { result ≢ Answer.TapeFull }
-        ensures front { IfDrawn result (λ n. take n buffer.new ≡ take n self.old.queue) }
-        ensures left { self.new.queue ≡ left_by result self.old.queue }
-        ensures untouched { IsUntouched result buffer.old buffer.new }
-        ensures told { (T : List Line) → self.old.told ≡ Some T →
-            self.new.told ≡ Some (tape_after T who (Event.Draw conn (length buffer.old)) result) }
-        ensures stands { (T : List Line) → Stands self.old T →
-            Stands self.new (tape_after T who (Event.Draw conn (length buffer.old)) result) }
-        ensures count { self.new.count ≡ count_after self.old.count result }
-        ensures settings { self.new.settings ≡ self.old.settings }
-        ensures unchanged { IfNoEntry result (self.new ≡ self.old) }
-    {
         if self.tape.reserve(1).is_err() {
             return Answer::OutOfMemory;
         }
-        let room = buffer.len() as u32;
-        self.state.give(answer, buffer);
-        self.tape.push(Entry {
-            who,
-            event: Event::Draw { conn, room },
-            answer,
-        });
-        answer
+        self.hand_out(who, conn, answer, buffer)
     }
 
-    /// The session stands for the entries that its tape tells, and each of their answers is the
-    /// definitions' answer to the entries before it. Takes no memory.
-    pub fn stands(&self)
-        ensures stands { (T : List Line) → self.now.told ≡ Some T → Stands self.now T }
-        ensures legal { (T : List Line) → self.now.told ≡ Some T →
-            Legal self.now.settings (reverse T) }
+    // Applies a draw and its answer, and moves the bytes into the buffer.
+    fn hand_out(&mut self, who: u32, conn: u64, answer: Answer, buffer: &mut [u8]) -> Answer
+        requires some { 0 < length buffer.old }
+        requires few { length buffer.old < 2 ^ 32 }
+        requires not_full { length self.old.entries < 2 ^ 63 }
+        requires spare { 0 < self.old.spare }
+        requires of_draw { IsOfDraw answer }
+        requires is { answer ≡ answer_to self.old.settings self.old.entries (Event.Draw conn (length buffer.old)) }
+        ensures answer { result ≡ answer }
+        ensures bytes { IfDrawn result (λ n. take n buffer.new ≡ take n
+            (drop (drawn self.old.entries conn) (framed_all (due self.old.settings self.old.entries conn)))) }
+        ensures untouched { IsUntouched result buffer.old buffer.new }
+        ensures after { self.new ≡ record self.old {
+          entries = entry_of who (Event.Draw conn (length buffer.old)) answer ∷ self.old.entries;
+          spare = self.new.spare;
+        } }
+        ensures used { self.old.spare ≤ self.new.spare + 1 }
     {
+        let room = buffer.len() as u32;
+        self.state.give(&answer, buffer);
+        let again = answered_again(&answer);
+        let event = Event::Draw { conn, room };
+        self.history.note(who, &event, &answer);
+        self.tape.push(Entry {
+            who,
+            event,
+            answer,
+        });
+        again
+    }
+
+    /// Each answer among the entries is the definitions' answer to the entries before it, and each
+    /// event is as the caller has to bring it. It does nothing.
+    pub fn legal(&self)
+        ensures legal { Legal self.now.settings self.now.entries }
+        ensures fair { Fair self.now.settings self.now.entries }
+    {
+        // The state that is read tells both.
         let _ = &self.state;
     }
 
-    /// The number of the live connection, 0 for none. Takes no memory.
+    /// The number of the live connection, 0 for none.
     pub fn live(&self) -> u64
-        ensures known { result ≡ self.now.facts.live }
-        ensures told { (T : List Line) → self.now.told ≡ Some T → result ≡ live (reverse T) }
+        ensures { result ≡ live self.now.entries }
     {
         self.state.live
     }
 
-    /// How many bytes wait to be drawn. Takes no memory.
+    /// How many bytes wait to be drawn.
     pub fn queued(&self) -> u64
-        ensures known { result ≡ self.now.facts.queued }
-        ensures waiting { result ≡ length self.now.queue }
-        ensures told { (T : List Line) → self.now.told ≡ Some T →
-            result ≡ queued self.now.settings (reverse T) }
+        ensures { result ≡ queued self.now.settings self.now.entries }
     {
         self.state.queue.len()
     }
 
-    /// Whether frames that are made go out at once on the live connection. Takes no memory.
+    /// Whether frames that are made go out at once on the live connection.
     pub fn carrying(&self) -> bool
-        ensures known { result ≡ not (self.now.facts.live == 0) }
-        ensures told { (T : List Line) → self.now.told ≡ Some T → result ≡ carrying (reverse T) }
+        ensures { result ≡ carrying self.now.settings self.now.entries }
     {
-        self.state.live != 0
+        self.state.is_carrying()
     }
 
-    /// Why the session is closed. Takes no memory.
+    /// Why the session is closed.
     pub fn cause(&self) -> Option<&Cause>
-        ensures known { option_copied result ≡ self.now.facts.closed }
-        ensures told { (T : List Line) → self.now.told ≡ Some T →
-            option_copied result ≡ closed (reverse T) }
+        ensures { option_copied result ≡ closed self.now.settings self.now.entries }
     {
         self.state.closed.as_ref()
     }
 
-    /// The SETUP that a server accepted. Takes no memory.
+    /// The SETUP that a server accepted.
     pub fn setup(&self) -> Option<&Setup>
-        ensures known { option_copied result ≡ self.now.facts.setup }
-        ensures told { (T : List Line) → self.now.told ≡ Some T →
-            option_copied result ≡ setup (reverse T) }
+        ensures { option_copied result ≡ setup self.now.entries }
     {
         self.state.setup.as_ref()
     }
 
-    /// How many resumable frames were made and handled, and their positions. Takes no memory.
+    /// How many resumable frames were made and handled, and their positions.
     pub fn counts(&self) -> Counts
-        ensures known { result ≡ counts_in self.now.facts }
-        ensures told { (T : List Line) → self.now.told ≡ Some T → result ≡ counts_of (reverse T) }
+        ensures { result ≡ counts_of self.now.settings self.now.entries }
     {
         Counts {
             made_frames: self.state.made.frames,
@@ -285,25 +267,25 @@ impl<T: Tape> Session<T> {
         }
     }
 
-    /// The settings. Takes no memory.
+    /// The settings.
     pub fn settings(&self) -> &Checked
         ensures { result.now ≡ self.now.settings }
     {
         &self.settings
     }
 
-    /// The tape. Takes no memory.
+    /// The tape.
     pub fn tape(&self) -> &T
-        ensures told { T.told result.now ≡ self.now.told }
-        ensures count { T.count result.now ≡ self.now.count }
+        ensures told { T.told result.now ≡ told_by self.now.tells self.now.entries }
+        ensures count { T.count result.now ≡ length self.now.entries }
     {
         &self.tape
     }
 
-    /// The tape, of a session that is done. Takes no memory.
+    /// The tape, of a session that is done.
     pub fn into_tape(self) -> T
-        ensures told { T.told result ≡ self.told }
-        ensures count { T.count result ≡ self.count }
+        ensures told { T.told result ≡ told_by self.tells self.entries }
+        ensures count { T.count result ≡ length self.entries }
     {
         self.tape
     }

@@ -7,8 +7,7 @@ use Rattle.rs_frame.specs.Spelling.{canonical, Spells, IsSpellable}
 use Rattle.rs_frame.specs.Rules.{counted}
 use Rattle.rs_frame.proofs.Fields.{counted_again}
 use Rattle.rs_frame.proofs.Whole.{one_frame, canonical_spells}
-use Rattle.rs_chunk.specs.Stream.{framed}
-use Rattle.rs_chunk.specs.Framed.{framed_frame, framed_all}
+use Rattle.rs_frame.specs.Framed.{framed, framed_all, framed_frame}
 use Rattle.rs_chunk.proofs.Lengths.{length-canonical}
 use Rattle.session_model.specs.Lists.{IsPrefix}
 use Rattle.session_laws.proofs.Prefixes.{prefix_nil, prefix_trans, prefix_take}

@@ -5,7 +5,7 @@ ghost use Rattle.std.specs.List.{AllByRecursion};
 ghost use Rattle.rs_wire.specs.declared.fault.Cause.{Cause};
 ghost use Rattle.rs_wire.specs.declared.settings.Settings.{Settings};
 ghost use Rattle.rs_frame.specs.Spelling.{IsSpellable};
-ghost use Rattle.rs_chunk.specs.Framed.{framed_all};
+ghost use Rattle.rs_frame.specs.Framed.{framed_all};
 ghost use Rattle.tape.specs.declared.entry.Entry.{Entry};
 ghost use Rattle.session_model.specs.Life.{closed, leases_agreed, live, resumption_agreed};
 ghost use Rattle.session_model.specs.Lists.{IsPrefix};

@@ -1,4 +1,4 @@
--- The answer to an event, behind the entries so far.
+-- The answer to an event, after the entries so far.
 use Rattle.std.specs.Prelude.{ℕ, ◌+◌, ◌==◌, ◌&&◌, Bool, true, false, not, nat_lt, min, if◌then◌else◌, List, [], ◌∷◌, length, Option, Some, None, is_none}
 use Rattle.rs_wire.specs.Message.{size_of}
 use Rattle.rs_wire.specs.Ranges.{first_true}
@@ -26,10 +26,16 @@ use Rattle.tape.specs.declared.event.Event.TheVariants as event
 use Rattle.tape.specs.declared.answer.Answer.{Answer}
 use Rattle.tape.specs.declared.answer.Answer.TheVariants as answer
 use Rattle.tape.specs.declared.entry.Entry.{Entry}
-use Rattle.session_model.specs.Life.{openings, live, is_live, begun, setup, closed}
-use Rattle.session_model.specs.Positions.{pos}
-use Rattle.session_model.specs.Streams.{highest, next_id, is_peers_next}
+use Rattle.position.specs.Boundaries.{pos}
+use Rattle.session_model.specs.Life.{openings, live, is_live, carrying, begun, setup, closed}
+use Rattle.session_model.specs.declared.facts.Counted.{Counted}
+use Rattle.session_model.specs.declared.facts.Known.{Known}
+use Rattle.session_model.specs.Streams.{known, next_id, is_peers_next}
 use Rattle.session_model.specs.Frames.{request_frame, made, handled, queued}
+
+-- how many frames there are, and the position after them
+abbrev pub counted : List Frame → Counted
+counted fs = record { frames = length fs; position = pos fs }
 
 -- what an answer is made of
 pub record Facts : Type 0 where
@@ -37,34 +43,29 @@ pub record Facts : Type 0 where
   pub openings : ℕ
   -- the live connection, 0 for none
   pub live : ℕ
+  pub carrying : Bool
   pub begun : Bool
   pub setup : Option Setup
   pub closed : Option Cause
-  -- how many frames were made and handled, their positions, and the largest stream ids that they open
-  pub made_frames : ℕ
-  pub made : ℕ
-  pub own : ℕ
-  pub handled_frames : ℕ
-  pub handled : ℕ
-  pub peer : ℕ
+  pub made : Counted
+  pub handled : Counted
   -- how many bytes wait to be drawn
   pub queued : ℕ
+  pub streams : Known
 
--- the facts behind these entries
+-- the facts after these entries
 unfoldable pub facts : Settings → List Entry → Facts
 facts g past = record {
   openings = openings past;
   live = live past;
+  carrying = carrying g past;
   begun = begun past;
   setup = setup past;
-  closed = closed past;
-  made_frames = length (made past);
-  made = pos (made past);
-  own = highest (made past);
-  handled_frames = length (handled past);
-  handled = pos (handled past);
-  peer = highest (handled past);
+  closed = closed g past;
+  made = counted (made g past);
+  handled = counted (handled past);
   queued = queued g past;
+  streams = known g past;
 }
 
 -- ---- an opening
@@ -95,9 +96,12 @@ to_draw t conn room = on_live t conn (if t.queued == 0 then answer.NotYet else a
 
 -- ---- what comes
 
--- room stays for an answer of 67 bytes at most behind what comes
+-- room stays for an answer after what comes: the largest that is made at once has 67 bytes, an ERROR with its word and length among them
+abbrev pub answer_room : ℕ
+answer_room = 67
+
 abbrev pub unless_busy : Settings → Facts → ℕ → Answer → Answer
-unless_busy g t len next = if nat_lt (out_limit_of g) (t.queued + len + 67) then answer.OutBusy t.queued else next
+unless_busy g t len next = if nat_lt (out_limit_of g) (t.queued + len + answer_room) then answer.OutBusy t.queued else next
 
 -- a request that this end knows: a whole fire-and-forget without metadata
 abbrev pub is_fnf : Kind → Bool
@@ -111,9 +115,9 @@ is_known r = (is_fnf r.kind && not r.follows) && is_none r.message.metadata
 abbrev pub broken_rule : Settings → Facts → Frame → Option Rule
 broken_rule g t (frame.Request r) = first_true (
     (not (is_known r), rule.NotNow)
-    ∷ (not (is_peers_next g.side t.peer r.stream), rule.StreamId r.stream)
+    ∷ (not (is_peers_next g.side t.streams r.stream), rule.StreamId r.stream)
     ∷ (nat_lt g.max_payload (size_of r.message), rule.TooLarge (size_of r.message))
-    ∷ (nat_lt g.top_position (t.handled + length_of (frame.Request r)), rule.PositionSpent)
+    ∷ (nat_lt g.top_position (t.handled.position + length_of (frame.Request r)), rule.PositionSpent)
     ∷ [])
 broken_rule g t _ = Some rule.NotNow
 
@@ -135,8 +139,8 @@ refused_request g t size f id = first_true (
     (nat_lt g.max_payload size, refusal.TooLarge size)
     ∷ (nat_lt g.last_id id, refusal.IdsGone)
     ∷ (not t.begun, refusal.NotConnected)
-    ∷ (not (t.live == 0) && nat_lt (out_limit_of g) (t.queued + (3 + length_of f)), refusal.OutFull t.queued)
-    ∷ (nat_lt g.top_position (t.made + length_of f), refusal.PositionSpent)
+    ∷ (t.carrying && nat_lt (out_limit_of g) (t.queued + (3 + length_of f)), refusal.OutFull t.queued)
+    ∷ (nat_lt g.top_position (t.made.position + length_of f), refusal.PositionSpent)
     ∷ [])
 
 abbrev pub started_unless : Option Refusal → ℕ → Answer
@@ -149,7 +153,9 @@ refused_if_closed None next = next
 
 abbrev pub to_call : Settings → Facts → Call → Answer
 to_call g t (call.Request kind initial message complete) =
-    refused_if_closed t.closed (started_unless (refused_request g t (size_of message) (request_frame (next_id g.side t.own) kind initial message complete) (next_id g.side t.own)) (next_id g.side t.own))
+    let id = next_id g.side t.streams in
+    let refused = refused_request g t (size_of message) (request_frame id kind initial message complete) id in
+    refused_if_closed t.closed (started_unless refused id)
 
 -- ---- any event
 
@@ -160,6 +166,6 @@ answer_by g t (event.Came conn f) = to_frame g t conn f
 answer_by g t (event.Bad conn number) = to_bad g t conn number
 answer_by g t (event.Asked asked) = to_call g t asked
 
--- the answer to an event behind these entries
+-- the answer to an event after these entries
 abbrev pub answer_to : Settings → List Entry → Event → Answer
 answer_to g past e = answer_by g (facts g past) e

@@ -7,14 +7,16 @@ use Rattle.rs_wire.specs.declared.call.Call.TheVariants as call
 use Rattle.rs_frame.specs.declared.frame.Frame.{Frame}
 use Rattle.rs_frame.specs.declared.frame.Frame.TheVariants as frame
 use Rattle.rs_frame.specs.Spelling.{is_resumable}
-use Rattle.rs_chunk.specs.Framed.{framed_all}
+use Rattle.rs_frame.specs.Framed.{framed_all}
 use Rattle.tape.specs.declared.event.Event.{Event}
 use Rattle.tape.specs.declared.event.Event.TheVariants as event
 use Rattle.tape.specs.declared.answer.Answer.{Answer}
 use Rattle.tape.specs.declared.answer.Answer.TheVariants as answer
 use Rattle.tape.specs.declared.entry.Entry.{Entry}
 use Rattle.session_model.specs.Lists.{first_of}
-use Rattle.session_model.specs.Life.{openings, live, is_live}
+use Rattle.session_model.specs.Life.{openings, live, live_after, is_live}
+use Rattle.session_model.specs.declared.facts.Known.{Known}
+use Rattle.session_model.specs.Streams.{known}
 
 -- the SETUP of a client: version 1.0, its intervals, its token where it resumes, its MIME texts, no payload
 abbrev pub setup_frame : Settings → Frame
@@ -43,15 +45,15 @@ request_frame id kind initial message complete = frame.Request (record {
 
 -- ---- made
 
--- the resumable frames that an entry makes
-abbrev pub makes : Answer → Event → List Frame
-makes (answer.Started id) (event.Asked (call.Request kind initial message complete)) = request_frame id kind initial message complete ∷ []
-makes _ _ = []
+-- the resumable frames that an entry makes, by what is known of the streams before it
+abbrev pub makes : Settings → Known → Answer → Event → List Frame
+makes g t (answer.Started id) (event.Asked (call.Request kind initial message complete)) = request_frame id kind initial message complete ∷ []
+makes g t _ _ = []
 
 -- the resumable frames that this end made, in order, over all connections
-unfoldable pub made : List Entry → List Frame
-made [] = []
-made (x ∷ past) = made past ++ makes x.answer x.event
+unfoldable pub made : Settings → List Entry → List Frame
+made g [] = []
+made g (x ∷ past) = made g past ++ makes g (known g past) x.answer x.event
 
 -- ---- due
 
@@ -60,10 +62,18 @@ abbrev pub greets : Settings → Event → List Frame
 greets g (event.Open None taken) = setup_frame g ∷ []
 greets g _ = []
 
--- what an entry adds to the frames due on connection c, behind the entries before it
+-- the frames of the connection that an entry puts in line before those that it makes; no position counts them
+abbrev pub beside : Settings → Answer → Event → List Frame
+beside g (answer.Opened n) e = greets g e
+beside g _ e = []
+
+-- the frames that an entry puts in line
+abbrev pub lines_up : Settings → Known → Answer → Event → List Frame
+lines_up g t a e = beside g a e ++ makes g t a e
+
+-- what an entry adds to the frames due on connection c: what it puts in line, where that connection is live after it
 abbrev pub owes : Settings → List Entry → ℕ → Answer → Event → List Frame
-owes g past c (answer.Opened n) e = if n == c then greets g e else []
-owes g past c a e = if is_live (live past) c then makes a e else []
+owes g past c a e = if is_live (live_after a (live past)) c then lines_up g (known g past) a e else []
 
 -- the frames due on connection c, in order
 unfoldable pub due : Settings → List Entry → ℕ → List Frame
@@ -132,10 +142,10 @@ pub data Mark : Type 0 where
   Sent : Frame → Mark
   Got : Frame → Mark
 
-abbrev pub marks : Answer → Event → List Mark
-marks a e = map Mark.Got (handles a e) ++ map Mark.Sent (makes a e)
+abbrev pub marks : Settings → Known → Answer → Event → List Mark
+marks g t a e = map Mark.Got (handles a e) ++ map Mark.Sent (makes g t a e)
 
 -- all resumable frames of this end in the order of the entries, each marked
-unfoldable pub seen : List Entry → List Mark
-seen [] = []
-seen (x ∷ past) = seen past ++ marks x.answer x.event
+unfoldable pub seen : Settings → List Entry → List Mark
+seen g [] = []
+seen g (x ∷ past) = seen g past ++ marks g (known g past) x.answer x.event

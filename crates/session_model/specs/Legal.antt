@@ -1,5 +1,5 @@
 -- Which lists of entries are a session's.
-use Rattle.std.specs.Prelude.{◌≡◌, ◌≤◌, ◌<◌, ◌^◌, false, List, [], ◌∷◌, Some, None}
+use Rattle.std.specs.Prelude.{◌≡◌, ◌≤◌, ◌<◌, ◌^◌, false, IsTrue, List, [], ◌∷◌, Some, None}
 use Rattle.rs_wire.specs.declared.words.Side.TheVariants.{Client, Server}
 use Rattle.rs_wire.specs.declared.words.Kind.TheVariants as kind
 use Rattle.rs_wire.specs.declared.settings.Settings.{Settings}
@@ -10,7 +10,7 @@ use Rattle.rs_frame.specs.Spelling.{IsSpellable}
 use Rattle.tape.specs.declared.event.Event.{Event}
 use Rattle.tape.specs.declared.event.Event.TheVariants as event
 use Rattle.tape.specs.declared.answer.Answer.{Answer}
-use Rattle.tape.specs.declared.answer.Answer.TheVariants as answer
+use Rattle.tape.specs.Answers.{leaves}
 use Rattle.tape.specs.declared.entry.Entry.{Entry}
 use Rattle.session_model.specs.Answers.{answer_to}
 
@@ -36,19 +36,19 @@ IsFair g (event.Asked asked) = IsAskable asked
 
 -- an answer that leaves an entry
 abbrev pub LeavesEntry : Answer → Type 0
-LeavesEntry answer.NotYet = ⊥
-LeavesEntry (answer.OutBusy waiting) = ⊥
-LeavesEntry answer.TapeFull = ⊥
-LeavesEntry answer.OutOfMemory = ⊥
-LeavesEntry _ = Unit {0}
+LeavesEntry a = IsTrue (leaves a)
 
--- an entry behind these
+-- an entry after these has the right answer
 pub record IsLegal (g : Settings) (past : List Entry) (x : Entry) : Type 0 where
   pub answered : x.answer ≡ answer_to g past x.event
   pub leaves : LeavesEntry x.answer
-  pub fair : IsFair g x.event
 
 -- each answer is the one to the entries before it
 unfoldable pub Legal : Settings → List Entry → Type 0
 Legal g [] = Unit {0}
 Legal g (x ∷ past) = Legal g past × IsLegal g past x
+
+-- whoever brought the events kept their conditions
+unfoldable pub Fair : Settings → List Entry → Type 0
+Fair g [] = Unit {0}
+Fair g (x ∷ past) = Fair g past × IsFair g x.event

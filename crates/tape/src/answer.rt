@@ -1,16 +1,20 @@
 //! What a session answers.
 
-use rs_wire::{Cause, Refusal, Rule, SetupFault};
+ghost use Rattle.std.specs.Prelude.{◌≡◌, IfOk};
+ghost use Rattle.tape.specs.Answers.{drawn, is_out_of_memory, leaves};
+
+use rs_wire::{Cause, OutOfMemory, Refusal, Rule, SetupFault};
+use std::alloc::Global;
 
 /// What a session answers to an event. `NotYet`, `OutBusy`, `TapeFull` and `OutOfMemory` change
 /// nothing and leave no entry; each other answer leaves one.
-#[derive(Clone, Copy, Debug, PartialEq, Eq)]
+#[derive(Debug, Drop, PartialEq, Eq)]
 pub enum Answer {
     /// The opening is accepted; the number of the opening, from 1.
     Opened(u64),
     /// The request is made, on the stream of this id.
     Started(u32),
-    /// So many bytes were drawn, at least 1.
+    /// This many bytes were drawn, at least 1.
     Drawn(u32),
     /// The frame is handled.
     Handled,
@@ -26,10 +30,63 @@ pub enum Answer {
     Closed(Cause),
     /// Nothing waits.
     NotYet,
-    /// So many bytes are queued that an answer might not find room: the frame may come again.
+    /// This many bytes are queued, and an answer might not fit: the frame may come again.
     OutBusy(u64),
     /// The tape has 2^63 entries.
     TapeFull,
     /// There was not enough memory.
     OutOfMemory,
+}
+
+impl Answer {
+    /// Whether an event so answered leaves an entry on the tape.
+    pub fn leaves_entry(&self) -> bool
+        ensures { result ≡ leaves self.now }
+    {
+        match self {
+            Answer::NotYet | Answer::OutBusy(_) | Answer::TapeFull | Answer::OutOfMemory => false,
+            _ => true,
+        }
+    }
+
+    /// How many bytes were drawn, where some were.
+    pub fn drawn(&self) -> Option<u32>
+        ensures { result ≡ drawn self.now }
+    {
+        match self {
+            Answer::Drawn(count) => Some(*count),
+            _ => None,
+        }
+    }
+
+    /// Whether there was not enough memory, or the tape had no place for one more entry.
+    pub fn is_out_of_memory(&self) -> bool
+        ensures { result ≡ is_out_of_memory self.now }
+    {
+        match self {
+            Answer::TapeFull | Answer::OutOfMemory => true,
+            _ => false,
+        }
+    }
+
+    /// The same answer again.
+    pub fn copy(&self, _alloc: Global) -> Result<Answer, OutOfMemory>
+        ensures { IfOk result (λ a. a ≡ self.now) }
+    {
+        Ok(match self {
+            Answer::Opened(number) => Answer::Opened(*number),
+            Answer::Started(id) => Answer::Started(*id),
+            Answer::Drawn(count) => Answer::Drawn(*count),
+            Answer::Handled => Answer::Handled,
+            Answer::Violation(rule) => Answer::Violation(*rule),
+            Answer::SetupRefused(fault) => Answer::SetupRefused(*fault),
+            Answer::Stale(conn) => Answer::Stale(*conn),
+            Answer::Refused(refusal) => Answer::Refused(*refusal),
+            Answer::Closed(cause) => Answer::Closed(*cause),
+            Answer::NotYet => Answer::NotYet,
+            Answer::OutBusy(queued) => Answer::OutBusy(*queued),
+            Answer::TapeFull => Answer::TapeFull,
+            Answer::OutOfMemory => Answer::OutOfMemory,
+        })
+    }
 }

@@ -1,0 +1,47 @@
+-- What is made before anything changes.
+use Rattle.std.specs.Prelude.{◌≡◌, ℕ, if◌then◌else◌, false, List, [], ◌++◌, length, drop, None}
+use Rattle.std.specs.List.{AllByRecursion}
+use Rattle.rs_wire.specs.declared.settings.Settings.{Settings}
+use Rattle.rs_frame.specs.Spelling.{IsSpellable}
+use Rattle.rs_frame.specs.Framed.{framed_all}
+use Rattle.tape.specs.declared.event.Event.{Event}
+use Rattle.tape.specs.declared.answer.Answer.{Answer}
+use Rattle.tape.specs.declared.answer.Answer.TheVariants as answer
+use Rattle.session_model.specs.Life.{is_carrying, live_after, setup_in}
+use Rattle.session_model.specs.Frames.{makes, lines_up}
+use Rattle.session_core.specs.declared.state.State.{State}
+use Rattle.session_core.specs.declared.state.Prepared.{Prepared}
+
+-- what is put in line where a connection is live
+abbrev pub lined_on : ℕ → List ℕ → List ℕ
+lined_on live bytes = if is_carrying live then bytes else []
+
+-- these need memory, and the state does not change by them
+pub record AreReady (g : Settings) (old : State) (e : Event) (a : Answer) (p : Prepared) : Type 0 where
+  pub setup : p.setup ≡ setup_in a e
+  pub made : p.made.items ≡ makes g old.streams a e
+  pub spellable : AllByRecursion IsSpellable p.made.items
+  pub before : p.before ≡ length old.queue
+
+-- what the event puts in line stands after what waits
+abbrev pub with_line : Settings → State → Event → Answer → State
+with_line g old e a = record old { queue = old.queue ++ lined_on (live_after a old.live) (framed_all (lines_up g old.streams a e)) }
+
+-- what waits once a connection is opened: what was put in line for it alone
+abbrev pub from_opening : Answer → ℕ → List ℕ → List ℕ
+from_opening (answer.Opened n) before queue = drop before queue
+from_opening _ before queue = queue
+
+-- a session of which nothing happened yet
+abbrev pub nothing_yet : State
+nothing_yet = record {
+  openings = 0;
+  live = 0;
+  begun = false;
+  setup = None;
+  closed = None;
+  made = record { frames = 0; position = 0 };
+  handled = record { frames = 0; position = 0 };
+  streams = record { own = 0; peer = 0 };
+  queue = [];
+}

@@ -1,0 +1,89 @@
+-- What an answer says of the event and of what was before it: a table by answer and event, with nothing where the two never meet.
+use Rattle.std.specs.Prelude.{◌≡◌, ◌≤◌, ℕ, ◌+◌, Bool, true, false, Option, Some, None}
+use Rattle.rs_wire.specs.Message.{size_of}
+use Rattle.rs_wire.specs.declared.words.Kind.{Kind}
+use Rattle.rs_wire.specs.declared.message.Message.{Message}
+use Rattle.rs_wire.specs.declared.settings.Settings.{Settings}
+use Rattle.rs_wire.specs.declared.call.Call.TheVariants as call
+use Rattle.rs_frame.specs.declared.frame.Frame.{Frame}
+use Rattle.rs_frame.specs.Spelling.{length_of}
+use Rattle.setup_core.specs.Setup.{setup_fault}
+use Rattle.tape.specs.declared.event.Event.{Event}
+use Rattle.tape.specs.declared.event.Event.TheVariants as event
+use Rattle.tape.specs.declared.answer.Answer.{Answer}
+use Rattle.tape.specs.declared.answer.Answer.TheVariants as answer
+use Rattle.session_model.specs.Life.{is_live}
+use Rattle.session_model.specs.Streams.{next_id}
+use Rattle.session_model.specs.Frames.{request_frame}
+use Rattle.session_model.specs.Answers.{Facts, broken_rule}
+
+-- the first frame, where there is one, is one that a server can keep
+abbrev pub Suits : Settings → Option Frame → Bool → Type 0
+Suits g None taken = Unit {0}
+Suits g (Some f) taken = setup_fault f g taken ≡ None
+
+pub record Opening (g : Settings) (t : Facts) (first : Option Frame) (taken : Bool) (n : ℕ) : Type 0 where
+  pub next : n ≡ t.openings + 1
+  pub fresh : t.begun ≡ false
+  pub free : t.closed ≡ None
+  pub suits : Suits g first taken
+
+pub record Starting (g : Settings) (t : Facts) (kind : Kind) (initial : Option ℕ) (message : Message) (complete : Bool) (id : ℕ) : Type 0 where
+  pub next : id ≡ next_id g.side t.streams
+  pub free : t.closed ≡ None
+  pub small : size_of message ≤ g.max_payload
+  pub there : id ≤ g.last_id
+  pub begun : t.begun ≡ true
+  pub position : t.made.position + length_of (request_frame id kind initial message complete) ≤ g.top_position
+
+pub record Drawing (t : Facts) (conn room n : ℕ) : Type 0 where
+  pub here : is_live t.live conn ≡ true
+  pub within : n ≤ room
+  pub fits : n ≤ t.queued
+
+pub record Handling (g : Settings) (t : Facts) (conn : ℕ) (f : Frame) : Type 0 where
+  pub here : is_live t.live conn ≡ true
+  pub free : t.closed ≡ None
+  pub unbroken : broken_rule g t f ≡ None
+
+abbrev pub Opens : Settings → Facts → ℕ → Event → Type 0
+Opens g t n (event.Open first taken) = Opening g t first taken n
+Opens g t n _ = ⊥
+
+abbrev pub Starts : Settings → Facts → ℕ → Event → Type 0
+Starts g t id (event.Asked (call.Request kind initial message complete)) = Starting g t kind initial message complete id
+Starts g t id _ = ⊥
+
+abbrev pub Draws : Facts → ℕ → Event → Type 0
+Draws t n (event.Draw conn room) = Drawing t conn room n
+Draws t n _ = ⊥
+
+abbrev pub Handles : Settings → Facts → Event → Type 0
+Handles g t (event.Came conn f) = Handling g t conn f
+Handles g t _ = ⊥
+
+-- what comes is answered so on another connection than the live one alone
+abbrev pub Strays : Facts → Event → Type 0
+Strays t (event.Came conn f) = is_live t.live conn ≡ false
+Strays t (event.Bad conn rule) = is_live t.live conn ≡ false
+Strays t (event.Draw conn room) = is_live t.live conn ≡ false
+Strays t (event.Open first taken) = Unit {0}
+Strays t (event.Asked asked) = ⊥
+
+-- what comes breaks a rule on the live connection of a session that is not closed
+abbrev pub Breaks : Facts → Event → Type 0
+Breaks t (event.Came conn f) = (is_live t.live conn ≡ true) × (t.closed ≡ None)
+Breaks t (event.Bad conn rule) = (is_live t.live conn ≡ true) × (t.closed ≡ None)
+Breaks t _ = ⊥
+
+abbrev pub Means : Settings → Facts → Event → Answer → Type 0
+Means g t e (answer.Opened n) = Opens g t n e
+Means g t e (answer.Started id) = Starts g t id e
+Means g t e (answer.Drawn n) = Draws t n e
+Means g t e answer.Handled = Handles g t e
+Means g t e (answer.Violation rule) = Breaks t e
+Means g t e (answer.Stale n) = Strays t e
+Means g t e (answer.Closed why) = t.closed ≡ Some why
+Means g t e answer.TapeFull = ⊥
+Means g t e answer.OutOfMemory = ⊥
+Means g t e _ = Unit {0}
