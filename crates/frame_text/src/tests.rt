@@ -10,7 +10,7 @@ fn has_line(rt: &HostRuntime, bytes: &[u8], line: &[u8]) -> Result<bool, Fail> {
         .ok()
         .ok_or("the bytes are a frame")?;
     let mut out = Vec::from_slice(rt.alloc(), b"> ")?;
-    line_of(&frame, &mut out)?;
+    write_line(&frame, &mut out)?;
     match out.as_slice() {
         [b'>', b' ', rest @ ..] => Ok(rest == line),
         _ => Ok(false),
@@ -105,7 +105,7 @@ fn comes_back(rt: &HostRuntime, line: &[u8]) -> Result<bool, Fail> {
         .ok()
         .ok_or("the line is that of a frame")?;
     let mut out = Vec::new(rt.alloc());
-    line_of(&frame, &mut out)?;
+    write_line(&frame, &mut out)?;
     Ok(out.as_slice() == line)
 }
 

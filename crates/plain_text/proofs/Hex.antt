@@ -5,7 +5,7 @@ use Rattle.std.proofs.lemmas.Bool.{and_parts, cases_lt, eqb-true}
 use Rattle.std.proofs.lemmas.Bool.Decides.{nat_tests}
 use Rattle.hex.specs.Hex.{IsBytes, decode_of, encode_lower, encode_with, lower_digits}
 use Rattle.hex.proofs.HexLemmas.{decode_of-encode_lower, length-encode_with}
-use Rattle.plain_text.specs.Words.{decoded, hex_bytes, hex_word, is_hex_word, is_lower, is_mark, is_pairs}
+use Rattle.plain_text.specs.Words.{decoded, hex_bytes, hex_word, is_hex_word, is_lower, is_mark}
 
 -- ---- a digit
 
