@@ -29,7 +29,7 @@ pub record IsCapture (bytes : List ℕ) (frames : List Frame) : Type 0 where
   pub holds : Holds bytes frames []
 
 -- the frame at the front is whole and breaks a rule, the least of which has this number
-pub record Breaks (bytes : List ℕ) (rule : ℕ) : Type 0 where
+pub record BreaksRule (bytes : List ℕ) (rule : ℕ) : Type 0 where
   pub whole : HasFrame bytes
   pub fault : FrameFault
   pub least : broken (first_frame bytes) ≡ Some fault
@@ -37,7 +37,7 @@ pub record Breaks (bytes : List ℕ) (rule : ℕ) : Type 0 where
 
 -- what is wrong at the front, as a rule; rule 0 says that the bytes end, or pass their limit, within the frame
 abbrev pub IsWrong : List ℕ → ℕ → Type 0
-IsWrong bytes rule = Breaks bytes rule ⊎ ((rule ≡ 0) × (¬ (HasFrame bytes)))
+IsWrong bytes rule = BreaksRule bytes rule ⊎ ((rule ≡ 0) × (¬ (HasFrame bytes)))
 
 -- the frame whose length field stands at this place, from 0, is the first that can't be read: these frames stand before it
 pub record IsBadAt (bytes : List ℕ) (place rule : ℕ) (before : List Frame) : Type 0 where

@@ -8,7 +8,7 @@ use Rattle.frame_text.specs.declared.fault.TextFault.{TextFault}
 use Rattle.frame_text.specs.declared.fields.Fields.{Fields}
 use Rattle.frame_text.specs.declared.fields.Fields.TheVariants as fields
 use Rattle.frame_text.specs.declared.fields.MessageWords.{MessageWords}
-use Rattle.frame_text.specs.Fields.{AreBlobs, IsMessage, IsOption, frame_of, message_in}
+use Rattle.frame_text.specs.Fields.{AreBlobs, IsMessage, IsOption, frame_of, message_from}
 use Rattle.frame_text.specs.Lines.{HasBytes, HasMessage, HasOption}
 use Rattle.frame_text.specs.Spelled.{bytes_of, is_dash, option_of}
 use Rattle.plain_text.proofs.Hex.{hex_are_bytes}
@@ -24,7 +24,7 @@ option_bytes : (word : List ℕ) → IsOption word → HasOption (option_of word
 option_bytes word (inl dash) = option_at (is_dash word) (bytes_of word) (λ no. absurd (apart (is_dash word) dash no))
 option_bytes word (inr blob) = option_at (is_dash word) (bytes_of word) (λ no. hex_are_bytes 46 word blob)
 
-message_bytes : (m : MessageWords) → IsMessage m → HasMessage (message_in m)
+message_bytes : (m : MessageWords) → IsMessage m → HasMessage (message_from m)
 message_bytes m are = (option_bytes m.metadata.now are.0, hex_are_bytes 46 m.content.now are.1)
 
 pub has_bytes : (f : Fields) → AreBlobs f → HasBytes (frame_of f)

@@ -3,7 +3,7 @@
 
 ghost use Rattle.std.specs.Prelude.{◌≡◌, ◌+◌, ◌<◌, ◌^◌, IfOk, IfSome, IsTrue, length};
 ghost use Rattle.rs_frame.specs.Spelling.{FieldsFit, body_of, if_there, length_of, payload, to_end};
-ghost use Rattle.frame_text.specs.Fields.{AreBlobs, IsMessage, IsOption, frame_of, message_in};
+ghost use Rattle.frame_text.specs.Fields.{AreBlobs, IsMessage, IsOption, frame_of, message_from};
 ghost use Rattle.frame_text.specs.Spelled.{option_of};
 
 use crate::spelled::{blob, is_dash, option, size};
@@ -110,7 +110,7 @@ pub enum Fields<'a> {
 
 fn message(alloc: Global, words: &MessageWords<'_>) -> Result<Message, OutOfMemory>
     requires { IsMessage words.now }
-    ensures { IfOk result (λ m. m ≡ message_in words.now) }
+    ensures { IfOk result (λ m. m ≡ message_from words.now) }
 {
     let metadata = option(alloc, words.metadata)?;
     let content = blob(alloc, words.content)?;
@@ -290,7 +290,7 @@ fn end_size(word: &[u8]) -> u64
 
 fn message_length(words: &MessageWords<'_>) -> u64
     requires { IsMessage words.now }
-    ensures value { result ≡ length (payload (message_in words.now)) }
+    ensures value { result ≡ length (payload (message_from words.now)) }
     ensures bound { result < 2 ^ 63 + 2 ^ 8 }
 {
     metadata_size(words.metadata) + size(words.content)

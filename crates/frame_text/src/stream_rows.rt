@@ -4,7 +4,7 @@ ghost use Rattle.std.specs.Prelude.{◌≡◌, ◌<◌, ◌++◌, ◌∷◌, IfO
 ghost use Rattle.std.specs.Option.{option_map};
 ghost use Rattle.std.specs.Result.{result_map_both};
 ghost use Rattle.rs_frame.specs.Spelling.{FieldsFit, MessageFits};
-ghost use Rattle.frame_text.specs.Fields.{AreBlobs, IsMessage, frame_of, message_in};
+ghost use Rattle.frame_text.specs.Fields.{AreBlobs, IsMessage, frame_of, message_from};
 ghost use Rattle.frame_text.specs.Lines.{line_of};
 ghost use Rattle.frame_text.specs.Reading.{cancel_row, counted_row, error_row, ext_row, message_at, payload_row, plain_row, request_n_row, unknown_row};
 ghost use Rattle.frame_text.specs.Spelled.{after_word, bytes_of, channel_words, follows_words, option_of};
@@ -21,7 +21,7 @@ pub fn message(place: u32, line: Option<&[u8]>) -> Result<(MessageWords<'_>, Opt
     requires { place < 100 }
     ensures told { result_map_both (λ x. option_map (λ y. y.now) x.1) (λ e. e) result ≡ message_at place (option_map (λ y. y.now) line.entry) }
     ensures words { IfOk result (λ x. after_word (option_map (λ y. y.now) line.entry) ≡ (32 ∷ option_word (option_of x.0.metadata.now)) ++ ((32 ∷ blob_word (bytes_of x.0.content.now)) ++ after_word (option_map (λ y. y.now) x.1))) }
-    ensures fits { IfOk result (λ x. MessageFits (message_in x.0) × IsMessage x.0) }
+    ensures fits { IfOk result (λ x. MessageFits (message_from x.0) × IsMessage x.0) }
 {
     let (metadata, line) = taken::short_option(place, 16_777_215, line)?;
     let (content, line) = taken::blob(place + 1, line)?;
