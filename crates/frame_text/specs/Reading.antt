@@ -45,7 +45,7 @@ unnamed_at place line = next_at place line >>= λ w. tested (is_unnamed (number_
 unfoldable pub flags_at : {A : Type 0} → ℕ → List (List ℕ × A) → Option (List ℕ) → Result (Option (List ℕ)) Wrong
 flags_at place table line = next_at place line >>= λ w. tested (is_some (meaning_in table w.0)) (wrongs.Word place) w.1
 
--- bytes; at most so many bytes; and bytes that may be absent
+-- bytes; at most `most` bytes; and bytes that may be absent
 unfoldable pub blob_at : ℕ → Option (List ℕ) → Result (Option (List ℕ)) Wrong
 blob_at place line = next_at place line >>= λ w. tested (is_blob w.0) (wrongs.Hex place) w.1
 

@@ -17,7 +17,7 @@ fn first_space(line: &[u8]) -> Option<usize>
     line.iter().position(|b| *b == b' ')
 }
 
-/// The first word, and what stands after the space after it.
+/// The first word, and what follows the space after it.
 pub fn next_word(line: &[u8]) -> (&[u8], Option<&[u8]>)
     ensures cut { (result.0.now, option_map (λ x. x.now) result.1) ≡ cut_word line.now }
     ensures whole { line.now ≡ result.0.now ++ after_word (option_map (λ x. x.now) result.1) }

@@ -60,7 +60,7 @@ pub fn number_32(
     Ok((n as u32, rest))
 }
 
-/// A number of at most so much, in 16 bits.
+/// A number of at most `high`, in 16 bits.
 pub fn number_16(place: u32, high: u16, line: Option<&[u8]>) -> Result<(u16, Option<&[u8]>), Wrong>
     ensures told { result_map_both (λ x. option_map (λ y. y.now) x.1) (λ e. e) result ≡ decimal_at place 0 high (option_map (λ y. y.now) line.entry) }
     ensures word { IfOk result (λ x. after_word (option_map (λ y. y.now) line.entry) ≡ (32 ∷ decimal x.0) ++ after_word (option_map (λ y. y.now) x.1)) }
@@ -188,7 +188,7 @@ pub fn blob(place: u32, line: Option<&[u8]>) -> Result<(&[u8], Option<&[u8]>), W
     Ok((word, rest))
 }
 
-// Whether the word is the text of at most so many bytes.
+// Whether the word is the text of at most `most` bytes.
 fn is_short(word: &[u8], most: u64) -> bool
     ensures value { result ≡ is_short most word.now }
     ensures spelled { IsTrue result → word.now ≡ blob_word (bytes_of word.now) }
@@ -197,7 +197,7 @@ fn is_short(word: &[u8], most: u64) -> bool
     spelled::is_blob_word(word) && spelled::size(word) <= most
 }
 
-/// The text of at most so many bytes.
+/// The text of at most `most` bytes.
 #[tactic(auto, unfolding(crate::specs::Reading::short_at))]
 pub fn short(place: u32, most: u64, line: Option<&[u8]>) -> Result<(&[u8], Option<&[u8]>), Wrong>
     ensures told { result_map_both (λ x. option_map (λ y. y.now) x.1) (λ e. e) result ≡ short_at place most (option_map (λ y. y.now) line.entry) }
@@ -225,7 +225,7 @@ pub fn option(place: u32, line: Option<&[u8]>) -> Result<(&[u8], Option<&[u8]>),
     Ok((word, rest))
 }
 
-/// The text of at most so many bytes, that may be absent.
+/// The text of at most `most` bytes, which may be absent.
 #[tactic(auto, unfolding(crate::specs::Reading::short_option_at))]
 pub fn short_option(
     place: u32,
