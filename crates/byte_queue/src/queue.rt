@@ -90,7 +90,8 @@ impl ByteQueue {
 
     /// Makes sure that `count` bytes more fit, those that were reserved before counted in.
     pub fn reserve(&mut self, count: usize) -> Result<(), OutOfMemory>
-        ensures ok { OnOk result (self.new ≡ record self.old { reserved = max self.old.reserved count }) }
+        ensures ok { OnOk result (self.new ≡
+            record self.old { reserved = max self.old.reserved count }) }
         ensures err { OnErr result (self.new ≡ self.old) }
         ensures fits { count ≤ self.old.reserved → IsOk result }
     {
@@ -125,7 +126,8 @@ impl ByteQueue {
         requires appends { (before after : _) (outcome : _) →
             FnOnceReturnsAtMut W.FnOnce write before outcome after →
             after.items ≡ (if is_ok outcome then before.items ++ more else before.items) }
-        ensures ok { OnOk result (self.new ≡ record { bytes = self.old.bytes ++ more; reserved = 0 }) }
+        ensures ok { OnOk result (self.new ≡
+            record { bytes = self.old.bytes ++ more; reserved = 0 }) }
         ensures err { OnErr result (self.new.bytes ≡ self.old.bytes) }
     {
         self.reserved = 0;

@@ -1,10 +1,12 @@
 -- The line of a frame has no line feed.
 use Rattle.std.proofs.Common.{◌≡◌, ℕ, ◌≤◌, List, [], ◌∷◌, ◌++◌, arith}
 use Rattle.rs_frame.specs.declared.frame.Frame.{Frame}
-use Rattle.frame_text.specs.Lines.{fields_of, line_of, name_of, spaced}
+use Rattle.frame_text.specs.Lines.{fields_of, line_of, spaced}
+use Rattle.frame_text.specs.Names.{frame_name}
 use Rattle.frame_text.proofs.OneFrame.{name_clean, words_clean}
 use Rattle.frame_text.proofs.Steps.{AboveSpace, AllAboveSpace}
-use Rattle.capture.specs.Text.{HasNoFeed, IsFrame}
+use Rattle.plain_text.specs.Lines.{HasNoFeed}
+use Rattle.capture.specs.Text.{IsFrame}
 
 no_feed : (b : ℕ) → 32 ≤ b → ¬ (b ≡ 10)
 no_feed b above is = omega arith
@@ -22,4 +24,4 @@ spaced_clean [] all = tt
 spaced_clean (word ∷ words) all = (no_feed 32 (omega arith), clean_append word (spaced words) (above_clean word all.0) (spaced_clean words all.1))
 
 pub line_clean : (f : Frame) → IsFrame f → HasNoFeed (line_of f)
-line_clean f is = clean_append (name_of f) (spaced (fields_of f)) (above_clean (name_of f) (name_clean f)) (spaced_clean (fields_of f) (words_clean f is.0.fields is.1))
+line_clean f is = clean_append (frame_name f) (spaced (fields_of f)) (above_clean (frame_name f) (name_clean f)) (spaced_clean (fields_of f) (words_clean f is.0.fields is.1))

@@ -1,5 +1,4 @@
 pub mod CleanLines
-pub mod LineFeeds
 pub mod OneWay
 pub mod Progress
 pub mod Reading

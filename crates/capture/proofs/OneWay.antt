@@ -12,7 +12,8 @@ use Rattle.rs_frame.proofs.Whole.{canonical_spells, one_frame}
 use Rattle.rs_chunk.proofs.Lengths.{length-canonical}
 use Rattle.rs_frame.specs.Framed.{framed, framed_all, framed_frame}
 use Rattle.rs_chunk.specs.Stream.{HasFrame, after_frame, first_frame, first_length}
-use Rattle.capture.specs.Captured.{AreSpelled, Holds, IsBadAt, IsCapture, IsWrong, longest}
+use Rattle.capture.specs.declared.TheConstants.{MOST_CAPTURE}
+use Rattle.capture.specs.Captured.{AreSpelled, Holds, IsBadAt, IsCapture, IsWrong}
 
 -- no frame can be read at the front
 abbrev Stops : List ℕ → Type 0
@@ -84,7 +85,7 @@ one bytes fs gs p q = (one_way bytes fs gs [] [] p.holds q.holds none_stops none
 
 pub either : (bytes : List ℕ) (place rule : ℕ) (fs gs : List Frame) → IsCapture bytes fs → IsBadAt bytes place rule gs → ⊥
 either bytes place rule fs gs p q =
-    let all : take longest bytes ≡ bytes = take_all longest bytes p.short in
+    let all : take MOST_CAPTURE bytes ≡ bytes = take_all MOST_CAPTURE bytes p.short in
     let holds : Holds bytes gs q.rest = subst (λ (t : List ℕ). Holds t gs q.rest) all q.holds in
     let same : [] ≡ q.rest = (one_way bytes fs gs [] q.rest p.holds holds none_stops (wrong_stops q.rest rule q.wrong)).1 in
     absurd (omega (arith, q.place_is, q.there, ap length same, ap length all))
@@ -97,7 +98,7 @@ same_rule bytes r s (inr a) (inr b) = a.0 ∙ sym b.0
 
 pub one_place : (bytes : List ℕ) (p q r s : ℕ) (fs gs : List Frame) → IsBadAt bytes p r fs → IsBadAt bytes q s gs → (p ≡ q) × (r ≡ s) × (fs ≡ gs)
 one_place bytes p q r s fs gs a b =
-    let same = one_way (take longest bytes) fs gs a.rest b.rest a.holds b.holds (wrong_stops a.rest r a.wrong) (wrong_stops b.rest s b.wrong) in
+    let same = one_way (take MOST_CAPTURE bytes) fs gs a.rest b.rest a.holds b.holds (wrong_stops a.rest r a.wrong) (wrong_stops b.rest s b.wrong) in
     (omega (arith, a.place_is, b.place_is, ap length same.1), same_rule b.rest r s (subst (λ (t : List ℕ). IsWrong t r) same.1 a.wrong) b.wrong, same.0)
 
 canonical_frames : (frames : List Frame) → framed_all frames ≡ flat_map framed (map canonical frames)
@@ -113,7 +114,7 @@ canonical_fit : (frames : List Frame) → AllByRecursion IsSpellable frames → 
 canonical_fit [] all = tt
 canonical_fit (f ∷ frames) all = (omega (arith, length-canonical f, all.0.short), canonical_fit frames all.1)
 
-pub framed_capture : (frames : List Frame) → AllByRecursion IsSpellable frames → length (framed_all frames) ≤ longest → IsCapture (framed_all frames) frames
+pub framed_capture : (frames : List Frame) → AllByRecursion IsSpellable frames → length (framed_all frames) ≤ MOST_CAPTURE → IsCapture (framed_all frames) frames
 framed_capture frames all short =
     record {
       short = short;

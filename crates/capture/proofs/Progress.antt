@@ -6,18 +6,20 @@ use Rattle.std.proofs.lemmas.List.{append-nil, flat_map_more, length-append, len
 use Rattle.rs_frame.specs.declared.frame.Frame.{Frame}
 use Rattle.rs_frame.specs.Framed.{framed_all, framed_frame}
 use Rattle.frame_text.specs.Lines.{line_of}
+use Rattle.plain_text.specs.Lines.{ended, HasNoFeed}
+use Rattle.capture.specs.declared.TheConstants.{MOST_CAPTURE}
 use Rattle.capture.specs.declared.back.LineFault.{LineFault}
 use Rattle.capture.specs.declared.back.LineFault.TheVariants as faults
-use Rattle.capture.specs.Captured.{all_lines, ended, longest}
-use Rattle.capture.specs.Text.{BeginsWith, HasNoFeed, IsFaultOf, IsFrame, IsLineFault, WroteFrame, WroteFrames}
+use Rattle.capture.specs.Captured.{all_lines}
+use Rattle.capture.specs.Text.{BeginsWith, IsFaultOfLine, IsFrame, IsLineFault, WroteFrame, WroteFrames}
 use Rattle.capture.proofs.CleanLines.{line_clean}
-use Rattle.capture.proofs.LineFeeds.{has_feed, one_cut}
+use Rattle.plain_text.proofs.Feeds.{has_feed, one_cut}
 
 -- the lines in front of the rest were read, and their frames appended; the next line has this number
 pub record SoFar (text rest : List ℕ) (number : ℕ) (old new : List ℕ) : Type 0 where
   pub frames : List Frame
   pub are_frames : AllByRecursion IsFrame frames
-  pub parts : take longest text ≡ all_lines frames ++ rest
+  pub parts : take MOST_CAPTURE text ≡ all_lines frames ++ rest
   pub number_is : length frames + 1 ≡ number
   pub appended : new ≡ old ++ framed_all frames
 
@@ -26,13 +28,13 @@ snoc [] f all one = (one, tt)
 snoc (g ∷ frames) f all one = (all.0, snoc frames f all.1 one)
 
 -- the text up to the limit
-pub at_limit : (text front : List ℕ) (n : ℕ) → n ≡ min (length text) 67108864 → front ≡ take n text → (front ≡ take longest text) × (length front ≤ 67108864)
+pub at_limit : (text front : List ℕ) (n : ℕ) → n ≡ min (length text) 67108864 → front ≡ take n text → (front ≡ take MOST_CAPTURE text) × (length front ≤ 67108864)
 at_limit text front n n_is front_is =
     let len : length front ≡ length (take n text) = ap (λ (t : List ℕ). length t) front_is in
-    let same : n ≡ min longest (length text) = omega (arith, n_is) in
-    (front_is ∙ ap (λ k. take k text) same ∙ take_min longest text, omega (arith, len, n_is, length-take n text))
+    let same : n ≡ min MOST_CAPTURE (length text) = omega (arith, n_is) in
+    (front_is ∙ ap (λ k. take k text) same ∙ take_min MOST_CAPTURE text, omega (arith, len, n_is, length-take n text))
 
-pub at_start : (text rest old : List ℕ) → rest ≡ take longest text → SoFar text rest 1 old old
+pub at_start : (text rest old : List ℕ) → rest ≡ take MOST_CAPTURE text → SoFar text rest 1 old old
 at_start text rest old rest_is = record { frames = []; are_frames = tt; parts = sym rest_is; number_is = refl; appended = sym (append-nil old) }
 
 more_lines : (frames : List Frame) (f : Frame) (line : List ℕ) → line ≡ line_of f → all_lines frames ++ ended line ≡ all_lines (frames ++ f ∷ [])
@@ -69,7 +71,7 @@ not_last text rest f clean other (inl b) = has_feed (line_of f) b.0 (subst HasNo
 not_last text rest f clean other (inr b) = other b.1
 
 -- where it has none, and the text goes on
-not_cut : (text rest : List ℕ) (f : Frame) → HasNoFeed rest → longest < length text → ¬ (BeginsWith text rest f)
+not_cut : (text rest : List ℕ) (f : Frame) → HasNoFeed rest → MOST_CAPTURE < length text → ¬ (BeginsWith text rest f)
 not_cut text rest f clean long (inl b) = has_feed (line_of f) b.0 (subst HasNoFeed b.1 clean)
 not_cut text rest f clean long (inr b) = absurd (omega (arith, b.0))
 
@@ -77,13 +79,13 @@ not_cut text rest f clean long (inr b) = absurd (omega (arith, b.0))
 first_wrong : (text rest : List ℕ) (number : ℕ) (old new : List ℕ) → (s : SoFar text rest number old new) → length (all_lines s.frames) < length text → ((f : Frame) → IsFrame f → ¬ (BeginsWith text rest f)) → IsLineFault text (faults.Line number)
 first_wrong text rest number old new s there wrong = (s.frames, record { rest = rest; are_frames = s.are_frames; parts = s.parts; number_is = s.number_is; there = there; wrong = wrong })
 
-behind : (text before rest : List ℕ) → take longest text ≡ before ++ rest → 0 < length rest → length before < length text
+behind : (text before rest : List ℕ) → take MOST_CAPTURE text ≡ before ++ rest → 0 < length rest → length before < length text
 behind text before rest parts some =
-    let len : length (take longest text) ≡ length (before ++ rest) = ap (λ (t : List ℕ). length t) parts in
-    omega (arith, len, length-append before rest, length-take longest text)
+    let len : length (take MOST_CAPTURE text) ≡ length (before ++ rest) = ap (λ (t : List ℕ). length t) parts in
+    omega (arith, len, length-append before rest, length-take MOST_CAPTURE text)
 
 -- a line with its line feed
-pub wrong_line : (text rest line after : List ℕ) (number : ℕ) (old new : List ℕ) (e : LineFault) → SoFar text rest number old new → rest ≡ ended line ++ after → HasNoFeed line → IsFaultOf line number e → IsLineFault text e
+pub wrong_line : (text rest line after : List ℕ) (number : ℕ) (old new : List ℕ) (e : LineFault) → SoFar text rest number old new → rest ≡ ended line ++ after → HasNoFeed line → IsFaultOfLine line number e → IsLineFault text e
 wrong_line text rest line after number old new (faults.Line n) s rest_is clean fault =
     let wrong : (f : Frame) → IsFrame f → ¬ (BeginsWith text rest f) = λ f is begins. not_begins text rest line after f rest_is clean (line_clean f is) (fault.1 f is) begins in
     let some : 0 < length rest = omega (arith, one_more_counted rest line after rest_is) in
@@ -91,25 +93,25 @@ wrong_line text rest line after number old new (faults.Line n) s rest_is clean f
 wrong_line text rest line after number old new faults.OutOfMemory s rest_is clean fault = tt
 
 -- bytes behind the last line feed
-pub wrong_last : (text rest : List ℕ) (number : ℕ) (old new : List ℕ) (e : LineFault) → SoFar text rest number old new → 0 < length rest → HasNoFeed rest → IsFaultOf rest number e → IsLineFault text e
+pub wrong_last : (text rest : List ℕ) (number : ℕ) (old new : List ℕ) (e : LineFault) → SoFar text rest number old new → 0 < length rest → HasNoFeed rest → IsFaultOfLine rest number e → IsLineFault text e
 wrong_last text rest number old new (faults.Line n) s some clean fault =
     let wrong : (f : Frame) → IsFrame f → ¬ (BeginsWith text rest f) = λ f is begins. not_last text rest f clean (fault.1 f is) begins in
     subst (λ k. IsLineFault text (faults.Line k)) (sym fault.0) (first_wrong text rest number old new s (behind text (all_lines s.frames) rest s.parts some) wrong)
 wrong_last text rest number old new faults.OutOfMemory s some clean fault = tt
 
 -- the limit
-pub too_long : (text rest : List ℕ) (number : ℕ) (old new : List ℕ) → SoFar text rest number old new → HasNoFeed rest → longest < length text → IsLineFault text (faults.Line number)
+pub too_long : (text rest : List ℕ) (number : ℕ) (old new : List ℕ) → SoFar text rest number old new → HasNoFeed rest → MOST_CAPTURE < length text → IsLineFault text (faults.Line number)
 too_long text rest number old new s clean long =
-    let len : length (take longest text) ≡ length (all_lines s.frames ++ rest) = ap (λ (t : List ℕ). length t) s.parts in
-    let there : length (all_lines s.frames) < length text = omega (arith, len, length-append (all_lines s.frames) rest, length-take longest text) in
+    let len : length (take MOST_CAPTURE text) ≡ length (all_lines s.frames ++ rest) = ap (λ (t : List ℕ). length t) s.parts in
+    let there : length (all_lines s.frames) < length text = omega (arith, len, length-append (all_lines s.frames) rest, length-take MOST_CAPTURE text) in
     first_wrong text rest number old new s there (λ f is begins. not_cut text rest f clean long begins)
 
 -- ---- a whole text
 
-whole_text : (text : List ℕ) → length text ≤ longest → take longest text ≡ text
-whole_text text short = take_all longest text short
+whole_text : (text : List ℕ) → length text ≤ MOST_CAPTURE → take MOST_CAPTURE text ≡ text
+whole_text text short = take_all MOST_CAPTURE text short
 
-pub all_read : (text rest : List ℕ) (number : ℕ) (old new : List ℕ) → SoFar text rest number old new → length text ≤ longest → length rest ≡ 0 → WroteFrames text old new
+pub all_read : (text rest : List ℕ) (number : ℕ) (old new : List ℕ) → SoFar text rest number old new → length text ≤ MOST_CAPTURE → length rest ≡ 0 → WroteFrames text old new
 all_read text [] number old new s short none =
     record {
       frames = s.frames;
@@ -118,7 +120,7 @@ all_read text [] number old new s short none =
     }
 all_read text (b ∷ rest) number old new s short none = absurd (omega arith)
 
-last_read : (text rest : List ℕ) (number : ℕ) (old mid new : List ℕ) → SoFar text rest number old mid → length text ≤ longest → WroteFrame rest mid new → WroteFrames text old new
+last_read : (text rest : List ℕ) (number : ℕ) (old mid new : List ℕ) → SoFar text rest number old mid → length text ≤ MOST_CAPTURE → WroteFrame rest mid new → WroteFrames text old new
 last_read text rest number old mid new s short w =
     let is : ended text ≡ all_lines (s.frames ++ w.frame ∷ []) =
     ap ended (sym (whole_text text short) ∙ s.parts) ∙ append_assoc (all_lines s.frames) rest (10 ∷ []) ∙ more_lines s.frames w.frame rest w.line_is
@@ -128,10 +130,10 @@ last_read text rest number old mid new s short w =
       appended = more_bytes s.frames w.frame old mid new s.appended w.appended;
     }
 
-pub last_line : {E : Type 0} (text rest : List ℕ) (number : ℕ) (old mid new : List ℕ) (r : Result Unit E) → SoFar text rest number old mid → length text ≤ longest → OnOk r (WroteFrame rest mid new) → OnOk r (WroteFrames text old new)
+pub last_line : {E : Type 0} (text rest : List ℕ) (number : ℕ) (old mid new : List ℕ) (r : Result Unit E) → SoFar text rest number old mid → length text ≤ MOST_CAPTURE → OnOk r (WroteFrame rest mid new) → OnOk r (WroteFrames text old new)
 last_line text rest number old mid new (Ok u) s short w = last_read text rest number old mid new s short w
 last_line text rest number old mid new (Err e) s short w = tt
 
-pub last_fault : (text rest : List ℕ) (number : ℕ) (old new : List ℕ) (r : Result Unit LineFault) → SoFar text rest number old new → 0 < length rest → HasNoFeed rest → IfErr r (IsFaultOf rest number) → IfErr r (IsLineFault text)
+pub last_fault : (text rest : List ℕ) (number : ℕ) (old new : List ℕ) (r : Result Unit LineFault) → SoFar text rest number old new → 0 < length rest → HasNoFeed rest → IfErr r (IsFaultOfLine rest number) → IfErr r (IsLineFault text)
 last_fault text rest number old new (Ok u) s some clean fault = tt
 last_fault text rest number old new (Err e) s some clean fault = wrong_last text rest number old new e s some clean fault

@@ -8,7 +8,9 @@ use Rattle.rs_frame.specs.Rules.{IsLeastBroken, broken, number_of_rule}
 use Rattle.rs_frame.specs.Spelling.{Spells}
 use Rattle.rs_chunk.specs.Stream.{HasFrame, IsCut, after_frame, first_frame, first_length}
 use Rattle.frame_text.specs.Lines.{line_of}
-use Rattle.capture.specs.Captured.{AreSpelled, Holds, IsBadAt, IsCapture, IsWrong, WroteLines, all_lines, ended, longest}
+use Rattle.plain_text.specs.Lines.{ended}
+use Rattle.capture.specs.declared.TheConstants.{MOST_CAPTURE}
+use Rattle.capture.specs.Captured.{AreSpelled, Holds, IsBadAt, IsCapture, IsWrong, WroteLines, all_lines}
 
 spelled_nil : AreSpelled [] []
 unfolding AreSpelled
@@ -60,9 +62,9 @@ breaks bytes frame fault rule has same is number =
     inl (record { whole = has; fault = fault; least = subst (λ (t : List ℕ). broken t ≡ Some fault) same (least fault frame rule is number); number_is = number })
 
 -- the frame behind those that were read is wrong
-pub bad_at : (bytes rest old new : List ℕ) (place rule : ℕ) → length bytes ≤ longest → WroteLines bytes rest old new → place + length rest ≡ length bytes → 0 < length rest → IsWrong rest rule → (before : List Frame) × IsBadAt bytes place rule before × (new ≡ old ++ all_lines before)
+pub bad_at : (bytes rest old new : List ℕ) (place rule : ℕ) → length bytes ≤ MOST_CAPTURE → WroteLines bytes rest old new → place + length rest ≡ length bytes → 0 < length rest → IsWrong rest rule → (before : List Frame) × IsBadAt bytes place rule before × (new ≡ old ++ all_lines before)
 bad_at bytes rest old new place rule short w place_is some wrong =
-    let all : bytes ≡ take longest bytes = sym (take_all longest bytes short) in (
+    let all : bytes ≡ take MOST_CAPTURE bytes = sym (take_all MOST_CAPTURE bytes short) in (
       w.frames,
       record {
         rest = rest;
@@ -75,30 +77,30 @@ bad_at bytes rest old new place rule short w place_is some wrong =
     )
 
 -- what is found within the limit
-pub within : (bytes : List ℕ) (place rule : ℕ) (before : List Frame) → IsBadAt (take longest bytes) place rule before → IsBadAt bytes place rule before
+pub within : (bytes : List ℕ) (place rule : ℕ) (before : List Frame) → IsBadAt (take MOST_CAPTURE bytes) place rule before → IsBadAt bytes place rule before
 within bytes place rule before bad =
-    let short : length (take longest bytes) ≤ longest = omega (arith, length-take longest bytes) in
-    let same : take longest (take longest bytes) ≡ take longest bytes = take_all longest (take longest bytes) short in
+    let short : length (take MOST_CAPTURE bytes) ≤ MOST_CAPTURE = omega (arith, length-take MOST_CAPTURE bytes) in
+    let same : take MOST_CAPTURE (take MOST_CAPTURE bytes) ≡ take MOST_CAPTURE bytes = take_all MOST_CAPTURE (take MOST_CAPTURE bytes) short in
     record {
       rest = bad.rest;
       holds = subst (λ (t : List ℕ). Holds t before bad.rest) same bad.holds;
       place_is = bad.place_is ∙ ap length same;
-      there = omega (arith, bad.there, length-take longest bytes);
+      there = omega (arith, bad.there, length-take MOST_CAPTURE bytes);
       wrong = bad.wrong;
     }
 
-pub whole : (bytes old new : List ℕ) → length bytes ≤ longest → WroteLines (take longest bytes) [] old new → (frames : List Frame) × IsCapture bytes frames × (new ≡ old ++ all_lines frames)
+pub whole : (bytes old new : List ℕ) → length bytes ≤ MOST_CAPTURE → WroteLines (take MOST_CAPTURE bytes) [] old new → (frames : List Frame) × IsCapture bytes frames × (new ≡ old ++ all_lines frames)
 whole bytes old new short w =
-    (w.frames, record { short = short; holds = subst (λ (t : List ℕ). Holds t w.frames []) (take_all longest bytes short) w.holds }, w.lines)
+    (w.frames, record { short = short; holds = subst (λ (t : List ℕ). Holds t w.frames []) (take_all MOST_CAPTURE bytes short) w.holds }, w.lines)
 
 -- the bytes pass the limit behind a frame
-pub passes_limit : (bytes old new : List ℕ) (place rule : ℕ) → longest < length bytes → place ≡ longest → rule ≡ 0 → WroteLines (take longest bytes) [] old new → (before : List Frame) × IsBadAt bytes place rule before × (new ≡ old ++ all_lines before)
+pub passes_limit : (bytes old new : List ℕ) (place rule : ℕ) → MOST_CAPTURE < length bytes → place ≡ MOST_CAPTURE → rule ≡ 0 → WroteLines (take MOST_CAPTURE bytes) [] old new → (before : List Frame) × IsBadAt bytes place rule before × (new ≡ old ++ all_lines before)
 passes_limit bytes old new place rule long at none w = (
   w.frames,
   record {
     rest = [];
     holds = w.holds;
-    place_is = omega (arith, length-take longest bytes);
+    place_is = omega (arith, length-take MOST_CAPTURE bytes);
     there = omega arith;
     wrong = inr (none, λ has. absurd (omega (arith, has.0)));
   },

@@ -4,16 +4,18 @@ use Rattle.std.specs.List.{AllByRecursion}
 use Rattle.std.proofs.lemmas.List.{append-nil, length-append, take_all}
 use Rattle.rs_frame.specs.declared.frame.Frame.{Frame}
 use Rattle.frame_text.specs.Lines.{line_of}
-use Rattle.frame_text.specs.Reading.{other_row, row_at, words_of}
+use Rattle.frame_text.specs.Reading.{other_row, named_row, words_of}
 use Rattle.frame_text.proofs.OneFrame.{one_frame}
 use Rattle.frame_text.proofs.RightWords.{line_reads}
-use Rattle.capture.specs.Captured.{all_lines, ended, longest}
-use Rattle.capture.specs.Text.{BeginsWith, IsFrame, IsText, IsWrongLine}
+use Rattle.plain_text.specs.Lines.{ended}
+use Rattle.capture.specs.declared.TheConstants.{MOST_CAPTURE}
+use Rattle.capture.specs.Captured.{all_lines}
+use Rattle.capture.specs.Text.{BeginsWith, IsFrame, IsTextOf, IsWrongLine}
 use Rattle.capture.proofs.CleanLines.{line_clean}
-use Rattle.capture.proofs.LineFeeds.{one_cut}
+use Rattle.plain_text.proofs.Feeds.{one_cut}
 use Rattle.capture.proofs.Wrong.{not_ok}
 
-pub lines : (frames : List Frame) → AllByRecursion IsFrame frames → length (all_lines frames) ≤ longest → IsText (all_lines frames) frames
+pub lines : (frames : List Frame) → AllByRecursion IsFrame frames → length (all_lines frames) ≤ MOST_CAPTURE → IsTextOf (all_lines frames) frames
 lines frames are short = record { short = short; are_frames = are; lines = inl refl }
 
 -- a frame's line, with its line feed, begins the bytes
@@ -44,7 +46,7 @@ aligned (f ∷ fs) (g ∷ gs) r s are_fs are_gs same =
 -- ---- what no line begins
 
 empty_line : (f : Frame) → IsFrame f → ¬ (line_of f ≡ [])
-unfolding row_at other_row
+unfolding named_row other_row
 empty_line f is none = not_ok _ (words_of []) refl (ap words_of (sym none) ∙ line_reads f is.0.fields is.1)
 
 some : (w : List ℕ) → ¬ (w ≡ []) → 0 < length w
@@ -92,7 +94,7 @@ one_by text fs gs are_fs are_gs (inr p) (inr q) = same_lines fs gs are_fs are_gs
 one_by text fs gs are_fs are_gs (inl p) (inr q) = absurd (not_ended fs gs are_fs are_gs (ap ended (sym p) ∙ q))
 one_by text fs gs are_fs are_gs (inr p) (inl q) = absurd (not_ended gs fs are_gs are_fs (ap ended (sym q) ∙ p))
 
-pub one_text : (text : List ℕ) (fs gs : List Frame) → IsText text fs → IsText text gs → fs ≡ gs
+pub one_text : (text : List ℕ) (fs gs : List Frame) → IsTextOf text fs → IsTextOf text gs → fs ≡ gs
 one_text text fs gs a b = one_by text fs gs a.are_frames b.are_frames a.lines b.lines
 
 -- ---- no wrong line
@@ -122,12 +124,12 @@ last_cut (a ∷ rest) (b ∷ line) after e =
     let tails : ended rest ≡ ended line ++ after = cc in
     longer a b rest line first (last_cut rest line after tails)
 
-with_limit : (text rest : List ℕ) (f : Frame) → length text ≤ longest → IsCutAt rest (line_of f) → BeginsWith text rest f
+with_limit : (text rest : List ℕ) (f : Frame) → length text ≤ MOST_CAPTURE → IsCutAt rest (line_of f) → BeginsWith text rest f
 with_limit text rest f short (inl c) = inl c
 with_limit text rest f short (inr e) = inr (short, e)
 
 -- the line that is wrong is that of a frame
-begins : (text rest : List ℕ) → length text ≤ longest → (b : Begins (ended rest)) → BeginsWith text rest b.frame
+begins : (text rest : List ℕ) → length text ≤ MOST_CAPTURE → (b : Begins (ended rest)) → BeginsWith text rest b.frame
 begins text rest short b = with_limit text rest b.frame short (last_cut rest (line_of b.frame) b.after b.parts)
 
 not_whole : (text : List ℕ) (fs before : List Frame) (rest : List ℕ) → length (all_lines before) < length text → text ≡ all_lines before ++ rest → ((f : Frame) → IsFrame f → ¬ (BeginsWith text rest f)) → ¬ (Aligned before fs rest [])
@@ -138,21 +140,21 @@ not_whole text fs before rest there parts wrong (inl both) =
 not_whole text fs before rest there parts wrong (inr (inl b)) = wrong b.frame b.is_frame (inl (b.after, b.parts))
 not_whole text fs before rest there parts wrong (inr (inr b)) = nothing b
 
-not_last : (text : List ℕ) (fs before : List Frame) (rest : List ℕ) → length text ≤ longest → ((f : Frame) → IsFrame f → ¬ (BeginsWith text rest f)) → ¬ (Aligned before fs (ended rest) [])
+not_last : (text : List ℕ) (fs before : List Frame) (rest : List ℕ) → length text ≤ MOST_CAPTURE → ((f : Frame) → IsFrame f → ¬ (BeginsWith text rest f)) → ¬ (Aligned before fs (ended rest) [])
 not_last text fs before rest short wrong (inl both) = no_end rest both.1
 not_last text fs before rest short wrong (inr (inl b)) = wrong b.frame b.is_frame (begins text rest short b)
 not_last text fs before rest short wrong (inr (inr b)) = nothing b
 
-not_wrong : (text : List ℕ) (fs before : List Frame) (number : ℕ) → length text ≤ longest → AllByRecursion IsFrame fs → HasLines text fs → ¬ (IsWrongLine text number before)
+not_wrong : (text : List ℕ) (fs before : List Frame) (number : ℕ) → length text ≤ MOST_CAPTURE → AllByRecursion IsFrame fs → HasLines text fs → ¬ (IsWrongLine text number before)
 not_wrong text fs before number short are (inl p) w =
-    let parts : text ≡ all_lines before ++ w.rest = sym (take_all longest text short) ∙ w.parts in
+    let parts : text ≡ all_lines before ++ w.rest = sym (take_all MOST_CAPTURE text short) ∙ w.parts in
     not_whole text fs before w.rest w.there parts w.wrong (aligned before fs w.rest [] w.are_frames are (sym parts ∙ p ∙ sym (append-nil (all_lines fs))))
 not_wrong text fs before number short are (inr p) w =
-    let parts : text ≡ all_lines before ++ w.rest = sym (take_all longest text short) ∙ w.parts in
+    let parts : text ≡ all_lines before ++ w.rest = sym (take_all MOST_CAPTURE text short) ∙ w.parts in
     let same : all_lines before ++ ended w.rest ≡ all_lines fs ++ [] = sym (append_assoc (all_lines before) w.rest (10 ∷ [])) ∙ ap ended (sym parts) ∙ p ∙ sym (append-nil (all_lines fs)) in
     not_last text fs before w.rest short w.wrong (aligned before fs (ended w.rest) [] w.are_frames are same)
 
-pub either_text : (text : List ℕ) (fs : List Frame) (number : ℕ) (before : List Frame) → IsText text fs → ¬ (IsWrongLine text number before)
+pub either_text : (text : List ℕ) (fs : List Frame) (number : ℕ) (before : List Frame) → IsTextOf text fs → ¬ (IsWrongLine text number before)
 either_text text fs number before t w = not_wrong text fs before number t.short t.are_frames t.lines w
 
 -- ---- one wrong line

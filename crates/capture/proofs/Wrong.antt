@@ -5,10 +5,10 @@ use Rattle.rs_frame.specs.Spelling.{length_of}
 use Rattle.frame_text.specs.declared.fault.TextFault.{TextFault}
 use Rattle.frame_text.specs.declared.fault.TextFault.TheVariants as texts
 use Rattle.frame_text.specs.Lines.{line_of}
-use Rattle.frame_text.specs.Reading.{IsRight, Tells, words_of}
+use Rattle.frame_text.specs.Reading.{IsRightLine, Tells, words_of}
 use Rattle.frame_text.proofs.OneFrame.{one_frame}
 use Rattle.frame_text.proofs.RightWords.{line_reads}
-use Rattle.capture.specs.Text.{IsFaultOf, IsFrame, line_fault}
+use Rattle.capture.specs.Text.{IsFaultOfLine, IsFrame, line_fault}
 
 -- a line with a wrong word
 bad_word : (line : List ℕ) (f : Frame) → ¬ (words_of line ≡ Ok tt) → IsFrame f → ¬ (line ≡ line_of f)
@@ -18,13 +18,13 @@ pub not_ok : {E : Type 0} (e : E) (r : Result Unit E) → r ≡ Err e → ¬ (r 
 not_ok e r wrong right = cc
 
 -- the line of a frame that is too long
-too_long : (line : List ℕ) (n : ℕ) (f : Frame) → IsRight line (texts.TooLong n) → IsFrame f → ¬ (line ≡ line_of f)
+too_long : (line : List ℕ) (n : ℕ) (f : Frame) → IsRightLine line (texts.TooLong n) → IsFrame f → ¬ (line ≡ line_of f)
 too_long line n f r is same =
     let one : r.frame ≡ f = one_frame r.frame f r.fits r.has_bytes is.0.fields is.1 (sym r.line_is ∙ same) in
     let len : length_of r.frame ≡ length_of f = ap length_of one in
     absurd (omega (arith, len, r.fault_is.0, r.fault_is.1, is.0.short))
 
-pub not_read : (line : List ℕ) (number : ℕ) (fault : TextFault) → Tells line (Err fault) → IsFaultOf line number (line_fault fault number)
+pub not_read : (line : List ℕ) (number : ℕ) (fault : TextFault) → Tells line (Err fault) → IsFaultOfLine line number (line_fault fault number)
 not_read line number (texts.BadWord place) told = (refl, λ f is. bad_word line f (not_ok _ _ told) is)
 not_read line number (texts.BadNumber place) told = (refl, λ f is. bad_word line f (not_ok _ _ told) is)
 not_read line number (texts.BadHex place) told = (refl, λ f is. bad_word line f (not_ok _ _ told) is)

@@ -6,11 +6,9 @@ use Rattle.rs_frame.specs.declared.fault.FrameFault.{FrameFault}
 use Rattle.rs_frame.specs.Spelling.{Spells}
 use Rattle.rs_frame.specs.Rules.{broken, number_of_rule}
 use Rattle.rs_chunk.specs.Stream.{HasFrame, IsCut, first_frame}
+use Rattle.plain_text.specs.Lines.{ended}
 use Rattle.frame_text.specs.Lines.{line_of}
-
--- the most bytes of a capture, and of its lines
-abbrev pub longest : ℕ
-longest = 67108864
+use Rattle.capture.specs.declared.TheConstants.{MOST_CAPTURE}
 
 -- the bytes of each frame spell it, one for one
 unfoldable pub AreSpelled : List Frame → List (List ℕ) → Type 0
@@ -27,11 +25,11 @@ pub record Holds (bytes : List ℕ) (frames : List Frame) (rest : List ℕ) : Ty
 
 -- the bytes are these frames and nothing else
 pub record IsCapture (bytes : List ℕ) (frames : List Frame) : Type 0 where
-  pub short : length bytes ≤ longest
+  pub short : length bytes ≤ MOST_CAPTURE
   pub holds : Holds bytes frames []
 
 -- the frame at the front is whole and breaks a rule, the least of which has this number
-pub record Breaks (bytes : List ℕ) (rule : ℕ) : Type 0 where
+pub record BreaksRule (bytes : List ℕ) (rule : ℕ) : Type 0 where
   pub whole : HasFrame bytes
   pub fault : FrameFault
   pub least : broken (first_frame bytes) ≡ Some fault
@@ -39,20 +37,17 @@ pub record Breaks (bytes : List ℕ) (rule : ℕ) : Type 0 where
 
 -- what is wrong at the front, as a rule; rule 0 says that the bytes end, or pass their limit, within the frame
 abbrev pub IsWrong : List ℕ → ℕ → Type 0
-IsWrong bytes rule = Breaks bytes rule ⊎ ((rule ≡ 0) × (¬ (HasFrame bytes)))
+IsWrong bytes rule = BreaksRule bytes rule ⊎ ((rule ≡ 0) × (¬ (HasFrame bytes)))
 
 -- the frame whose length field stands at this place, from 0, is the first that can't be read: these frames stand before it
 pub record IsBadAt (bytes : List ℕ) (place rule : ℕ) (before : List Frame) : Type 0 where
   pub rest : List ℕ
-  pub holds : Holds (take longest bytes) before rest
-  pub place_is : place + length rest ≡ length (take longest bytes)
+  pub holds : Holds (take MOST_CAPTURE bytes) before rest
+  pub place_is : place + length rest ≡ length (take MOST_CAPTURE bytes)
   pub there : place < length bytes
   pub wrong : IsWrong rest rule
 
--- each frame as a line, each line with a line feed behind it
-abbrev pub ended : List ℕ → List ℕ
-ended line = line ++ 10 ∷ []
-
+-- each frame as a line, each line with its line feed
 abbrev pub all_lines : List Frame → List ℕ
 all_lines frames = flat_map (λ f. ended (line_of f)) frames
 

@@ -1,19 +1,17 @@
 //! From lines to bytes.
 
-ghost use Rattle.std.specs.Prelude.{◌≡◌, ◌<◌, ◌==◌, ◌++◌, IfErr, IfNone, IfOk, IfSome, OnErr, OnOk, length, position, take};
+ghost use Rattle.std.specs.Prelude.{◌≡◌, IfErr, IfOk, OnErr, OnOk, length, take};
 ghost use Rattle.frame_text.specs.Lines.{line_of};
-ghost use Rattle.capture.specs.Captured.{ended};
-ghost use Rattle.capture.specs.Text.{HasNoFeed, IsFaultOf, IsFrame, IsLineFault, WroteFrame, WroteFrames, line_fault};
+ghost use Rattle.capture.specs.Text.{IsFaultOfLine, IsFrame, IsLineFault, WroteFrame, WroteFrames, line_fault};
 ghost use Rattle.capture.specs.declared.back.LineFault.TheVariants as faults;
 
+use crate::MOST_CAPTURE;
 use frame_text::{TextFault, read_line};
+use plain_text::cut_line;
 use rs_chunk::frame_bytes;
 use rs_frame::Frame;
 use rs_wire::OutOfMemory;
 use std::alloc::Global;
-
-/// The most bytes of a text.
-const LONGEST: usize = 67_108_864;
 
 /// Why the lines of a capture were not read to their end.
 #[derive(Clone, Copy, Debug, PartialEq, Eq)]
@@ -42,7 +40,7 @@ pub fn from_lines(alloc: Global, text: &[u8], out: &mut Vec<u8>) -> Result<(), L
     ensures err { OnErr result (out.new.items ≡ out.old.items) }
 {
     let start = out.len();
-    let done = put_lines(alloc, text, out);
+    let done = write_lines(alloc, text, out);
     if done.is_err() {
         out.truncate(start);
     }
@@ -50,52 +48,31 @@ pub fn from_lines(alloc: Global, text: &[u8], out: &mut Vec<u8>) -> Result<(), L
 }
 
 // Appends the frames of all lines. On a fault those of the lines before it stay.
-fn put_lines(alloc: Global, text: &[u8], out: &mut Vec<u8>) -> Result<(), LineFault>
+fn write_lines(alloc: Global, text: &[u8], out: &mut Vec<u8>) -> Result<(), LineFault>
     ensures whole { OnOk result (WroteFrames text.now out.old.items out.new.items) }
     ensures line { IfErr result (IsLineFault text.now) }
     ensures kept { take (length out.old.items) out.new.items ≡ out.old.items }
 {
     let mut number = 1;
-    let mut rest = text.split_at(text.len().min(LONGEST)).0;
-    while let Some((line, after)) = first_line(rest) {
-        put_frame(alloc, line, number, out)?;
+    let mut rest = text.split_at(text.len().min(MOST_CAPTURE)).0;
+    while let Some((line, after)) = cut_line(rest) {
+        write_frame(alloc, line, number, out)?;
         number += 1;
         rest = after;
     }
-    if text.len() > LONGEST {
+    if text.len() > MOST_CAPTURE {
         return Err(LineFault::Line(number));
     }
     if rest.is_empty() {
         return Ok(());
     }
-    put_frame(alloc, rest, number, out)
-}
-
-// The first line, without its line feed, and what follows; nothing, where there is no line feed.
-fn first_line(text: &[u8]) -> Option<(&[u8], &[u8])>
-    ensures line { IfSome result (λ r. (text.now ≡ ended r.0.now ++ r.1.now) × HasNoFeed r.0.now) }
-    ensures last { IfNone result (HasNoFeed text.now) }
-{
-    match first_line_feed(text) {
-        None => None,
-        Some(i) => {
-            let (line, rest) = text.split_at(i);
-            Some((line, rest.split_at(1).1))
-        }
-    }
-}
-
-fn first_line_feed(text: &[u8]) -> Option<usize>
-    ensures value { result ≡ position (λ b. b == 10) text.now }
-    ensures within { IfSome result (λ i. i < length text.now) }
-{
-    text.iter().position(|b| *b == b'\n')
+    write_frame(alloc, rest, number, out)
 }
 
 // Appends the frame of the line of this number.
-fn put_frame(alloc: Global, line: &[u8], number: u32, out: &mut Vec<u8>) -> Result<(), LineFault>
+fn write_frame(alloc: Global, line: &[u8], number: u32, out: &mut Vec<u8>) -> Result<(), LineFault>
     ensures ok { OnOk result (WroteFrame line.now out.old.items out.new.items) }
-    ensures fault { IfErr result (IsFaultOf line.now number) }
+    ensures fault { IfErr result (IsFaultOfLine line.now number) }
     ensures err { OnErr result (out.new.items ≡ out.old.items) }
 {
     let frame = frame_of(alloc, line, number)?;
@@ -106,7 +83,7 @@ fn put_frame(alloc: Global, line: &[u8], number: u32, out: &mut Vec<u8>) -> Resu
 // The frame of the line of this number.
 fn frame_of(alloc: Global, line: &[u8], number: u32) -> Result<Frame, LineFault>
     ensures found { IfOk result (λ f. (line.now ≡ line_of f) × IsFrame f) }
-    ensures fault { IfErr result (IsFaultOf line.now number) }
+    ensures fault { IfErr result (IsFaultOfLine line.now number) }
 {
     match read_line(alloc, line) {
         Ok(frame) => Ok(frame),

@@ -5,7 +5,8 @@ ghost use Rattle.std.specs.List.{AllByRecursion};
 ghost use Rattle.rs_frame.specs.declared.frame.Frame.{Frame};
 ghost use Rattle.rs_frame.specs.Spelling.{IsSpellable};
 ghost use Rattle.rs_frame.specs.Framed.{framed_all};
-ghost use Rattle.capture.specs.Captured.{IsBadAt, IsCapture, longest};
+ghost use Rattle.capture.specs.declared.TheConstants.{MOST_CAPTURE};
+ghost use Rattle.capture.specs.Captured.{IsBadAt, IsCapture};
 
 /// What holds of all bytes. The call does nothing; its clauses are the laws.
 pub fn capture_laws()
@@ -14,11 +15,11 @@ pub fn capture_laws()
     // A capture has no frame that can't be read.
     ensures either { (bytes : List ℕ) (place rule : ℕ) (fs gs : List Frame) →
         IsCapture bytes fs → IsBadAt bytes place rule gs → ⊥ }
-    // The first frame that can't be read stands at one place and breaks one least rule, behind one
+    // The first frame that can't be read stands at one place and breaks one least rule, after one
     // list of frames.
     ensures one_place { (bytes : List ℕ) (p q r s : ℕ) (fs gs : List Frame) →
         IsBadAt bytes p r fs → IsBadAt bytes q s gs → (p ≡ q) × (r ≡ s) × (fs ≡ gs) }
     // The canonical bytes of frames, each after its length, are a capture of them.
     ensures framed { (frames : List Frame) →
-        AllByRecursion IsSpellable frames → length (framed_all frames) ≤ longest → IsCapture (framed_all frames) frames }
+        AllByRecursion IsSpellable frames → length (framed_all frames) ≤ MOST_CAPTURE → IsCapture (framed_all frames) frames }
 {}

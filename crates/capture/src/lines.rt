@@ -1,21 +1,19 @@
 //! From bytes to lines.
 
 ghost use Rattle.std.specs.Prelude.{◌≡◌, ◌++◌, ◌≤◌, ◌<◌, ◌^◌, ℕ, List, [], ◌∷◌, length, None, OnErr, OnOk, IfOk, IfSome, IfErr};
-ghost use Rattle.rs_chunk.specs.Stream.{HasFrame, IsCut, after_frame, first_frame};
 ghost use Rattle.rs_frame.specs.Rules.{IsLeastBroken};
 ghost use Rattle.rs_frame.specs.Spelling.{IsSpellable, Spells};
 ghost use Rattle.rs_frame.specs.declared.frame.Frame.{Frame};
 ghost use Rattle.frame_text.specs.Lines.{line_of};
-ghost use Rattle.capture.specs.Captured.{IsBadAt, IsCapture, IsWrong, WroteLines, all_lines, ended, longest};
+ghost use Rattle.plain_text.specs.Lines.{ended};
+ghost use Rattle.capture.specs.Captured.{IsBadAt, IsCapture, IsWrong, WroteLines, all_lines};
 ghost use Rattle.capture.specs.declared.lines.CaptureFault.TheVariants as faults;
 
+use crate::MOST_CAPTURE;
 use rs_chunk::split_frame;
 use rs_frame::{Frame, FrameFault, decode, rule_number};
 use rs_wire::OutOfMemory;
 use std::alloc::Global;
-
-/// The most bytes of a capture.
-const LONGEST: usize = 67_108_864;
 
 /// Why a capture was not read to its end.
 #[derive(Clone, Copy, Debug, PartialEq, Eq)]
@@ -24,7 +22,7 @@ pub enum CaptureFault {
     /// 0. `rule` is the least of the nine rules that it breaks (`rs_frame::FrameFault`), or 0 where
     /// the bytes end, or pass 67,108,864, within the frame.
     Frame { place: u32, rule: u8 },
-    /// There was not enough memory. The frames behind were not looked at.
+    /// There was not enough memory. The frames that follow were not looked at.
     OutOfMemory,
 }
 
@@ -36,7 +34,7 @@ impl From<OutOfMemory> for CaptureFault {
     }
 }
 
-/// Appends the line of each frame of the capture, each with a line feed behind it. On
+/// Appends the line of each frame of the capture, each with its line feed. On
 /// `CaptureFault::Frame` the lines of the frames before it are appended; on
 /// `CaptureFault::OutOfMemory` nothing is.
 pub fn to_lines(alloc: Global, bytes: &[u8], out: &mut Vec<u8>) -> Result<(), CaptureFault>
@@ -46,10 +44,10 @@ pub fn to_lines(alloc: Global, bytes: &[u8], out: &mut Vec<u8>) -> Result<(), Ca
     ensures want { result ≡ Err faults.OutOfMemory → out.new.items ≡ out.old.items }
 {
     let start = out.len();
-    let done = put_lines(alloc, &bytes[..LONGEST.min(bytes.len())], out);
+    let done = write_lines(alloc, &bytes[..MOST_CAPTURE.min(bytes.len())], out);
     match done {
-        Ok(()) if bytes.len() > LONGEST => Err(CaptureFault::Frame {
-            place: LONGEST as u32,
+        Ok(()) if bytes.len() > MOST_CAPTURE => Err(CaptureFault::Frame {
+            place: MOST_CAPTURE as u32,
             rule: 0,
         }),
         Err(CaptureFault::OutOfMemory) => {
@@ -62,8 +60,8 @@ pub fn to_lines(alloc: Global, bytes: &[u8], out: &mut Vec<u8>) -> Result<(), Ca
 
 // Appends the line of each frame of bytes within the limit. Where memory runs out, some lines are
 // appended.
-fn put_lines(alloc: Global, bytes: &[u8], out: &mut Vec<u8>) -> Result<(), CaptureFault>
-    requires { length bytes.now ≤ longest }
+fn write_lines(alloc: Global, bytes: &[u8], out: &mut Vec<u8>) -> Result<(), CaptureFault>
+    requires { length bytes.now ≤ MOST_CAPTURE }
     ensures whole { OnOk result (WroteLines bytes.now [] out.old.items out.new.items) }
     ensures frame { (place rule : ℕ) → result ≡ Err (faults.Frame place rule) →
         (before : List Frame) × IsBadAt bytes.now place rule before × (out.new.items ≡ out.old.items ++ all_lines before) }
@@ -72,14 +70,14 @@ fn put_lines(alloc: Global, bytes: &[u8], out: &mut Vec<u8>) -> Result<(), Captu
     let mut rest = bytes;
     while !rest.is_empty() {
         let place = (bytes.len() - rest.len()) as u32;
-        rest = put_first(alloc, rest, place, out)?;
+        rest = write_first(alloc, rest, place, out)?;
     }
     Ok(())
 }
 
 // Appends the line of the frame at the front, which stands at this place, and gives what follows
 // it. On a fault nothing is appended.
-fn put_first<'a>(
+fn write_first<'a>(
     alloc: Global,
     bytes: &'a [u8],
     place: u32,
@@ -93,7 +91,7 @@ fn put_first<'a>(
     let Some((frame, after)) = split_frame(bytes) else {
         return Err(CaptureFault::Frame { place, rule: 0 });
     };
-    match put_line(alloc, frame, out) {
+    match line_of(alloc, frame, out) {
         Ok(()) => Ok(after),
         Err(fault) => match rule_number(fault) {
             Some(rule) => Err(CaptureFault::Frame { place, rule }),
@@ -103,21 +101,21 @@ fn put_first<'a>(
 }
 
 // Appends the line of the frame that the bytes spell. On a fault nothing is appended.
-fn put_line(alloc: Global, bytes: &[u8], out: &mut Vec<u8>) -> Result<(), FrameFault>
+fn line_of(alloc: Global, bytes: &[u8], out: &mut Vec<u8>) -> Result<(), FrameFault>
     requires { length bytes.now < 2 ^ 24 }
     ensures ok { OnOk result ((f : Frame) × Spells f bytes.now × (out.new.items ≡ out.old.items ++ ended (line_of f))) }
     ensures rule { IfErr result (λ fault. IsLeastBroken fault bytes.now) }
     ensures err { OnErr result (out.new.items ≡ out.old.items) }
 {
     let frame = decode(alloc, bytes)?;
-    match put_ended(&frame, out) {
+    match write_ended(&frame, out) {
         Ok(()) => Ok(()),
         Err(OutOfMemory) => Err(FrameFault::OutOfMemory),
     }
 }
 
 // Appends the line of the frame and a line feed, or nothing.
-fn put_ended(frame: &Frame, out: &mut Vec<u8>) -> Result<(), OutOfMemory>
+fn write_ended(frame: &Frame, out: &mut Vec<u8>) -> Result<(), OutOfMemory>
     requires { IsSpellable frame.now }
     ensures ok { OnOk result (out.new.items ≡ out.old.items ++ ended (line_of frame.now)) }
     ensures err { OnErr result (out.new.items ≡ out.old.items) }

@@ -6,7 +6,7 @@ const REQUEST_N: [u8; 13] = [0, 0, 10, 0, 0, 0, 1, 0x20, 0, 0x7f, 0xff, 0xff, 0x
 // CANCEL of stream 2, after its length, with a flag that no row names.
 const CANCEL: [u8; 9] = [0, 0, 6, 0, 0, 0, 2, 0x24, 1];
 
-// The answer, and the text behind `#` afterwards.
+// Whether this is the answer, and these lines are appended to a `#`.
 fn told(rt: &HostRuntime, bytes: &[u8], answer: Result<(), CaptureFault>, lines: &[u8]) -> bool {
     let mut out = Vec::new(rt.alloc());
     if out.push(b'#').is_err() {

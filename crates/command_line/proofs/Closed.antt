@@ -7,7 +7,7 @@ use Rattle.clap.specs.Walk.{Row, Rule, Text, arg_by_long, one_of, rows_after, us
 use Rattle.clap.specs.Simple.{Shape, built, filled, matches_of, with_index}
 use Rattle.clap.specs.Faults.{fault_of, long_fault, walk_fault}
 use Rattle.clap.proofs.OnLiterals.{clap_on_literals}
-use Rattle.command_line.specs.Words.{cable_app, flag, frames_app}
+use Rattle.command_line.specs.Words.{cable_app, flag_rule, frames_app}
 use Rattle.command_line.proofs.OneWord.{IsBare, IsEnd, behind_end, first_empty, held, one_word, only_the_end, second_empty, start}
 use Rattle.command_line.proofs.LongWords.{flag_word}
 
@@ -34,7 +34,7 @@ abbrev pub IsFrames : List Text → Type 0
 IsFrames words = IsEnd words ⊎ ((rest : List Text) × (words ≡ codes "--back" ∷ rest) × IsEnd rest)
 
 abbrev back : Rule
-back = with_index 1 (filled (flag (codes "back")))
+back = with_index 1 (filled (flag_rule (codes "back")))
 
 -- the rows once `--back` was read
 abbrev turned : List Row

@@ -17,14 +17,14 @@ abbrev pub bare : List ℕ → App
 bare name = on_top (λ s. record s { disable_help_flag = true }) (new_app name)
 
 -- the flag `--name`
-abbrev pub flag : List ℕ → Rule
-flag name = record (new_rule name) { long = Some name; action = Some SetTrue }
+abbrev pub flag_rule : List ℕ → Rule
+flag_rule name = record (new_rule name) { long = Some name; action = Some SetTrue }
 
 abbrev pub cable_app : App
 cable_app = bare (codes "cable")
 
 abbrev pub frames_app : App
-frames_app = with_rule (bare (codes "frames")) (flag (codes "back"))
+frames_app = with_rule (bare (codes "frames")) (flag_rule (codes "back"))
 
 -- ---- what clap reads by them
 

@@ -12,9 +12,10 @@ use Rattle.rs_wire.specs.declared.words.Kind.TheVariants as kinds
 use Rattle.rs_frame.specs.Spelling.{FieldsFit, InitialFits}
 use Rattle.rs_frame.specs.declared.frame.Frame.{Frame}
 use Rattle.rs_frame.specs.declared.frame.Frame.TheVariants as frames
-use Rattle.frame_text.specs.Lines.{HasBytes, HasOption, fields_of, kind_name, line_of, name_of}
-use Rattle.frame_text.specs.Spelled.{bytes_of, channel_words, found, option_of, payload_words, respond_words, setup_words}
-use Rattle.frame_text.specs.Words.{blob_word, flags_word, letter_if, option_word}
+use Rattle.frame_text.specs.Lines.{HasBytes, HasOption, fields_of, line_of}
+use Rattle.frame_text.specs.Names.{frame_name, kind_name}
+use Rattle.frame_text.specs.Spelled.{bytes_of, channel_words, meaning_in, option_of, payload_words, respond_words, setup_words}
+use Rattle.frame_text.specs.Words.{blob_word, letters_word, letter_if, option_word}
 use Rattle.frame_text.proofs.Steps.{AllAboveSpace, AboveSpace, AboveSpace-blob, AboveSpace-decimal, AboveSpace-option, bytes_again, option_again, same_words}
 
 -- ---- a frame from the words of its line
@@ -38,16 +39,16 @@ or_none none None = none
 or_none none (Some a) = a
 
 abbrev setup_flags_of : List ℕ → Bool × Bool
-setup_flags_of word = or_none (false, false) (found setup_words word)
+setup_flags_of word = or_none (false, false) (meaning_in setup_words word)
 
 abbrev respond_of : List ℕ → Bool
-respond_of word = or_none false (found respond_words word)
+respond_of word = or_none false (meaning_in respond_words word)
 
 abbrev channel_of : List ℕ → Bool × Bool
-channel_of word = or_none (false, false) (found channel_words word)
+channel_of word = or_none (false, false) (meaning_in channel_words word)
 
 abbrev payload_of : List ℕ → Bool × Bool × Bool
-payload_of word = or_none (false, false, false) (found payload_words word)
+payload_of word = or_none (false, false, false) (meaning_in payload_words word)
 
 abbrev setup_from : List (List ℕ) → Frame
 setup_from ws = frames.Setup (record {
@@ -113,23 +114,23 @@ from_words (name ∷ ws) =
 back : (n : ℕ) → n < 2 ^ 64 → digits_value 10 (decimal n) ≡ n
 back n small = (decimal_is_IsNumeral n small).1
 
-setup_again : (r l : Bool) → setup_flags_of (flags_word (letter_if r (codes "R") ++ letter_if l (codes "L"))) ≡ (r, l)
+setup_again : (r l : Bool) → setup_flags_of (letters_word (letter_if r (codes "R") ++ letter_if l (codes "L"))) ≡ (r, l)
 setup_again false false = refl
 setup_again true false = refl
 setup_again false true = refl
 setup_again true true = refl
 
-respond_again : (r : Bool) → respond_of (flags_word (letter_if r (codes "R"))) ≡ r
+respond_again : (r : Bool) → respond_of (letters_word (letter_if r (codes "R"))) ≡ r
 respond_again false = refl
 respond_again true = refl
 
-channel_again : (f c : Bool) → channel_of (flags_word (letter_if f (codes "F") ++ letter_if c (codes "C"))) ≡ (f, c)
+channel_again : (f c : Bool) → channel_of (letters_word (letter_if f (codes "F") ++ letter_if c (codes "C"))) ≡ (f, c)
 channel_again false false = refl
 channel_again true false = refl
 channel_again false true = refl
 channel_again true true = refl
 
-payload_again : (f c n : Bool) → payload_of (flags_word (letter_if f (codes "F") ++ (letter_if c (codes "C") ++ letter_if n (codes "N")))) ≡ (f, c, n)
+payload_again : (f c n : Bool) → payload_of (letters_word (letter_if f (codes "F") ++ (letter_if c (codes "C") ++ letter_if n (codes "N")))) ≡ (f, c, n)
 payload_again false false false = refl
 payload_again true false false = refl
 payload_again false true false = refl
@@ -209,18 +210,18 @@ payload_is : {a a' : ℕ} {f f' : Bool × Bool × Bool} {m m' : Option (List ℕ
 payload_is p1 p2 p3 p4 = cc
 
 plain_again : (kind : Kind) (stream : ℕ) (follows complete : Bool) (initial : Option ℕ) (m : Message) → initial ≡ None → complete ≡ false → stream < 2 ^ 31 → HasBytes (made kind stream follows complete initial m)
-    → plain_from kind (decimal stream ∷ flags_word (letter_if follows (codes "F") ++ letter_if complete (codes "C")) ∷ option_word m.metadata ∷ blob_word m.content ∷ []) ≡ made kind stream follows complete initial m
+    → plain_from kind (decimal stream ∷ letters_word (letter_if follows (codes "F") ++ letter_if complete (codes "C")) ∷ option_word m.metadata ∷ blob_word m.content ∷ []) ≡ made kind stream follows complete initial m
 plain_again kind stream follows complete initial m none whole fits has =
     request_is (back stream (omega (arith, fits))) (ap (λ (p : Bool × Bool). p.0) (channel_again follows complete)) (sym whole) (sym none) (option_again m.metadata has.0) (bytes_again m.content has.1)
 
 counted_again : (kind : Kind) (stream : ℕ) (follows complete : Bool) (n : ℕ) (m : Message) → n < 2 ^ 31 → stream < 2 ^ 31 → HasBytes (made kind stream follows complete (Some n) m)
-    → counted_from kind (decimal stream ∷ flags_word (letter_if follows (codes "F") ++ letter_if complete (codes "C")) ∷ decimal n ∷ option_word m.metadata ∷ blob_word m.content ∷ []) ≡ made kind stream follows complete (Some n) m
+    → counted_from kind (decimal stream ∷ letters_word (letter_if follows (codes "F") ++ letter_if complete (codes "C")) ∷ decimal n ∷ option_word m.metadata ∷ blob_word m.content ∷ []) ≡ made kind stream follows complete (Some n) m
 counted_again kind stream follows complete n m fits_n fits has =
     request_is (back stream (omega (arith, fits))) (ap (λ (p : Bool × Bool). p.0) (channel_again follows complete)) (ap (λ (p : Bool × Bool). p.1) (channel_again follows complete))
     (ap (λ (k : ℕ). Some k) (back n (omega (arith, fits_n)))) (option_again m.metadata has.0) (bytes_again m.content has.1)
 
 request_again : (kind : Kind) (stream : ℕ) (follows complete : Bool) (initial : Option ℕ) (m : Message) → FieldsFit (made kind stream follows complete initial m) → HasBytes (made kind stream follows complete initial m)
-    → from_words (name_of (made kind stream follows complete initial m) ∷ fields_of (made kind stream follows complete initial m)) ≡ made kind stream follows complete initial m
+    → from_words (frame_name (made kind stream follows complete initial m) ∷ fields_of (made kind stream follows complete initial m)) ≡ made kind stream follows complete initial m
 unfolding from_words
 request_again kinds.Response stream follows complete None m fits has = plain_again kinds.Response stream follows complete None m refl fits.1.1 fits.0.1 has
 request_again kinds.Response stream follows complete (Some n) m fits has = absurd (no_some n fits.1.0)
@@ -231,7 +232,7 @@ request_again kinds.Stream stream follows complete (Some n) m fits has = counted
 request_again kinds.Channel stream follows complete None m fits has = absurd (no_none fits.1.0 fits.1.1)
 request_again kinds.Channel stream follows complete (Some n) m fits has = counted_again kinds.Channel stream follows complete n m (same_below n fits.1.0 fits.1.1 fits.1.2.1) fits.0.1 has
 
-again : (f : Frame) → FieldsFit f → HasBytes f → from_words (name_of f ∷ fields_of f) ≡ f
+again : (f : Frame) → FieldsFit f → HasBytes f → from_words (frame_name f ∷ fields_of f) ≡ f
 unfolding from_words
 again (frames.Setup s) fits has =
     setup_is (option_again s.resume has.0) (ap (λ (p : Bool × Bool). p.1) (setup_again (is_some s.resume) s.lease))
@@ -262,23 +263,23 @@ clean (b ∷ w) h =
     let p = and_parts (ltb 32 b) (list_all (λ b. ltb 32 b) w) h in
     (ltb-true 32 b p.0, clean w p.1)
 
-pub setup_clean : (r l : Bool) → AboveSpace (flags_word (letter_if r (codes "R") ++ letter_if l (codes "L")))
+pub setup_clean : (r l : Bool) → AboveSpace (letters_word (letter_if r (codes "R") ++ letter_if l (codes "L")))
 setup_clean false false = clean (codes "-") refl
 setup_clean true false = clean (codes "R") refl
 setup_clean false true = clean (codes "L") refl
 setup_clean true true = clean (codes "RL") refl
 
-pub respond_clean : (r : Bool) → AboveSpace (flags_word (letter_if r (codes "R")))
+pub respond_clean : (r : Bool) → AboveSpace (letters_word (letter_if r (codes "R")))
 respond_clean false = clean (codes "-") refl
 respond_clean true = clean (codes "R") refl
 
-pub channel_clean : (f c : Bool) → AboveSpace (flags_word (letter_if f (codes "F") ++ letter_if c (codes "C")))
+pub channel_clean : (f c : Bool) → AboveSpace (letters_word (letter_if f (codes "F") ++ letter_if c (codes "C")))
 channel_clean false false = clean (codes "-") refl
 channel_clean true false = clean (codes "F") refl
 channel_clean false true = clean (codes "C") refl
 channel_clean true true = clean (codes "FC") refl
 
-pub payload_clean : (f c n : Bool) → AboveSpace (flags_word (letter_if f (codes "F") ++ (letter_if c (codes "C") ++ letter_if n (codes "N"))))
+pub payload_clean : (f c n : Bool) → AboveSpace (letters_word (letter_if f (codes "F") ++ (letter_if c (codes "C") ++ letter_if n (codes "N"))))
 payload_clean false false false = clean (codes "-") refl
 payload_clean true false false = clean (codes "F") refl
 payload_clean false true false = clean (codes "C") refl
@@ -294,7 +295,7 @@ kind_clean kinds.Fnf = clean (codes "REQUEST_FNF") refl
 kind_clean kinds.Stream = clean (codes "REQUEST_STREAM") refl
 kind_clean kinds.Channel = clean (codes "REQUEST_CHANNEL") refl
 
-pub name_clean : (f : Frame) → AboveSpace (name_of f)
+pub name_clean : (f : Frame) → AboveSpace (frame_name f)
 name_clean (frames.Setup s) = clean (codes "SETUP") refl
 name_clean (frames.Lease ttl count metadata) = clean (codes "LEASE") refl
 name_clean (frames.Keepalive respond position content) = clean (codes "KEEPALIVE") refl
@@ -367,5 +368,5 @@ words_clean (frames.Unknown stream number flags rest) fits has =
 pub one_frame : (f g : Frame) → FieldsFit f → HasBytes f → FieldsFit g → HasBytes g → line_of f ≡ line_of g → f ≡ g
 one_frame f g fits has fits_g has_g same =
     sym (again f fits has)
-    ∙ ap from_words (same_words (name_of f) (name_of g) (fields_of f) (fields_of g) (name_clean f) (name_clean g) (words_clean f fits has) (words_clean g fits_g has_g) same)
+    ∙ ap from_words (same_words (frame_name f) (frame_name g) (fields_of f) (fields_of g) (name_clean f) (name_clean g) (words_clean f fits has) (words_clean g fits_g has_g) same)
     ∙ again g fits_g has_g

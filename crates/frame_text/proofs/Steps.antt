@@ -10,8 +10,10 @@ use Rattle.hex.specs.Hex.{IsBytes, decode_of, encode_lower, lower_digits}
 use Rattle.hex.proofs.HexLemmas.{decode_of-encode_lower, length-encode_with}
 use Rattle.frame_text.specs.Lines.{HasOption, spaced}
 use Rattle.frame_text.specs.Words.{blob_word, option_word}
-use Rattle.frame_text.specs.Spelled.{bytes_of, cut_word, decoded, is_dash, is_dot, is_lower, is_space, option_of}
-use Rattle.frame_text.proofs.Parts.{encode_is_lower, pick}
+use Rattle.frame_text.specs.Spelled.{bytes_of, cut_word, is_dash, is_space, option_of}
+use Rattle.plain_text.specs.Words.{is_lower}
+use Rattle.plain_text.proofs.Hex as hex
+use Rattle.plain_text.proofs.Hex.{encode_is_lower}
 
 -- each byte is above the space, and so neither a space nor a line feed
 abbrev pub AboveSpace : List ℕ → Type 0
@@ -91,11 +93,7 @@ even : (bytes : List ℕ) → length (encode_lower bytes) % 2 ≡ 0
 even bytes = let len = length-encode_with lower_digits bytes in omega (arith, len)
 
 pub bytes_again : (bytes : List ℕ) → IsBytes bytes → bytes_of (blob_word bytes) ≡ bytes
-unfolding bytes_of
-bytes_again [] all = refl
-bytes_again (b ∷ bytes) all =
-    let word = encode_lower (b ∷ bytes) in
-    pick (is_dot word) [] (decoded (decode_of word)) (even_is_not word 46 (even (b ∷ bytes))) ∙ ap decoded (decode_of-encode_lower (b ∷ bytes) all)
+bytes_again bytes all = hex.bytes_again 46 bytes all
 
 pub no_dash : (bytes : List ℕ) → is_dash (blob_word bytes) ≡ false
 no_dash [] = refl

@@ -6,9 +6,9 @@ use Rattle.rs_frame.specs.Spelling.{FieldsFit}
 use Rattle.frame_text.specs.declared.fault.TextFault.{TextFault}
 use Rattle.frame_text.specs.declared.fault.TextFault.TheVariants as faults
 use Rattle.frame_text.specs.Lines.{HasBytes, line_of}
-use Rattle.frame_text.specs.Reading.{IsFaultOf, Tells, words_of}
+use Rattle.frame_text.specs.Reading.{IsFaultOfFrame, Tells, words_of}
 
-pub tells : (line : List ℕ) (f : Frame) (answer : Result Frame TextFault) → words_of line ≡ Ok tt → line ≡ line_of f → FieldsFit f → HasBytes f → IfErr answer (IsFaultOf f) → Tells line answer
+pub tells : (line : List ℕ) (f : Frame) (answer : Result Frame TextFault) → words_of line ≡ Ok tt → line ≡ line_of f → FieldsFit f → HasBytes f → IfErr answer (IsFaultOfFrame f) → Tells line answer
 tells line f (Ok g) words is fits has fault = words
 tells line f (Err (faults.BadWord place)) words is fits has fault = absurd fault
 tells line f (Err (faults.BadNumber place)) words is fits has fault = absurd fault

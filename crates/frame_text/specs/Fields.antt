@@ -8,8 +8,8 @@ use Rattle.frame_text.specs.declared.fields.Fields.{Fields}
 use Rattle.frame_text.specs.declared.fields.Fields.TheVariants as fields
 use Rattle.frame_text.specs.Spelled.{bytes_of, is_blob, is_dash, option_of}
 
-abbrev pub message_of : MessageWords → Message
-message_of m = record { metadata = option_of m.metadata.now; content = bytes_of m.content.now }
+abbrev pub message_from : MessageWords → Message
+message_from m = record { metadata = option_of m.metadata.now; content = bytes_of m.content.now }
 
 -- the frame whose bytes the words spell
 abbrev pub frame_of : Fields → Frame
@@ -22,7 +22,7 @@ frame_of (fields.Setup s) = frames.Setup (record {
   lifetime = s.lifetime;
   metadata_mime = bytes_of s.metadata_mime.now;
   content_mime = bytes_of s.content_mime.now;
-  message = message_of s.message;
+  message = message_from s.message;
 })
 frame_of (fields.Lease ttl count metadata) = frames.Lease ttl count (option_of metadata.now)
 frame_of (fields.Keepalive respond position content) = frames.Keepalive respond position (bytes_of content.now)
@@ -42,11 +42,11 @@ frame_of (fields.Request r) = frames.Request (record {
   follows = r.follows;
   complete = r.complete;
   initial = r.initial;
-  message = message_of r.message;
+  message = message_from r.message;
 })
 frame_of (fields.RequestN stream n) = frames.RequestN stream n
 frame_of (fields.Cancel stream) = frames.Cancel stream
-frame_of (fields.Payload stream follows complete next message) = frames.Payload stream follows complete next (message_of message)
+frame_of (fields.Payload stream follows complete next message) = frames.Payload stream follows complete next (message_from message)
 frame_of (fields.Error stream code content) = frames.Error stream code (bytes_of content.now)
 frame_of (fields.Unknown stream number flags rest) = frames.Unknown stream number flags (bytes_of rest.now)
 

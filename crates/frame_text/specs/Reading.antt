@@ -7,14 +7,15 @@ use Rattle.frame_text.specs.declared.fault.TextFault.TheVariants as faults
 use Rattle.frame_text.specs.declared.fault.Wrong.{Wrong}
 use Rattle.frame_text.specs.declared.fault.Wrong.TheVariants as wrongs
 use Rattle.frame_text.specs.Lines.{HasBytes, line_of}
-use Rattle.frame_text.specs.Spelled.{bytes_of, channel_words, cut_word, follows_words, found, is_blob, is_dash, number_of, payload_words, respond_words, setup_words}
+use Rattle.frame_text.specs.Spelled.{bytes_of, channel_words, cut_word, follows_words, meaning_in, is_blob, is_dash, payload_words, respond_words, setup_words}
+use Rattle.plain_text.specs.Words.{number_in}
 
 infixl 10 ◌>>=◌
 abbrev pub ◌>>=◌ : {A B : Type 0} → Result A Wrong → (A → Result B Wrong) → Result B Wrong
 (Ok x) >>= f = f x
 (Err e) >>= f = Err e
 
--- the next word, and what is left behind it
+-- the next word, and what is left after it
 abbrev pub next_at : ℕ → Option (List ℕ) → Result (List ℕ × Option (List ℕ)) Wrong
 next_at place None = Err (wrongs.Word place)
 next_at place (Some line) = Ok (cut_word line)
@@ -25,8 +26,8 @@ tested true fault rest = Ok rest
 tested false fault rest = Err fault
 
 -- a number in a range
-unfoldable pub number_at : ℕ → ℕ → ℕ → Option (List ℕ) → Result (Option (List ℕ)) Wrong
-number_at place low high line = next_at place line >>= λ w. tested (is_some (number_of low high w.0)) (wrongs.Number place) w.1
+unfoldable pub decimal_at : ℕ → ℕ → ℕ → Option (List ℕ) → Result (Option (List ℕ)) Wrong
+decimal_at place low high line = next_at place line >>= λ w. tested (is_some (number_in low high w.0)) (wrongs.Number place) w.1
 
 -- the stream 0
 unfoldable pub zero_at : Option (List ℕ) → Result (Option (List ℕ)) Wrong
@@ -38,13 +39,13 @@ is_unnamed None = false
 is_unnamed (Some n) = (n == 0) || (nat_le 15 n && nat_le n 62)
 
 unfoldable pub unnamed_at : ℕ → Option (List ℕ) → Result (Option (List ℕ)) Wrong
-unnamed_at place line = next_at place line >>= λ w. tested (is_unnamed (number_of 0 63 w.0)) (wrongs.Number place) w.1
+unnamed_at place line = next_at place line >>= λ w. tested (is_unnamed (number_in 0 63 w.0)) (wrongs.Number place) w.1
 
 -- flags, by the table of their words
 unfoldable pub flags_at : {A : Type 0} → ℕ → List (List ℕ × A) → Option (List ℕ) → Result (Option (List ℕ)) Wrong
-flags_at place table line = next_at place line >>= λ w. tested (is_some (found table w.0)) (wrongs.Word place) w.1
+flags_at place table line = next_at place line >>= λ w. tested (is_some (meaning_in table w.0)) (wrongs.Word place) w.1
 
--- bytes; at most so many bytes; and bytes that may be absent
+-- bytes; at most `most` bytes; and bytes that may be absent
 unfoldable pub blob_at : ℕ → Option (List ℕ) → Result (Option (List ℕ)) Wrong
 blob_at place line = next_at place line >>= λ w. tested (is_blob w.0) (wrongs.Hex place) w.1
 
@@ -67,7 +68,7 @@ asks (Some f) = f.0
 
 unfoldable pub asks_in : Option (List ℕ) → Bool
 asks_in None = false
-asks_in (Some line) = asks (found setup_words (cut_word line).0)
+asks_in (Some line) = asks (meaning_in setup_words (cut_word line).0)
 
 abbrev pub fits_asked : Bool → Bool → Bool
 fits_asked true dash = not dash
@@ -85,25 +86,25 @@ end_at place (Some line) = Err (wrongs.Word place)
 
 -- the ranges of numbers
 abbrev pub stream_at : Option (List ℕ) → Result (Option (List ℕ)) Wrong
-stream_at line = number_at 1 1 2147483647 line
+stream_at line = decimal_at 1 1 2147483647 line
 
 abbrev pub stream_or_zero_at : Option (List ℕ) → Result (Option (List ℕ)) Wrong
-stream_or_zero_at line = number_at 1 0 2147483647 line
+stream_or_zero_at line = decimal_at 1 0 2147483647 line
 
 abbrev pub amount_at : ℕ → Option (List ℕ) → Result (Option (List ℕ)) Wrong
-amount_at place line = number_at place 1 2147483647 line
+amount_at place line = decimal_at place 1 2147483647 line
 
 abbrev pub below_31_at : ℕ → Option (List ℕ) → Result (Option (List ℕ)) Wrong
-below_31_at place line = number_at place 0 2147483647 line
+below_31_at place line = decimal_at place 0 2147483647 line
 
 abbrev pub below_63_at : ℕ → Option (List ℕ) → Result (Option (List ℕ)) Wrong
-below_63_at place line = number_at place 0 9223372036854775807 line
+below_63_at place line = decimal_at place 0 9223372036854775807 line
 
 abbrev pub version_at : ℕ → Option (List ℕ) → Result (Option (List ℕ)) Wrong
-version_at place line = number_at place 0 65535 line
+version_at place line = decimal_at place 0 65535 line
 
 abbrev pub kept_flags_at : ℕ → Option (List ℕ) → Result (Option (List ℕ)) Wrong
-kept_flags_at place line = number_at place 0 1023 line
+kept_flags_at place line = decimal_at place 0 1023 line
 
 -- metadata and content
 unfoldable pub message_at : ℕ → Option (List ℕ) → Result (Option (List ℕ)) Wrong
@@ -141,7 +142,7 @@ abbrev pub payload_row : Option (List ℕ) → Result Unit Wrong
 payload_row line = stream_at line >>= flags_at 2 payload_words >>= message_at 3 >>= end_at 5
 
 abbrev pub error_row : Option (List ℕ) → Result Unit Wrong
-error_row line = stream_or_zero_at line >>= number_at 2 0 4294967295 >>= blob_at 3 >>= end_at 4
+error_row line = stream_or_zero_at line >>= decimal_at 2 0 4294967295 >>= blob_at 3 >>= end_at 4
 
 abbrev pub metadata_push_row : Option (List ℕ) → Result Unit Wrong
 metadata_push_row line = zero_at line >>= blob_at 2 >>= end_at 3
@@ -172,8 +173,8 @@ other_row name line =
     else if bytes_eq name (codes "UNKNOWN") then unknown_row line
     else Err (wrongs.Word 0)
 
-unfoldable pub row_at : List ℕ → Option (List ℕ) → Result Unit Wrong
-row_at name line =
+unfoldable pub named_row : List ℕ → Option (List ℕ) → Result Unit Wrong
+named_row name line =
     if bytes_eq name (codes "SETUP") then setup_row line
     else if bytes_eq name (codes "LEASE") then lease_row line
     else if bytes_eq name (codes "KEEPALIVE") then keepalive_row line
@@ -185,24 +186,24 @@ row_at name line =
 
 -- the words of a line: all are right, or which is the first that is wrong
 abbrev pub words_of : List ℕ → Result Unit Wrong
-words_of line = row_at (cut_word line).0 (cut_word line).1
+words_of line = named_row (cut_word line).0 (cut_word line).1
 
 -- the faults of a line whose words are those of this frame
-abbrev pub IsFaultOf : Frame → TextFault → Type 0
-IsFaultOf f (faults.BadWord place) = ⊥
-IsFaultOf f (faults.BadNumber place) = ⊥
-IsFaultOf f (faults.BadHex place) = ⊥
-IsFaultOf f (faults.TooLong n) = (n ≡ length_of f) × (16777215 < n)
-IsFaultOf f faults.OutOfMemory = IsSpellable f
+abbrev pub IsFaultOfFrame : Frame → TextFault → Type 0
+IsFaultOfFrame f (faults.BadWord place) = ⊥
+IsFaultOfFrame f (faults.BadNumber place) = ⊥
+IsFaultOfFrame f (faults.BadHex place) = ⊥
+IsFaultOfFrame f (faults.TooLong n) = (n ≡ length_of f) × (16777215 < n)
+IsFaultOfFrame f faults.OutOfMemory = IsSpellable f
 
 -- every word of the line is right, and it is the line of a frame with this fault
-pub record IsRight (line : List ℕ) (fault : TextFault) : Type 0 where
+pub record IsRightLine (line : List ℕ) (fault : TextFault) : Type 0 where
   pub frame : Frame
   pub words : words_of line ≡ Ok tt
   pub line_is : line ≡ line_of frame
   pub fits : FieldsFit frame
   pub has_bytes : HasBytes frame
-  pub fault_is : IsFaultOf frame fault
+  pub fault_is : IsFaultOfFrame frame fault
 
 -- what an answer tells of a line: a wrong word is the first that is wrong; the other faults come only where every word is right
 abbrev pub Tells : List ℕ → Result Frame TextFault → Type 0
@@ -210,5 +211,5 @@ Tells line (Ok f) = words_of line ≡ Ok tt
 Tells line (Err (faults.BadWord place)) = words_of line ≡ Err (wrongs.Word place)
 Tells line (Err (faults.BadNumber place)) = words_of line ≡ Err (wrongs.Number place)
 Tells line (Err (faults.BadHex place)) = words_of line ≡ Err (wrongs.Hex place)
-Tells line (Err (faults.TooLong n)) = IsRight line (faults.TooLong n)
-Tells line (Err faults.OutOfMemory) = IsRight line faults.OutOfMemory
+Tells line (Err (faults.TooLong n)) = IsRightLine line (faults.TooLong n)
+Tells line (Err faults.OutOfMemory) = IsRightLine line faults.OutOfMemory

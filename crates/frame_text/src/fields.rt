@@ -3,7 +3,7 @@
 
 ghost use Rattle.std.specs.Prelude.{◌≡◌, ◌+◌, ◌<◌, ◌^◌, IfOk, IfSome, IsTrue, length};
 ghost use Rattle.rs_frame.specs.Spelling.{FieldsFit, body_of, if_there, length_of, payload, to_end};
-ghost use Rattle.frame_text.specs.Fields.{AreBlobs, IsMessage, IsOption, frame_of, message_of};
+ghost use Rattle.frame_text.specs.Fields.{AreBlobs, IsMessage, IsOption, frame_of, message_from};
 ghost use Rattle.frame_text.specs.Spelled.{option_of};
 
 use crate::spelled::{blob, is_dash, option, size};
@@ -14,80 +14,113 @@ use std::alloc::Global;
 /// The words of a message.
 #[derive(Clone, Copy)]
 pub struct MessageWords<'a> {
+    /// The word of the metadata, a dash where it is absent.
     pub metadata: &'a [u8],
+    /// The word of the content.
     pub content: &'a [u8],
 }
 
 /// The fields of a SETUP; the token is a dash where resumption is not asked for.
 #[derive(Clone, Copy)]
 pub struct SetupWords<'a> {
+    /// The word of the token, a dash where resumption is not asked for.
     pub token: &'a [u8],
+    /// Whether leases are asked for.
     pub lease: bool,
+    /// The major version.
     pub major: u16,
+    /// The minor version.
     pub minor: u16,
+    /// Milliseconds between two keepalives.
     pub keepalive: Amount,
+    /// Milliseconds after which a silent peer is dead.
     pub lifetime: Amount,
+    /// The word of the name of the metadata's type.
     pub metadata_mime: &'a [u8],
+    /// The word of the name of the content's type.
     pub content_mime: &'a [u8],
+    /// The words of the message.
     pub message: MessageWords<'a>,
 }
 
 /// The fields of a request.
 #[derive(Clone, Copy)]
 pub struct RequestWords<'a> {
+    /// The stream id.
     pub stream: u32,
+    /// What is asked for.
     pub kind: Kind,
+    /// Whether more fragments follow.
     pub follows: bool,
+    /// Whether the requester sends nothing more.
     pub complete: bool,
+    /// The first credit, where the type has one.
     pub initial: Option<Amount>,
+    /// The words of the message.
     pub message: MessageWords<'a>,
 }
 
 /// The fields of a RESUME.
 #[derive(Clone, Copy)]
 pub struct ResumeWords<'a> {
+    /// The major version.
     pub major: u16,
+    /// The minor version.
     pub minor: u16,
+    /// The word of the token.
     pub token: &'a [u8],
+    /// The last position that the client received.
     pub server_position: u64,
+    /// The first position that the client holds.
     pub client_position: u64,
 }
 
 /// The fields of a frame.
 #[derive(Clone, Copy)]
 pub enum Fields<'a> {
+    /// SETUP.
     Setup(SetupWords<'a>),
+    /// LEASE: milliseconds, requests and metadata.
     Lease {
         ttl: u32,
         count: u32,
         metadata: &'a [u8],
     },
+    /// KEEPALIVE.
     Keepalive {
         respond: bool,
         position: u64,
         content: &'a [u8],
     },
+    /// METADATA_PUSH.
     MetadataPush {
         metadata: &'a [u8],
     },
+    /// RESUME.
     Resume(ResumeWords<'a>),
+    /// RESUME_OK.
     ResumeOk {
         position: u64,
     },
+    /// EXT.
     Ext {
         stream: u32,
         flags: u16,
         extended: u32,
         rest: &'a [u8],
     },
+    /// One of the four requests.
     Request(RequestWords<'a>),
+    /// REQUEST_N.
     RequestN {
         stream: u32,
         n: Amount,
     },
+    /// CANCEL.
     Cancel {
         stream: u32,
     },
+    /// PAYLOAD.
     Payload {
         stream: u32,
         follows: bool,
@@ -95,11 +128,13 @@ pub enum Fields<'a> {
         next: bool,
         message: MessageWords<'a>,
     },
+    /// ERROR.
     Error {
         stream: u32,
         code: u32,
         content: &'a [u8],
     },
+    /// A frame of a type that the standard does not name.
     Unknown {
         stream: u32,
         number: u8,
@@ -110,7 +145,7 @@ pub enum Fields<'a> {
 
 fn message(alloc: Global, words: &MessageWords<'_>) -> Result<Message, OutOfMemory>
     requires { IsMessage words.now }
-    ensures { IfOk result (λ m. m ≡ message_of words.now) }
+    ensures { IfOk result (λ m. m ≡ message_from words.now) }
 {
     let metadata = option(alloc, words.metadata)?;
     let content = blob(alloc, words.content)?;
@@ -290,7 +325,7 @@ fn end_size(word: &[u8]) -> u64
 
 fn message_length(words: &MessageWords<'_>) -> u64
     requires { IsMessage words.now }
-    ensures value { result ≡ length (payload (message_of words.now)) }
+    ensures value { result ≡ length (payload (message_from words.now)) }
     ensures bound { result < 2 ^ 63 + 2 ^ 8 }
 {
     metadata_size(words.metadata) + size(words.content)

@@ -17,6 +17,7 @@ mod fault;
 mod fields;
 mod laws;
 mod lines;
+mod names;
 mod reading;
 mod spelled;
 mod stream_rows;
@@ -26,6 +27,7 @@ mod words;
 pub use fault::TextFault;
 pub use laws::line_laws;
 pub use lines::line_of;
+pub use names::{frame_name, kind_name};
 pub use reading::read_line;
 
 #[cfg(test)]

@@ -6,8 +6,8 @@ ghost use Rattle.std.specs.Result.{result_map_both};
 ghost use Rattle.rs_frame.specs.Spelling.{FieldsFit, IsSpellable};
 ghost use Rattle.frame_text.specs.Fields.{AreBlobs, frame_of};
 ghost use Rattle.frame_text.specs.Lines.{HasBytes, line_of};
-ghost use Rattle.frame_text.specs.Reading.{IsFaultOf, Tells, other_row, row_at};
-ghost use Rattle.frame_text.specs.Spelled.{behind};
+ghost use Rattle.frame_text.specs.Reading.{IsFaultOfFrame, Tells, other_row, named_row};
+ghost use Rattle.frame_text.specs.Spelled.{after_word};
 
 use crate::connection_rows::{keepalive, lease, metadata_push, resume, resume_ok, setup};
 use crate::fault::{TextFault, Wrong};
@@ -23,7 +23,7 @@ use std::alloc::Global;
 #[tactic(auto, unfolding(crate::specs::Reading::other_row))]
 fn other_fields<'a>(name: &[u8], line: Option<&'a [u8]>) -> Result<Fields<'a>, Wrong>
     ensures told { result_map_both (λ w. tt) (λ e. e) result ≡ other_row name.now (option_map (λ y. y.now) line.entry) }
-    ensures line { IfOk result (λ w. name.now ++ behind (option_map (λ y. y.now) line.entry) ≡ line_of (frame_of w)) }
+    ensures line { IfOk result (λ w. name.now ++ after_word (option_map (λ y. y.now) line.entry) ≡ line_of (frame_of w)) }
     ensures fits { IfOk result (λ w. FieldsFit (frame_of w) × AreBlobs w) }
 {
     if is(name, "REQUEST_N") {
@@ -57,10 +57,10 @@ fn other_fields<'a>(name: &[u8], line: Option<&'a [u8]>) -> Result<Fields<'a>, W
 }
 
 // The fields of a line with this name in front.
-#[tactic(auto, unfolding(crate::specs::Reading::row_at))]
+#[tactic(auto, unfolding(crate::specs::Reading::named_row))]
 fn fields_of<'a>(name: &[u8], line: Option<&'a [u8]>) -> Result<Fields<'a>, Wrong>
-    ensures told { result_map_both (λ w. tt) (λ e. e) result ≡ row_at name.now (option_map (λ y. y.now) line.entry) }
-    ensures line { IfOk result (λ w. name.now ++ behind (option_map (λ y. y.now) line.entry) ≡ line_of (frame_of w)) }
+    ensures told { result_map_both (λ w. tt) (λ e. e) result ≡ named_row name.now (option_map (λ y. y.now) line.entry) }
+    ensures line { IfOk result (λ w. name.now ++ after_word (option_map (λ y. y.now) line.entry) ≡ line_of (frame_of w)) }
     ensures fits { IfOk result (λ w. FieldsFit (frame_of w) × AreBlobs w) }
 {
     if is(name, "SETUP") {
@@ -92,7 +92,7 @@ fn whole(alloc: Global, fields: &Fields<'_>) -> Result<Frame, TextFault>
     requires fits { FieldsFit (frame_of fields.now) }
     requires blobs { AreBlobs fields.now }
     ensures found { IfOk result (λ f. (f ≡ frame_of fields.now) × IsSpellable f) }
-    ensures fault { IfErr result (IsFaultOf (frame_of fields.now)) }
+    ensures fault { IfErr result (IsFaultOfFrame (frame_of fields.now)) }
 {
     let length = fields::length(fields);
     if length > 16_777_215 {

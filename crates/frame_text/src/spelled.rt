@@ -1,12 +1,12 @@
 //! What a word of a line spells.
 
-ghost use Rattle.std.specs.Prelude.{◌≡◌, ◌≤◌, ◌<◌, ◌^◌, ◌++◌, ◌&&◌, ◌==◌, ℕ, IfNone, IfOk, IfSome, IsTrue, ◌⊎◌, bytes_eq, codes, decimal, false, length, position, slice_index};
-ghost use Rattle.std.specs.List.{list_all};
+ghost use Rattle.std.specs.Prelude.{◌≡◌, ◌<◌, ◌^◌, ◌++◌, IfOk, IfSome, IsTrue, ◌⊎◌, bytes_eq, codes, false, length, position, slice_index};
 ghost use Rattle.std.specs.Option.{option_map};
-ghost use Rattle.frame_text.specs.Spelled.{behind, bytes_of, channel_words, cut_word, follows_words, found, is_blob, is_dash, is_dot, is_lower, is_pairs, is_space, number_of, option_of, payload_words, respond_words, setup_words};
-ghost use Rattle.frame_text.specs.Words.{blob_word, flags_word, letter_if, option_word};
+ghost use Rattle.frame_text.specs.Spelled.{after_word, bytes_of, channel_words, cut_word, follows_words, meaning_in, is_blob, is_dash, is_space, option_of, payload_words, respond_words, setup_words};
+ghost use Rattle.frame_text.specs.Words.{blob_word, letters_word, letter_if, option_word};
 
-use itoa::Buffer;
+use crate::words::{ABSENT, NO_BYTES};
+use plain_text::{hex_size, is_hex_word, is_mark, read_hex};
 use rs_wire::{Blob, OutOfMemory};
 use std::alloc::Global;
 
@@ -17,10 +17,10 @@ fn first_space(line: &[u8]) -> Option<usize>
     line.iter().position(|b| *b == b' ')
 }
 
-/// The first word, and what stands after the space behind it.
+/// The first word, and what follows the space after it.
 pub fn next_word(line: &[u8]) -> (&[u8], Option<&[u8]>)
     ensures cut { (result.0.now, option_map (λ x. x.now) result.1) ≡ cut_word line.now }
-    ensures whole { line.now ≡ result.0.now ++ behind (option_map (λ x. x.now) result.1) }
+    ensures whole { line.now ≡ result.0.now ++ after_word (option_map (λ x. x.now) result.1) }
 {
     match first_space(line) {
         None => (line, None),
@@ -31,77 +31,19 @@ pub fn next_word(line: &[u8]) -> (&[u8], Option<&[u8]>)
     }
 }
 
-// The number that the word is the decimal text of, where it is at most so much.
-fn found_number(word: &[u8], most: u64) -> Option<u64>
-    ensures found { IfSome result (λ n. (word.now ≡ decimal n) × (n ≤ most)) }
-    ensures none { IfNone result ((n : ℕ) → n ≤ most → n < 2 ^ 64 → word.now ≡ decimal n → ⊥) }
-{
-    let Ok(text) = std::str::from_utf8(word) else {
-        return None;
-    };
-    let Ok(n) = text.parse::<u64>() else {
-        return None;
-    };
-    if n > most {
-        return None;
-    }
-    let mut buffer = Buffer::new();
-    if buffer.format(n).as_bytes() == word {
-        return Some(n);
-    }
-    None
-}
-
-/// The number that the word is the decimal text of, where it is in the range.
-pub fn number(word: &[u8], low: u64, high: u64) -> Option<u64>
-    ensures value { result ≡ number_of low high word.now }
-    ensures spelled { IfSome result (λ n. (word.now ≡ decimal n) × (low ≤ n) × (n ≤ high)) }
-{
-    match found_number(word, high) {
-        Some(n) if low <= n => Some(n),
-        _ => None,
-    }
-}
-
-fn is_lower_hex(b: u8) -> bool
-    ensures { result ≡ is_lower b }
-{
-    matches!(b, b'0'..=b'9' | b'a'..=b'f')
-}
-
-fn is_all_lower(word: &[u8]) -> bool
-    ensures { result ≡ list_all is_lower word.now }
-{
-    word.iter().all(|b| is_lower_hex(*b))
-}
-
-fn is_dot(word: &[u8]) -> bool
-    ensures { result ≡ is_dot word.now }
-{
-    word.len() == 1 && word[0] == b'.'
-}
-
 /// Whether the word says that bytes are absent.
 pub fn is_dash(word: &[u8]) -> bool
     ensures { result ≡ is_dash word.now }
 {
-    word.len() == 1 && word[0] == b'-'
-}
-
-// Whether the word is lower-case digits, two a byte, for at least one byte.
-fn is_pairs(word: &[u8]) -> bool
-    ensures { result ≡ is_pairs word.now }
-{
-    !word.is_empty() && word.len() % 2 == 0 && is_all_lower(word)
+    is_mark(word, ABSENT)
 }
 
 /// Whether the word is the text of bytes.
-#[tactic(auto, using(crate::proofs::Parts::blob_back))]
 pub fn is_blob_word(word: &[u8]) -> bool
     ensures value { result ≡ is_blob word.now }
     ensures spelled { IsTrue result → word.now ≡ blob_word (bytes_of word.now) }
 {
-    is_dot(word) || is_pairs(word)
+    is_hex_word(word, NO_BYTES)
 }
 
 /// How many bytes the word is the text of.
@@ -110,25 +52,15 @@ pub fn size(word: &[u8]) -> u64
     ensures value { result ≡ length (bytes_of word.now) }
     ensures bound { result < 2 ^ 62 }
 {
-    if is_dot(word) {
-        return 0;
-    }
-    word.len() as u64 / 2
+    hex_size(word, NO_BYTES)
 }
 
 /// The bytes that the word is the text of.
-#[tactic(auto, unfolding(crate::specs::Spelled::bytes_of))]
 pub fn blob(alloc: Global, word: &[u8]) -> Result<Blob, OutOfMemory>
     requires { IsTrue (is_blob word.now) }
     ensures { IfOk result (λ b. b ≡ bytes_of word.now) }
 {
-    if is_dot(word) {
-        return Ok(Blob::from_vec(Vec::new(alloc)));
-    }
-    match hex::decode(alloc, word) {
-        Ok(bytes) => Ok(Blob::from_vec(bytes)),
-        Err(_) => Err(OutOfMemory),
-    }
+    read_hex(alloc, word, NO_BYTES)
 }
 
 /// The bytes, or none for a dash.
@@ -152,8 +84,8 @@ pub fn is(word: &[u8], text: &str) -> bool
 
 /// The flag R.
 pub fn respond(word: &[u8]) -> Option<bool>
-    ensures value { result ≡ found respond_words word.now }
-    ensures spelled { IfSome result (λ r. word.now ≡ flags_word (letter_if r (codes "R"))) }
+    ensures value { result ≡ meaning_in respond_words word.now }
+    ensures spelled { IfSome result (λ r. word.now ≡ letters_word (letter_if r (codes "R"))) }
 {
     if is(word, "-") {
         return Some(false);
@@ -166,8 +98,8 @@ pub fn respond(word: &[u8]) -> Option<bool>
 
 /// The flag F.
 pub fn follows(word: &[u8]) -> Option<bool>
-    ensures value { result ≡ found follows_words word.now }
-    ensures spelled { IfSome result (λ f. word.now ≡ flags_word (letter_if f (codes "F") ++ letter_if false (codes "C"))) }
+    ensures value { result ≡ meaning_in follows_words word.now }
+    ensures spelled { IfSome result (λ f. word.now ≡ letters_word (letter_if f (codes "F") ++ letter_if false (codes "C"))) }
 {
     if is(word, "-") {
         return Some(false);
@@ -180,8 +112,8 @@ pub fn follows(word: &[u8]) -> Option<bool>
 
 /// The flags R and L.
 pub fn resume_lease(word: &[u8]) -> Option<(bool, bool)>
-    ensures value { result ≡ found setup_words word.now }
-    ensures spelled { IfSome result (λ f. word.now ≡ flags_word (letter_if f.0 (codes "R") ++ letter_if f.1 (codes "L"))) }
+    ensures value { result ≡ meaning_in setup_words word.now }
+    ensures spelled { IfSome result (λ f. word.now ≡ letters_word (letter_if f.0 (codes "R") ++ letter_if f.1 (codes "L"))) }
 {
     if is(word, "-") {
         return Some((false, false));
@@ -200,8 +132,8 @@ pub fn resume_lease(word: &[u8]) -> Option<(bool, bool)>
 
 /// The flags F and C.
 pub fn follows_complete(word: &[u8]) -> Option<(bool, bool)>
-    ensures value { result ≡ found channel_words word.now }
-    ensures spelled { IfSome result (λ f. word.now ≡ flags_word (letter_if f.0 (codes "F") ++ letter_if f.1 (codes "C"))) }
+    ensures value { result ≡ meaning_in channel_words word.now }
+    ensures spelled { IfSome result (λ f. word.now ≡ letters_word (letter_if f.0 (codes "F") ++ letter_if f.1 (codes "C"))) }
 {
     if is(word, "-") {
         return Some((false, false));
@@ -220,8 +152,8 @@ pub fn follows_complete(word: &[u8]) -> Option<(bool, bool)>
 
 /// The flags F, C and N.
 pub fn follows_complete_next(word: &[u8]) -> Option<(bool, bool, bool)>
-    ensures value { result ≡ found payload_words word.now }
-    ensures spelled { IfSome result (λ f. word.now ≡ flags_word (letter_if f.0 (codes "F") ++ (letter_if f.1 (codes "C") ++ letter_if f.2 (codes "N")))) }
+    ensures value { result ≡ meaning_in payload_words word.now }
+    ensures spelled { IfSome result (λ f. word.now ≡ letters_word (letter_if f.0 (codes "F") ++ (letter_if f.1 (codes "C") ++ letter_if f.2 (codes "N")))) }
 {
     if is(word, "-") {
         return Some((false, false, false));

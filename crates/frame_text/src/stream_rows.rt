@@ -4,10 +4,10 @@ ghost use Rattle.std.specs.Prelude.{◌≡◌, ◌<◌, ◌++◌, ◌∷◌, IfO
 ghost use Rattle.std.specs.Option.{option_map};
 ghost use Rattle.std.specs.Result.{result_map_both};
 ghost use Rattle.rs_frame.specs.Spelling.{FieldsFit, MessageFits};
-ghost use Rattle.frame_text.specs.Fields.{AreBlobs, IsMessage, frame_of, message_of};
+ghost use Rattle.frame_text.specs.Fields.{AreBlobs, IsMessage, frame_of, message_from};
 ghost use Rattle.frame_text.specs.Lines.{line_of};
 ghost use Rattle.frame_text.specs.Reading.{cancel_row, counted_row, error_row, ext_row, message_at, payload_row, plain_row, request_n_row, unknown_row};
-ghost use Rattle.frame_text.specs.Spelled.{behind, bytes_of, channel_words, follows_words, option_of};
+ghost use Rattle.frame_text.specs.Spelled.{after_word, bytes_of, channel_words, follows_words, option_of};
 ghost use Rattle.frame_text.specs.Words.{blob_word, option_word};
 
 use crate::fault::Wrong;
@@ -20,8 +20,8 @@ use rs_wire::{Amount, Kind};
 pub fn message(place: u32, line: Option<&[u8]>) -> Result<(MessageWords<'_>, Option<&[u8]>), Wrong>
     requires { place < 100 }
     ensures told { result_map_both (λ x. option_map (λ y. y.now) x.1) (λ e. e) result ≡ message_at place (option_map (λ y. y.now) line.entry) }
-    ensures words { IfOk result (λ x. behind (option_map (λ y. y.now) line.entry) ≡ (32 ∷ option_word (option_of x.0.metadata.now)) ++ ((32 ∷ blob_word (bytes_of x.0.content.now)) ++ behind (option_map (λ y. y.now) x.1))) }
-    ensures fits { IfOk result (λ x. MessageFits (message_of x.0) × IsMessage x.0) }
+    ensures words { IfOk result (λ x. after_word (option_map (λ y. y.now) line.entry) ≡ (32 ∷ option_word (option_of x.0.metadata.now)) ++ ((32 ∷ blob_word (bytes_of x.0.content.now)) ++ after_word (option_map (λ y. y.now) x.1))) }
+    ensures fits { IfOk result (λ x. MessageFits (message_from x.0) × IsMessage x.0) }
 {
     let (metadata, line) = taken::short_option(place, 16_777_215, line)?;
     let (content, line) = taken::blob(place + 1, line)?;
@@ -31,7 +31,7 @@ pub fn message(place: u32, line: Option<&[u8]>) -> Result<(MessageWords<'_>, Opt
 /// The fields of a REQUEST_N line.
 pub fn request_n(line: Option<&[u8]>) -> Result<Fields<'_>, Wrong>
     ensures told { result_map_both (λ w. tt) (λ e. e) result ≡ request_n_row (option_map (λ y. y.now) line.entry) }
-    ensures line { IfOk result (λ w. codes "REQUEST_N" ++ behind (option_map (λ y. y.now) line.entry) ≡ line_of (frame_of w)) }
+    ensures line { IfOk result (λ w. codes "REQUEST_N" ++ after_word (option_map (λ y. y.now) line.entry) ≡ line_of (frame_of w)) }
     ensures fits { IfOk result (λ w. FieldsFit (frame_of w) × AreBlobs w) }
 {
     let (stream, line) = taken::number_32(1, 1, 2_147_483_647, line)?;
@@ -46,7 +46,7 @@ pub fn request_n(line: Option<&[u8]>) -> Result<Fields<'_>, Wrong>
 /// The fields of a CANCEL line.
 pub fn cancel(line: Option<&[u8]>) -> Result<Fields<'_>, Wrong>
     ensures told { result_map_both (λ w. tt) (λ e. e) result ≡ cancel_row (option_map (λ y. y.now) line.entry) }
-    ensures line { IfOk result (λ w. codes "CANCEL" ++ behind (option_map (λ y. y.now) line.entry) ≡ line_of (frame_of w)) }
+    ensures line { IfOk result (λ w. codes "CANCEL" ++ after_word (option_map (λ y. y.now) line.entry) ≡ line_of (frame_of w)) }
     ensures fits { IfOk result (λ w. FieldsFit (frame_of w) × AreBlobs w) }
 {
     let (stream, line) = taken::number_32(1, 1, 2_147_483_647, line)?;
@@ -57,7 +57,7 @@ pub fn cancel(line: Option<&[u8]>) -> Result<Fields<'_>, Wrong>
 /// The fields of an ERROR line.
 pub fn error(line: Option<&[u8]>) -> Result<Fields<'_>, Wrong>
     ensures told { result_map_both (λ w. tt) (λ e. e) result ≡ error_row (option_map (λ y. y.now) line.entry) }
-    ensures line { IfOk result (λ w. codes "ERROR" ++ behind (option_map (λ y. y.now) line.entry) ≡ line_of (frame_of w)) }
+    ensures line { IfOk result (λ w. codes "ERROR" ++ after_word (option_map (λ y. y.now) line.entry) ≡ line_of (frame_of w)) }
     ensures fits { IfOk result (λ w. FieldsFit (frame_of w) × AreBlobs w) }
 {
     let (stream, line) = taken::number_32(1, 0, 2_147_483_647, line)?;
@@ -74,7 +74,7 @@ pub fn error(line: Option<&[u8]>) -> Result<Fields<'_>, Wrong>
 /// The fields of a PAYLOAD line.
 pub fn payload(line: Option<&[u8]>) -> Result<Fields<'_>, Wrong>
     ensures told { result_map_both (λ w. tt) (λ e. e) result ≡ payload_row (option_map (λ y. y.now) line.entry) }
-    ensures line { IfOk result (λ w. codes "PAYLOAD" ++ behind (option_map (λ y. y.now) line.entry) ≡ line_of (frame_of w)) }
+    ensures line { IfOk result (λ w. codes "PAYLOAD" ++ after_word (option_map (λ y. y.now) line.entry) ≡ line_of (frame_of w)) }
     ensures fits { IfOk result (λ w. FieldsFit (frame_of w) × AreBlobs w) }
 {
     let (stream, line) = taken::number_32(1, 1, 2_147_483_647, line)?;
@@ -93,7 +93,7 @@ pub fn payload(line: Option<&[u8]>) -> Result<Fields<'_>, Wrong>
 /// The fields of a REQUEST_RESPONSE line.
 pub fn response(line: Option<&[u8]>) -> Result<Fields<'_>, Wrong>
     ensures told { result_map_both (λ w. tt) (λ e. e) result ≡ plain_row (option_map (λ y. y.now) line.entry) }
-    ensures line { IfOk result (λ w. codes "REQUEST_RESPONSE" ++ behind (option_map (λ y. y.now) line.entry) ≡ line_of (frame_of w)) }
+    ensures line { IfOk result (λ w. codes "REQUEST_RESPONSE" ++ after_word (option_map (λ y. y.now) line.entry) ≡ line_of (frame_of w)) }
     ensures fits { IfOk result (λ w. FieldsFit (frame_of w) × AreBlobs w) }
 {
     let (stream, line) = taken::number_32(1, 1, 2_147_483_647, line)?;
@@ -113,7 +113,7 @@ pub fn response(line: Option<&[u8]>) -> Result<Fields<'_>, Wrong>
 /// The fields of a REQUEST_FNF line.
 pub fn fnf(line: Option<&[u8]>) -> Result<Fields<'_>, Wrong>
     ensures told { result_map_both (λ w. tt) (λ e. e) result ≡ plain_row (option_map (λ y. y.now) line.entry) }
-    ensures line { IfOk result (λ w. codes "REQUEST_FNF" ++ behind (option_map (λ y. y.now) line.entry) ≡ line_of (frame_of w)) }
+    ensures line { IfOk result (λ w. codes "REQUEST_FNF" ++ after_word (option_map (λ y. y.now) line.entry) ≡ line_of (frame_of w)) }
     ensures fits { IfOk result (λ w. FieldsFit (frame_of w) × AreBlobs w) }
 {
     let (stream, line) = taken::number_32(1, 1, 2_147_483_647, line)?;
@@ -133,7 +133,7 @@ pub fn fnf(line: Option<&[u8]>) -> Result<Fields<'_>, Wrong>
 /// The fields of a REQUEST_STREAM line.
 pub fn stream(line: Option<&[u8]>) -> Result<Fields<'_>, Wrong>
     ensures told { result_map_both (λ w. tt) (λ e. e) result ≡ counted_row follows_words (option_map (λ y. y.now) line.entry) }
-    ensures line { IfOk result (λ w. codes "REQUEST_STREAM" ++ behind (option_map (λ y. y.now) line.entry) ≡ line_of (frame_of w)) }
+    ensures line { IfOk result (λ w. codes "REQUEST_STREAM" ++ after_word (option_map (λ y. y.now) line.entry) ≡ line_of (frame_of w)) }
     ensures fits { IfOk result (λ w. FieldsFit (frame_of w) × AreBlobs w) }
 {
     let (stream, line) = taken::number_32(1, 1, 2_147_483_647, line)?;
@@ -157,7 +157,7 @@ pub fn stream(line: Option<&[u8]>) -> Result<Fields<'_>, Wrong>
 /// The fields of a REQUEST_CHANNEL line.
 pub fn channel(line: Option<&[u8]>) -> Result<Fields<'_>, Wrong>
     ensures told { result_map_both (λ w. tt) (λ e. e) result ≡ counted_row channel_words (option_map (λ y. y.now) line.entry) }
-    ensures line { IfOk result (λ w. codes "REQUEST_CHANNEL" ++ behind (option_map (λ y. y.now) line.entry) ≡ line_of (frame_of w)) }
+    ensures line { IfOk result (λ w. codes "REQUEST_CHANNEL" ++ after_word (option_map (λ y. y.now) line.entry) ≡ line_of (frame_of w)) }
     ensures fits { IfOk result (λ w. FieldsFit (frame_of w) × AreBlobs w) }
 {
     let (stream, line) = taken::number_32(1, 1, 2_147_483_647, line)?;
@@ -181,7 +181,7 @@ pub fn channel(line: Option<&[u8]>) -> Result<Fields<'_>, Wrong>
 /// The fields of an EXT line.
 pub fn ext(line: Option<&[u8]>) -> Result<Fields<'_>, Wrong>
     ensures told { result_map_both (λ w. tt) (λ e. e) result ≡ ext_row (option_map (λ y. y.now) line.entry) }
-    ensures line { IfOk result (λ w. codes "EXT" ++ behind (option_map (λ y. y.now) line.entry) ≡ line_of (frame_of w)) }
+    ensures line { IfOk result (λ w. codes "EXT" ++ after_word (option_map (λ y. y.now) line.entry) ≡ line_of (frame_of w)) }
     ensures fits { IfOk result (λ w. FieldsFit (frame_of w) × AreBlobs w) }
 {
     let (stream, line) = taken::number_32(1, 0, 2_147_483_647, line)?;
@@ -200,7 +200,7 @@ pub fn ext(line: Option<&[u8]>) -> Result<Fields<'_>, Wrong>
 /// The fields of an UNKNOWN line.
 pub fn unknown(line: Option<&[u8]>) -> Result<Fields<'_>, Wrong>
     ensures told { result_map_both (λ w. tt) (λ e. e) result ≡ unknown_row (option_map (λ y. y.now) line.entry) }
-    ensures line { IfOk result (λ w. codes "UNKNOWN" ++ behind (option_map (λ y. y.now) line.entry) ≡ line_of (frame_of w)) }
+    ensures line { IfOk result (λ w. codes "UNKNOWN" ++ after_word (option_map (λ y. y.now) line.entry) ≡ line_of (frame_of w)) }
     ensures fits { IfOk result (λ w. FieldsFit (frame_of w) × AreBlobs w) }
 {
     let (stream, line) = taken::number_32(1, 0, 2_147_483_647, line)?;

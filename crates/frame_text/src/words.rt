@@ -1,52 +1,38 @@
 //! The words of a line, each after a space.
 
-ghost use Rattle.std.specs.Prelude.{◌≡◌, ◌++◌, ◌∷◌, OnOk, codes, decimal};
-ghost use Rattle.frame_text.specs.Words.{blob_word, flags_word, letter_if, option_word};
+ghost use Rattle.std.specs.Prelude.{◌≡◌, ◌++◌, ◌∷◌, OnOk, codes};
+ghost use Rattle.frame_text.specs.Words.{blob_word, letters_word, letter_if, option_word};
 
-use itoa::Buffer;
+use plain_text::{write_hex, write_word};
 use rs_wire::{Blob, OutOfMemory};
 
-/// Appends a text.
-pub fn put_text(out: &mut Vec<u8>, text: &str) -> Result<(), OutOfMemory>
-    ensures { OnOk result (out.new.items ≡ out.old.items ++ (32 ∷ text.now)) }
-{
-    out.push(b' ')?;
-    out.extend_from_slice(text.as_bytes())?;
-    Ok(())
-}
+/// The word of no bytes.
+pub const NO_BYTES: u8 = b'.';
 
-/// Appends a number.
-pub fn put_number(out: &mut Vec<u8>, n: u64) -> Result<(), OutOfMemory>
-    ensures { OnOk result (out.new.items ≡ out.old.items ++ (32 ∷ decimal n)) }
-{
-    let mut buffer = Buffer::new();
-    put_text(out, buffer.format(n))
-}
+/// The word of absent bytes.
+pub const ABSENT: u8 = b'-';
 
 /// Appends bytes.
-pub fn put_blob(out: &mut Vec<u8>, blob: &Blob) -> Result<(), OutOfMemory>
+pub fn write_blob(out: &mut Vec<u8>, blob: &Blob) -> Result<(), OutOfMemory>
     ensures { OnOk result (out.new.items ≡ out.old.items ++ (32 ∷ blob_word blob.now)) }
 {
-    if blob.is_empty() {
-        return put_text(out, ".");
-    }
-    let text = hex::encode(*out.allocator(), blob.as_slice())?;
-    put_text(out, text.as_str())
+    out.push(b' ')?;
+    write_hex(out, blob.as_slice(), NO_BYTES)
 }
 
 /// Appends bytes that may be absent.
-pub fn put_option(out: &mut Vec<u8>, blob: &Option<Blob>) -> Result<(), OutOfMemory>
+pub fn write_option(out: &mut Vec<u8>, blob: &Option<Blob>) -> Result<(), OutOfMemory>
     ensures { OnOk result (out.new.items ≡ out.old.items ++ (32 ∷ option_word blob.now)) }
 {
     match blob {
-        None => put_text(out, "-"),
-        Some(blob) => put_blob(out, blob),
+        None => write_word(out, "-"),
+        Some(blob) => write_blob(out, blob),
     }
 }
 
 /// The flags R and L as letters.
 pub fn resume_lease(resume: bool, lease: bool) -> &'static str
-    ensures { result.now ≡ flags_word (letter_if resume (codes "R") ++ letter_if lease (codes "L")) }
+    ensures { result.now ≡ letters_word (letter_if resume (codes "R") ++ letter_if lease (codes "L")) }
 {
     match (resume, lease) {
         (false, false) => "-",
@@ -58,14 +44,14 @@ pub fn resume_lease(resume: bool, lease: bool) -> &'static str
 
 /// The flag R as a letter.
 pub fn respond(respond: bool) -> &'static str
-    ensures { result.now ≡ flags_word (letter_if respond (codes "R")) }
+    ensures { result.now ≡ letters_word (letter_if respond (codes "R")) }
 {
     if respond { "R" } else { "-" }
 }
 
 /// The flags F and C as letters.
 pub fn follows_complete(follows: bool, complete: bool) -> &'static str
-    ensures { result.now ≡ flags_word (letter_if follows (codes "F") ++ letter_if complete (codes "C")) }
+    ensures { result.now ≡ letters_word (letter_if follows (codes "F") ++ letter_if complete (codes "C")) }
 {
     match (follows, complete) {
         (false, false) => "-",
@@ -77,7 +63,7 @@ pub fn follows_complete(follows: bool, complete: bool) -> &'static str
 
 /// The flags F, C and N as letters.
 pub fn follows_complete_next(follows: bool, complete: bool, next: bool) -> &'static str
-    ensures { result.now ≡ flags_word (letter_if follows (codes "F") ++ (letter_if complete (codes "C") ++ letter_if next (codes "N"))) }
+    ensures { result.now ≡ letters_word (letter_if follows (codes "F") ++ (letter_if complete (codes "C") ++ letter_if next (codes "N"))) }
 {
     match (follows, complete, next) {
         (false, false, false) => "-",

@@ -5,7 +5,7 @@ use Rattle.std.proofs.lemmas.Bool.{and_parts, cases_lt, eqb-true}
 use Rattle.std.proofs.lemmas.Bool.Decides.{nat_tests}
 use Rattle.hex.specs.Hex.{IsBytes, decode_of, encode_lower, encode_with, lower_digits}
 use Rattle.hex.proofs.HexLemmas.{decode_of-encode_lower, length-encode_with}
-use Rattle.plain_text.specs.Words.{decoded, hex_bytes, hex_word, is_hex_word, is_lower, is_mark, is_pairs}
+use Rattle.plain_text.specs.Words.{decoded, hex_bytes, hex_word, is_hex_word, is_lower, is_mark}
 
 -- ---- a digit
 
@@ -86,7 +86,7 @@ pairs_back (h ∷ l ∷ rest) even lower =
     let low = value_fits l b.0 in
     (pair_back h l rest (pairs rest) a.0 b.0 others.0, IsBytes-cons (value h * 16 + value l) (pairs rest) (omega (arith, high.0, low.0)) others.1)
 
-encode_is_lower : (bytes : List ℕ) → IsBytes bytes → list_all is_lower (encode_lower bytes) ≡ true
+pub encode_is_lower : (bytes : List ℕ) → IsBytes bytes → list_all is_lower (encode_lower bytes) ≡ true
 unfolding encode_with
 encode_is_lower [] all = refl
 encode_is_lower (b ∷ bytes) all =
@@ -193,6 +193,13 @@ one_hex mark [] [] p q e = refl
 one_hex mark [] (b ∷ bytes) p q e = absurd (no_mark mark b bytes e)
 one_hex mark (a ∷ bytes) [] p q e = absurd (no_mark mark a bytes (sym e))
 one_hex mark (a ∷ rest) (b ∷ bs) p q e = same_ok (decode_of (encode_lower (a ∷ rest))) (a ∷ rest) (b ∷ bs) (decode_of-encode_lower (a ∷ rest) p) (ap decode_of e ∙ decode_of-encode_lower (b ∷ bs) q)
+
+-- the text of bytes is read as these bytes
+pub bytes_again : (mark : ℕ) (bytes : List ℕ) → IsBytes bytes → hex_bytes mark (hex_word mark bytes) ≡ bytes
+bytes_again mark bytes all =
+    let word = hex_word mark bytes in
+    let is = hex_again mark bytes all in
+    sym (one_hex mark bytes (hex_bytes mark word) all (hex_are_bytes mark word is) (hex_back mark word is))
 
 -- what the digits decode to
 pub spelled : (mark : ℕ) (word bytes : List ℕ) → is_hex_word mark word ≡ true → bytes ≡ hex_bytes mark word → (word ≡ hex_word mark bytes) × IsBytes bytes

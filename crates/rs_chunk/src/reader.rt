@@ -1,8 +1,8 @@
 //! The bytes that came, and the frame at their front.
 
-ghost use Rattle.std.specs.Prelude.{◌≡◌, ◌+◌, ◌≤◌, ◌++◌, [], ◌∷◌, ℕ, List, length, OnOk, OnErr};
+ghost use Rattle.std.specs.Prelude.{◌≡◌, ◌++◌, [], ◌∷◌, ℕ, List, OnOk, OnErr};
 ghost use Rattle.rs_frame.specs.Framed.{framed};
-ghost use Rattle.rs_chunk.specs.Stream.{HasFrame, IsCut, IsFront, IsWhole, Reads, after_frame, first_frame, first_length};
+ghost use Rattle.rs_chunk.specs.Stream.{IsCut, IsFront, IsWhole, Reads, after_frame, first_frame};
 
 use crate::front::{Front, front_of, split_frame};
 use byte_queue::ByteQueue;

@@ -1,19 +1,20 @@
 use Rattle.std.proofs.Common.{◌≡◌, ℕ, List, length, take, [], min, subst, ap, ◌∙◌}
 use Rattle.std.proofs.lemmas.List.{take_min}
-use Rattle.capture.specs.Captured.{IsBadAt, WroteLines, longest}
+use Rattle.capture.specs.declared.TheConstants.{MOST_CAPTURE}
+use Rattle.capture.specs.Captured.{IsBadAt, WroteLines}
 use Rattle.capture.proofs.Reading.{passes_limit, within}
 use Rattle.capture.proofs.lines.to_lines.Goals as goal
 
 -- what is read
-read : (bytes : List ℕ) (n : ℕ) → n ≡ min longest (length bytes) → take n bytes ≡ take longest bytes
-read bytes n is = ap (λ (k : ℕ). take k bytes) is ∙ take_min longest bytes
+read : (bytes : List ℕ) (n : ℕ) → n ≡ min MOST_CAPTURE (length bytes) → take n bytes ≡ take MOST_CAPTURE bytes
+read bytes n is = ap (λ (k : ℕ). take k bytes) is ∙ take_min MOST_CAPTURE bytes
 
 pub returns-in-Ok-clause-frame : goal.returns-in-Ok-clause-frame
 returns-in-Ok-clause-frame c place rule e =
-    passes_limit c.args.bytes.now c.args.out.now.items c.put_lines-done.new.out.items place rule c.if-bytes-gt-LONGEST.true (cc e) (cc e)
-    (subst (λ (t : List ℕ). WroteLines t [] c.args.out.now.items c.put_lines-done.new.out.items) (read c.args.bytes.now c.min.result c.min.ensures) c.in-Ok.ensures.whole)
+    passes_limit c.args.bytes.now c.args.out.now.items c.write_lines-done.new.out.items place rule c.if-bytes-gt-MOST_CAPTURE.true (cc e) (cc e)
+    (subst (λ (t : List ℕ). WroteLines t [] c.args.out.now.items c.write_lines-done.new.out.items) (read c.args.bytes.now c.min.result c.min.ensures) c.in-Ok.ensures.whole)
 
 pub returns-in_default-2-clause-frame : goal.returns-in_default-2-clause-frame
 returns-in_default-2-clause-frame c place rule e =
-    let bad = c.put_lines-done.ensures.frame place rule e in
+    let bad = c.write_lines-done.ensures.frame place rule e in
     (bad.0, within c.args.bytes.now place rule bad.0 (subst (λ (t : List ℕ). IsBadAt t place rule bad.0) (read c.args.bytes.now c.min.result c.min.ensures) bad.1), bad.2)

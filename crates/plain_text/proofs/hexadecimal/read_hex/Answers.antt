@@ -1,4 +1,4 @@
-use Rattle.std.proofs.Common.{◌≡◌, rules}
+use Rattle.std.proofs.Common.{rules}
 use Rattle.plain_text.specs.Words.{hex_bytes}
 use Rattle.plain_text.proofs.Hex.{spelled}
 use Rattle.plain_text.proofs.hexadecimal.read_hex.Goals as goal

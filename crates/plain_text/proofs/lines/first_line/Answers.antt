@@ -1,4 +1,4 @@
-use Rattle.std.proofs.Common.{◌≡◌, ℕ, List, [], ◌∷◌, length, take, drop, ap, ◌∙◌, arith}
+use Rattle.std.proofs.Common.{◌≡◌, [], ◌∷◌, length, arith}
 use Rattle.std.proofs.lemmas.List.{take_all, drop_all}
 use Rattle.plain_text.specs.Lines.{lines_of}
 use Rattle.plain_text.proofs.Feeds.{last_line, lines_of-nil}

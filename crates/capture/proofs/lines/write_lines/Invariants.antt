@@ -1,6 +1,6 @@
 use Rattle.std.proofs.Common.{◌≤◌, length}
 use Rattle.capture.specs.Captured.{WroteLines}
-use Rattle.capture.proofs.lines.put_lines.Given as goal
+use Rattle.capture.proofs.lines.write_lines.Given as goal
 
 abbrev pub invariant-loop-rest : goal.invariant-loop-rest
 invariant-loop-rest l = record {

@@ -1,6 +1,6 @@
 use Rattle.std.proofs.Common.{◌≤◌, ◌+◌, length}
 use Rattle.capture.proofs.Progress.{SoFar}
-use Rattle.capture.proofs.back.put_lines.Given as goal
+use Rattle.capture.proofs.back.write_lines.Given as goal
 
 abbrev pub invariant-loop-line : goal.invariant-loop-line
 invariant-loop-line l = record {

@@ -4,7 +4,7 @@ use Rattle.std.proofs.lemmas.Bool.{eqb-false}
 use Rattle.capture.specs.Captured.{WroteLines}
 use Rattle.capture.specs.declared.lines.CaptureFault.TheVariants as faults
 use Rattle.capture.proofs.Reading.{at_start, bad_at}
-use Rattle.capture.proofs.lines.put_lines.Goals as goal
+use Rattle.capture.proofs.lines.write_lines.Goals as goal
 
 passed_on : {T E : Type 0} (r : Result T E) (x y : E) → IsErrAnd r (λ e. e ≡ x) → r ≡ Err y → x ≡ y
 passed_on (Ok t) x y is e = absurd is
@@ -17,8 +17,8 @@ pub returns-in_err-rest-clause-frame : goal.returns-in_err-rest-clause-frame
 returns-in_err-rest-clause-frame c place rule e =
     let fault : c.in_err-rest.field-0.0 ≡ faults.Frame place rule = passed_on c.from_residual.result c.in_err-rest.field-0.0 (faults.Frame place rule) c.from_residual.ensures.1 e in
     let at = c.in_err-rest.ensures.frame place rule (ap Err fault) in
-    let same : c.put_first.new.out.items ≡ c.loop-rest.out.items = c.in_err-rest.ensures.err in
+    let same : c.write_first.new.out.items ≡ c.loop-rest.out.items = c.in_err-rest.ensures.err in
     let some : length c.loop-rest.rest.now ≢ 0 = eqb-false _ _ (sym c.is_empty.ensures ∙ c.loop-rest-test.true) in
-    let w : WroteLines c.args.bytes.now c.loop-rest.rest.now c.args.out.now.items c.put_first.new.out.items =
+    let w : WroteLines c.args.bytes.now c.loop-rest.rest.now c.args.out.now.items c.write_first.new.out.items =
     subst (λ (t : List ℕ). WroteLines c.args.bytes.now c.loop-rest.rest.now c.args.out.now.items t) (sym same) c.loop-rest.invariant.so_far in
-    bad_at c.args.bytes.now c.loop-rest.rest.now c.args.out.now.items c.put_first.new.out.items place rule c.requires w (omega (arith, at.0, c.loop-rest.invariant.within)) (omega (arith, some)) at.1
+    bad_at c.args.bytes.now c.loop-rest.rest.now c.args.out.now.items c.write_first.new.out.items place rule c.requires w (omega (arith, at.0, c.loop-rest.invariant.within)) (omega (arith, some)) at.1
