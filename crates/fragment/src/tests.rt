@@ -234,6 +234,7 @@ fn a_part_is_too_large_exactly_above_the_limit(rt: HostRuntime) -> Result<(), Fa
         none,
         Ok(Glued::Part),
     )?;
+    assert_eq!(rt; glue.size(), 3);
     let too_large = Err(GlueFault::TooLarge(5));
     answers(
         &rt,
@@ -300,5 +301,15 @@ fn frames_are_the_vector_that_they_were_made_of(rt: HostRuntime) -> Result<(), F
     let frames = Frames::from_vec(frames);
     assert!(rt; frames.as_slice().len() == 1);
     assert!(rt; frames.into_vec().len() == 1);
+    Ok(())
+}
+
+#[test]
+fn a_fault_says_why_in_a_sentence(rt: HostRuntime) -> Result<(), Fail> {
+    let sentence = format!(in rt.alloc(); "{}", GlueFault::TooLarge(5))?;
+    assert_eq!(rt;
+        sentence.as_str(),
+        "the joined message would have 5 bytes, more than is taken"
+    );
     Ok(())
 }

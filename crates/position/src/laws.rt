@@ -21,7 +21,8 @@ pub fn boundary_laws()
         IsBoundary fs b → low ≤ b → least_boundary fs low ≤ b }
     // What is held starts at a boundary, not before what is acknowledged, and has no more than
     // `hold` bytes.
-    ensures first_boundary { (fs : List Frame) (told hold : ℕ) → IsBoundary fs (first fs told hold) }
+    ensures first_boundary { (fs : List Frame) (told hold : ℕ) →
+        IsBoundary fs (first fs told hold) }
     ensures first_after_acked { (fs : List Frame) (told hold : ℕ) →
         acked fs told ≤ first fs told hold }
     ensures first_within_hold { (fs : List Frame) (told hold : ℕ) →

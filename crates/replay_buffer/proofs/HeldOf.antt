@@ -15,6 +15,10 @@ use Rattle.replay_buffer.proofs.Forgotten.{same_held}
 length-canonical : (f : Frame) → length (canonical f) ≡ length_of f
 length-canonical f = omega arith
 
+pub held_of_none : (frames : List (List ℕ)) (hold : ℕ) → frames ≡ [] → IsHeldOf [] 0 (record { first = 0; frames = frames; hold = hold })
+unfolding pos_by least_boundary_by frames_from_by acked_by
+held_of_none frames hold none = record { first_is = refl; frames_are = none }
+
 -- where what is held begins
 record Begins (made : List Frame) (told : ℕ) (h : Held) : Type 0 where
   boundary : IsBoundary made h.first

@@ -49,7 +49,7 @@ impl Model for Replay {
 impl Replay {
     /// Nothing is held: the first frame will start at position 0. At most `hold` bytes of frames
     /// will be held, without their length fields. With 0 each frame is forgotten as it is kept.
-    #[tactic(auto, unfolding(position::specs::Boundaries::pos_by, position::specs::Boundaries::acked_by, position::specs::Boundaries::least_boundary_by, position::specs::Boundaries::frames_from_by))]
+    #[tactic(auto, unfolding(position::specs::Boundaries::pos_by))]
     pub fn new(alloc: Global, hold: u64) -> Result<Replay, OutOfMemory>
         ensures empty { IfOk result (λ replay. replay ≡ new_buffer hold) }
         ensures of_none { IfOk result (λ replay. IsHeldOf [] 0 replay.held) }
