@@ -91,7 +91,7 @@ fn write_first<'a>(
     let Some((frame, after)) = split_frame(bytes) else {
         return Err(CaptureFault::Frame { place, rule: 0 });
     };
-    match line_of(alloc, frame, out) {
+    match write_line(alloc, frame, out) {
         Ok(()) => Ok(after),
         Err(fault) => match rule_number(fault) {
             Some(rule) => Err(CaptureFault::Frame { place, rule }),
@@ -101,7 +101,7 @@ fn write_first<'a>(
 }
 
 // Appends the line of the frame that the bytes spell. On a fault nothing is appended.
-fn line_of(alloc: Global, bytes: &[u8], out: &mut Vec<u8>) -> Result<(), FrameFault>
+fn write_line(alloc: Global, bytes: &[u8], out: &mut Vec<u8>) -> Result<(), FrameFault>
     requires { length bytes.now < 2 ^ 24 }
     ensures ok { OnOk result ((f : Frame) × Spells f bytes.now × (out.new.items ≡ out.old.items ++ ended (line_of f))) }
     ensures rule { IfErr result (λ fault. IsLeastBroken fault bytes.now) }
