@@ -6,8 +6,8 @@ use Rattle.std.proofs.lemmas.List.{append-nil, take_at, drop_at, length-append}
 use Rattle.std.proofs.lemmas.Fmt.{decimal_by_steps}
 use Rattle.std.proofs.lemmas.Bool.{and_parts, lt-ltb, le-ltb}
 use Rattle.std.proofs.lemmas.Bool.Decides.{nat_tests}
-use Rattle.hex.specs.Hex.{IsBytes, decode_of, encode_lower, lower_digits}
-use Rattle.hex.proofs.HexLemmas.{decode_of-encode_lower, length-encode_with}
+use Rattle.hex.specs.Hex.{IsBytes, encode_lower, lower_digits}
+use Rattle.hex.proofs.HexLemmas.{length-encode_with}
 use Rattle.frame_text.specs.Lines.{HasOption, spaced}
 use Rattle.frame_text.specs.Words.{blob_word, option_word}
 use Rattle.frame_text.specs.Spelled.{bytes_of, cut_word, is_dash, is_space, option_of}
