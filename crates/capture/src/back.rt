@@ -12,14 +12,17 @@ use rs_chunk::frame_bytes;
 use rs_frame::Frame;
 use rs_wire::OutOfMemory;
 use std::alloc::Global;
+use thiserror::Error;
 
 /// Why the lines of a capture were not read to their end.
-#[derive(Clone, Copy, Debug, PartialEq, Eq)]
+#[derive(Clone, Copy, Debug, PartialEq, Eq, Error)]
 pub enum LineFault {
     /// The number, from 1, of the first line that is the line of no frame, or that passes
     /// 67,108,864 bytes.
+    #[error("line {0} is the line of no frame")]
     Line(u32),
     /// There was not enough memory.
+    #[error("out of memory")]
     OutOfMemory,
 }
 

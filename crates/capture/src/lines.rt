@@ -14,15 +14,22 @@ use rs_chunk::split_frame;
 use rs_frame::{Frame, FrameFault, decode, rule_number};
 use rs_wire::OutOfMemory;
 use std::alloc::Global;
+use thiserror::Error;
 
 /// Why a capture was not read to its end.
-#[derive(Clone, Copy, Debug, PartialEq, Eq)]
+#[derive(Clone, Copy, Debug, PartialEq, Eq, Error)]
 pub enum CaptureFault {
-    /// The first frame that can't be read. `place` is where its length field begins, in bytes from
-    /// 0. `rule` is the least of the nine rules that it breaks (`rs_frame::FrameFault`), or 0 where
-    /// the bytes end, or pass 67,108,864, within the frame.
-    Frame { place: u32, rule: u8 },
+    /// The first frame that can't be read.
+    #[error("the frame at byte {place} cannot be read, by rule {rule}")]
+    Frame {
+        /// Where its length field begins, in bytes from 0.
+        place: u32,
+        /// The least of the nine rules that it breaks (`rs_frame::FrameFault`), or 0 where the bytes
+        /// end, or pass 67,108,864, within the frame.
+        rule: u8,
+    },
     /// There was not enough memory. The frames that follow were not looked at.
+    #[error("out of memory")]
     OutOfMemory,
 }
 

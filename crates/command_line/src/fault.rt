@@ -1,13 +1,16 @@
 //! Why words ask for nothing.
 
 use std::alloc::{AllocError, AllocFailed};
+use thiserror::Error;
 
 /// Why the words ask for nothing.
-#[derive(Clone, Copy, Debug, PartialEq, Eq)]
+#[derive(Clone, Copy, Debug, PartialEq, Eq, Error)]
 pub enum WordsFault {
     /// The words are none of the program's commands.
+    #[error("the words are none of the commands")]
     Usage,
     /// There was not enough memory.
+    #[error("out of memory")]
     OutOfMemory,
 }
 

@@ -10,16 +10,19 @@ use crate::seat::{Seat, Token};
 use crate::stands::Stands;
 use crate::steps::{Both, Count, Name, Share, Tell};
 use std::sync::Wait;
+use thiserror::Error;
 
 /// How many numbers a lock gives out, from 0 on.
 const MOST_NUMBERS: u64 = 4_294_967_295;
 
 /// Why no seat was split off. A split takes no memory, so want of it is no cause.
-#[derive(Clone, Copy, Debug, PartialEq, Eq)]
+#[derive(Clone, Copy, Debug, PartialEq, Eq, Error)]
 pub enum SplitFault {
     /// The seat has one part.
+    #[error("the seat has one part")]
     PartsGone,
     /// All 4,294,967,295 numbers of the lock were drawn.
+    #[error("all 4,294,967,295 numbers of the lock were drawn")]
     NamesGone,
 }
 
