@@ -1,74 +1,96 @@
--- Lines, one behind the other.
-use Rattle.std.proofs.Common.{suc, drop-cons, ◌≡◌, ◌≤◌, ◌<◌, ◌+◌, ℕ, Bool, List, [], ◌∷◌, length, drop, get_or, reverse, Result, Ok, Err, OnOk, is_err, None, false, refl, ap, subst, sym, ◌∙◌, arith}
-use Rattle.std.proofs.lemmas.List.{drop_all, reverse-reverse}
+-- Lines, one after the other.
+use Rattle.std.proofs.Common.{suc, zero, drop-cons, ◌≡◌, ◌≤◌, ◌<◌, ◌+◌, ℕ, List, [], ◌∷◌, length, drop, get_or, Result, Ok, Err, OnOk, is_err, None, false, refl, ap, subst, sym, ◌∙◌, arith}
+use Rattle.std.specs.List.{AllByRecursion}
+use Rattle.std.proofs.lemmas.List.{drop_all}
 use Rattle.rs_wire.specs.declared.words.Side.TheVariants.{Client, Server}
-use Rattle.rs_wire.specs.Settings.{IsChecked, usual}
-use Rattle.rs_chunk.specs.Rest.{Rest}
-use Rattle.tape.specs.declared.entry.Entry.{Entry}
-use Rattle.tape.specs.declared.event.Event.TheVariants as event
+use Rattle.rs_wire.specs.declared.words.Side.{Side}
+use Rattle.rs_wire.specs.declared.call.Call.{Call}
 use Rattle.rs_wire.specs.declared.settings.Settings.{Settings}
-use Rattle.session_core.specs.Seen.{Seen, Stands}
+use Rattle.rs_wire.specs.Settings.{IsChecked, fault_of, usual}
+use Rattle.tape.specs.declared.entry.Entry.{Entry}
+use Rattle.session_model.specs.Legal.{IsAskable, IsPlain, Legal}
+use Rattle.session_core.specs.Seen.{Seen}
+use Rattle.session_laws.specs.Ends.{AreEnds}
 use Rattle.cable.specs.declared.line.Line.{Line}
-use Rattle.cable.specs.Played.{PlaysLine, PlaysLines, answered, opened}
-use Rattle.cable.specs.Run.{IsRun}
-use Rattle.cable.specs.Crossing.{AreTerms, Becomes, Follows, HasPlayed, IsFresh, Joint, Terms}
+use Rattle.cable.specs.declared.line.Line.TheVariants as lines
+use Rattle.cable.specs.Line.{IsLine}
+use Rattle.cable.specs.Played.{Ends, Played, PlaysLine, PlaysLines, Sides, begins, nothing, opens, usual_sides}
+use Rattle.cable.proofs.Drawing.{same_trans}
+use Rattle.cable.specs.Wires.{At, Keeps, Reaches, Wires, sides_of}
+
+-- ---- the lines that are left
 
 -- what plays the lines that are left plays all of them
-abbrev pub IsLeft : Terms → List Line → ℕ → List Entry → List Entry → List Entry → List Entry → Type 0
-IsLeft t lines i C S C1 S1 = (C' S' : List Entry) → PlaysLines t.client (drop i lines) C1 S1 C' S' → PlaysLines t.client lines C S C' S'
-
-pub none_played : (t : Terms) (v w : Seen) (crossing : Rest) (started : Bool) (lines : List Line) (C S : List Entry) → Joint t v w crossing started C S → Becomes t v w crossing started (IsLeft t lines 0 C S)
-none_played t v w crossing started lines C S j = record { client = C; server = S; joint = j; related = λ C' S' p. p }
+abbrev pub IsLeft : Sides → List Line → ℕ → Ends → Ends → Type 0
+IsLeft s lines i r now = (r' : Ends) → PlaysLines s (drop i lines) now r' → PlaysLines s lines r r'
 
 drop_next : (lines : List Line) (i : ℕ) (x : Line) → i < length lines → x ≡ get_or lines i x → drop i lines ≡ x ∷ drop (i + 1) lines
 drop_next lines i x below is =
     let next : suc i ≡ i + 1 = omega arith in
     drop-cons lines i x below ∙ (ap (λ (y : Line). y ∷ drop (suc i) lines) (sym is) ∙ ap (λ (n : ℕ). x ∷ drop n lines) next)
 
-plays_one : (g : Settings) (x : Line) (lines : List Line) (C S C1 S1 C' S' : List Entry) → PlaysLine g x C S C1 S1 → PlaysLines g lines C1 S1 C' S' → PlaysLines g (x ∷ lines) C S C' S'
+plays_one : (s : Sides) (x : Line) (lines : List Line) (r now r' : Ends) → PlaysLine s x r now → PlaysLines s lines now r' → PlaysLines s (x ∷ lines) r r'
 unfolding PlaysLines
-plays_one g x lines C S C1 S1 C' S' p q = ((C1, S1), p, q)
+plays_one s x lines r now r' p q = (now, p, q)
 
-pub line_played : (t : Terms) (v v' w w' : Seen) (crossing crossing' : Rest) (started started' : Bool) (lines : List Line) (i : ℕ) (x : Line) (C S : List Entry) → i < length lines → x ≡ get_or lines i x → Becomes t v w crossing started (IsLeft t lines i C S)
-    → ((C1 S1 : List Entry) → Joint t v w crossing started C1 S1 → Becomes t v' w' crossing' started' (PlaysLine t.client x C1 S1))
-    → Becomes t v' w' crossing' started' (IsLeft t lines (i + 1) C S)
-line_played t v v' w w' crossing crossing' started started' lines i x C S below is b line =
-    let d = line b.client b.server b.joint in
-    record {
-      client = d.client;
-      server = d.server;
-      joint = d.joint;
-      related = λ C' S' p. b.related C' S' (subst (λ (ls : List Line). PlaysLines t.client ls b.client b.server C' S') (sym (drop_next lines i x below is)) (plays_one t.client x (drop (i + 1) lines) b.client b.server d.client d.server C' S' d.related p));
-    }
-
-none_left : (g : Settings) (lines : List Line) (C S : List Entry) → lines ≡ [] → PlaysLines g lines C S C S
+none_left : (s : Sides) (lines : List Line) (r : Ends) → lines ≡ [] → PlaysLines s lines r r
 unfolding PlaysLines
-none_left g lines C S none = subst (λ (ls : List Line). PlaysLines g ls C S C S) (sym none) (refl, refl)
+none_left s lines r none = subst (λ (ls : List Line). PlaysLines s ls r r) (sym none) refl
 
-pub all_played : (t : Terms) (v w : Seen) (crossing : Rest) (started : Bool) (lines : List Line) (i : ℕ) (C S : List Entry) → length lines ≤ i → Becomes t v w crossing started (IsLeft t lines i C S) → Becomes t v w crossing started (PlaysLines t.client lines C S)
-all_played t v w crossing started lines i C S past b = record {
-  client = b.client;
-  server = b.server;
-  joint = b.joint;
-  related = b.related b.client b.server (none_left t.client (drop i lines) b.client b.server (drop_all i lines past));
-}
+-- every line has what all have
+pub line_at : (lines : List Line) (i : ℕ) (x : Line) → AllByRecursion IsLine lines → i < length lines → x ≡ get_or lines i x → IsLine x
+line_at [] i x all below is = absurd (omega (arith, below))
+line_at (y ∷ lines) zero x all below is = subst IsLine (sym is) all.0
+line_at (y ∷ lines) (suc i) x all below is = line_at lines i x all.1 (omega (arith, below)) is
 
-pub played_none : (t : Terms) (v w : Seen) (lines : List Line) → length lines ≡ 0 → Follows t.client t.client_told v [] → Follows t.server t.server_told w [] → HasPlayed t lines v w
-played_none t v w (x ∷ lines) none f s = absurd (omega arith)
-played_none t v w [] none f s = record { client = []; server = []; at_client = f; at_server = s; played = none_left t.client [] [] [] refl }
+sides_same : (v w : Wires) → Keeps v w → sides_of w ≡ sides_of v
+sides_same v w k = ap (λ (u : Seen). record { client = u.settings; server = w.server.settings }) k.client ∙ ap (λ (u : Seen). record { client = v.client.settings; server = u.settings }) k.server
 
-pub played_some : (t : Terms) (v w : Seen) (crossing : Rest) (started : Bool) (lines : List Line) → 0 < length lines → Becomes t v w crossing started (PlaysLines t.client lines (answered t.client [] (event.Open None false) ∷ []) []) → HasPlayed t lines v w
-played_some t v w crossing started [] some b = absurd (omega arith)
-played_some t v w crossing started (x ∷ lines) some b = record { client = b.client; server = b.server; at_client = b.joint.at_client; at_server = b.joint.at_server; played = b.related }
+pub keeps_on : (u v w : Wires) → Keeps u v → Keeps v w → Keeps u w
+keeps_on u v w h k = record { client = same_trans u.client v.client w.client h.client k.client; server = same_trans u.server v.server w.server h.server k.server }
+
+pub none_played : (v : Wires) (lines : List Line) (r : Ends) → At v r → Reaches v (IsLeft (sides_of v) lines 0 r)
+none_played v lines r at = record { ends = r; at = at; holds = λ r' p. p }
+
+pub line_played : (u v w : Wires) (lines : List Line) (i : ℕ) (x : Line) (r : Ends) → Keeps u v → i < length lines → x ≡ get_or lines i x → (b : Reaches v (IsLeft (sides_of u) lines i r)) → Reaches w (PlaysLine (sides_of v) x b.ends) → Reaches w (IsLeft (sides_of u) lines (i + 1) r)
+line_played u v w lines i x r kept below is b one =
+    let s = sides_of u in
+    let line : PlaysLine s x b.ends one.ends = subst (λ (k : Sides). PlaysLine k x b.ends one.ends) (sides_same u v kept) one.holds in
+    record { ends = one.ends; at = one.at; holds = λ r' p. b.holds r' (subst (λ (ls : List Line). PlaysLines s ls b.ends r') (sym (drop_next lines i x below is)) (plays_one s x (drop (i + 1) lines) b.ends one.ends r' line p)) }
+
+pub all_played : (u v : Wires) (lines : List Line) (i : ℕ) (r : Ends) → length lines ≤ i → Reaches v (IsLeft (sides_of u) lines i r) → Reaches v (PlaysLines (sides_of u) lines r)
+all_played u v lines i r past b = record { ends = b.ends; at = b.at; holds = b.holds b.ends (none_left (sides_of u) (drop i lines) b.ends (drop_all i lines past)) }
+
+-- a line is one of these
+pub askable : (side : Side) (asked : Call) → IsLine (lines.Ask side asked) → IsAskable asked
+askable side asked h = subst IsAskable (sym h.1) (refl, refl, refl, refl)
 
 -- ---- from the first line to the last
 
-abbrev pub usual_terms : Seen → Seen → Terms
-usual_terms v w = record { client = usual Client; server = usual Server; client_told = v.told; server_told = w.told }
+pub played_none : (v : Wires) (lines : List Line) → length lines ≡ 0 → At v nothing → Reaches v (PlaysLines (sides_of v) lines (begins (sides_of v) lines))
+played_none v [] none at = record { ends = nothing; at = at; holds = none_left (sides_of v) [] nothing refl }
+played_none v (x ∷ lines) none at = absurd (omega (arith, none))
 
-usual_checked : IsChecked (usual Client)
-usual_checked = record {
-  no_fault = refl;
+begun_some : (s : Sides) (lines : List Line) → 0 < length lines → opens s nothing ≡ begins s lines
+begun_some s [] some = absurd (omega (arith, some))
+begun_some s (x ∷ lines) some = refl
+
+pub played_some : (u v w : Wires) (lines : List Line) → 0 < length lines → Keeps u v → (b : Reaches v (λ r. r ≡ opens (sides_of u) nothing)) → Reaches w (PlaysLines (sides_of v) lines b.ends) → Reaches w (PlaysLines (sides_of u) lines (begins (sides_of u) lines))
+played_some u v w lines some kept b p =
+    record { ends = p.ends; at = p.at; holds = subst (λ (r : Ends). PlaysLines (sides_of u) lines r p.ends) (b.holds ∙ begun_some (sides_of u) lines some) (subst (λ (s : Sides). PlaysLines s lines b.ends p.ends) (sides_same u v kept) p.holds) }
+
+pub some_at : (v : Wires) (Holds : Ends → Type 0) → Reaches v Holds → (r : Ends) × At v r
+some_at v Holds b = (b.ends, b.at)
+
+-- ---- a run
+
+usual_right : (side : Side) → fault_of (usual side) ≡ None
+usual_right Client = refl
+usual_right Server = refl
+
+usual_checked : (side : Side) → IsChecked (usual side)
+usual_checked side = record {
+  no_fault = usual_right side;
   keepalive = record { above = omega arith; below = omega arith };
   lifetime = record { above = omega arith; below = omega arith };
   mtu = omega arith;
@@ -85,44 +107,50 @@ usual_checked = record {
   content_mime = omega arith;
 }
 
-pub are_terms : (v w : Seen) → AreTerms (usual_terms v w)
-are_terms v w = record { client_side = refl; client_plain = record { checked = usual_checked; no_resumption = refl; no_leases = refl; no_fragments = refl }; server_side = refl; server_room = omega arith }
+usual_plain : (side : Side) → IsPlain (usual side)
+usual_plain side = record { checked = usual_checked side; no_resumption = refl; no_leases = refl; no_fragments = refl }
 
-pub fresh : (g : Settings) (v : Seen) → v.settings ≡ g → Stands v [] → Follows g v.told v []
-fresh g v is stands = record { settings = is; stands = stands; told = λ same. same }
-
-pub run_of : (lines : List Line) (v v' w w' : Seen) → HasPlayed (usual_terms v w) lines v' w' → IsRun lines v v' w w'
-run_of lines v v' w w' h = record {
-  at_client = reverse h.client;
-  at_server = reverse h.server;
-  client_stands = h.at_client.stands;
-  server_stands = h.at_server.stands;
-  client_told = h.at_client.told;
-  server_told = h.at_server.told;
-  played = subst (λ (c : List Entry). PlaysLines (usual Client) lines (opened (usual Client) lines) [] c (reverse (reverse h.server))) (sym (reverse-reverse h.client))
-      (subst (λ (s : List Entry). PlaysLines (usual Client) lines (opened (usual Client) lines) [] h.client s) (sym (reverse-reverse h.server)) h.played);
-}
-
-ok_holds : {A B : Type 0} (P : Type 0) (r : Result A B) → is_err r ≡ false → OnOk r P → P
+pub ok_holds : {A B : Type 0} (P : Type 0) (r : Result A B) → is_err r ≡ false → OnOk r P → P
 ok_holds P (Ok x) fine h = h
 ok_holds P (Err e) fine h = absurd (cc)
 
--- a cable between two ends with the usual settings, of which nothing happened yet
-pub usual_fresh : (v v0 w w0 : Seen) (crossing : Rest) (started : Bool) → v0 ≡ v → w0 ≡ w → crossing ≡ record { bytes = []; max_in = 16777215 } → started ≡ false
-    → v.settings ≡ usual Client → w.settings ≡ usual Server → Stands v [] → Stands w [] → IsFresh (usual_terms v w) v0 w0 crossing started
-usual_fresh v v0 w w0 crossing started client_is server_is nothing not_begun client_settings server_settings client_stands server_stands =
-    let t = usual_terms v w in
+legal_none : (s : Seen) → s.entries ≡ [] → Legal s.settings s.entries
+unfolding Legal
+legal_none s none = subst (Legal s.settings) (sym none) tt
+
+-- two ends with the usual settings, of which nothing happened yet
+pub usual_at : (client server : Seen) (v : Wires) → v ≡ record { client = client; server = server; wire = None } → client.settings ≡ usual Client → server.settings ≡ usual Server → client.entries ≡ [] → server.entries ≡ [] → At v nothing
+usual_at client server v is c s c_none s_none = subst (λ (u : Wires). At u nothing) (sym is) (record {
+  client_side = ap (λ g. g.side) c;
+  server_side = ap (λ g. g.side) s;
+  plain = subst IsPlain (sym c) (usual_plain Client);
+  legal = legal_none client c_none;
+  client = sym c_none;
+  server = sym s_none;
+  wire = refl;
+})
+
+-- the ends of a run
+pub usual_ends : (C S : List Entry) → Legal (usual Client) C → Legal (usual Server) S → AreEnds (usual Client) (usual Server) C S
+usual_ends C S c s = record { client = refl; server = refl; client_plain = usual_plain Client; server_plain = usual_plain Server; client_legal = c; server_legal = s }
+
+-- the lines of the script were played
+pub run_played : (client server : Seen) (v w : Wires) (C S : Seen) (script lines : List Line) → v ≡ record { client = client; server = server; wire = None } → client.settings ≡ usual Client → server.settings ≡ usual Server → C ≡ w.client → S ≡ w.server → lines ≡ script
+    → Reaches w (PlaysLines (sides_of v) lines (begins (sides_of v) lines)) → Played usual_sides script C.entries S.entries
+run_played client server v w C S script lines is c s c_is s_is same b =
+    let sides : sides_of v ≡ usual_sides = ap sides_of is ∙ (ap (λ (g : Settings). record { client = g; server = server.settings }) c ∙ ap (λ (g : Settings). record { client = usual Client; server = g }) s) in
     record {
-      terms = are_terms v w;
-      at_client = subst (λ (u : Seen). Follows t.client t.client_told u []) (sym client_is) (fresh (usual Client) v client_settings client_stands);
-      at_server = subst (λ (u : Seen). Follows t.server t.server_told u []) (sym server_is) (fresh (usual Server) w server_settings server_stands);
-      nothing = nothing;
-      not_begun = not_begun;
+      ends = b.ends;
+      played = subst (λ (ls : List Line). PlaysLines usual_sides ls (begins usual_sides ls) b.ends) same (subst (λ (k : Sides). PlaysLines k lines (begins k lines) b.ends) sides b.holds);
+      client_is = b.at.client ∙ ap (λ (u : Seen). u.entries) (sym c_is);
+      server_is = b.at.server ∙ ap (λ (u : Seen). u.entries) (sym s_is);
     }
 
-pub ran : {A B : Type 0} (script lines : List Line) (v v1 v2 w w1 w2 : Seen) (r : Result A B) → lines ≡ script → v2 ≡ v1 → w2 ≡ w1 → is_err r ≡ false → OnOk r (HasPlayed (usual_terms v w) lines v1 w1) → IsRun script v v2 w w2
-ran script lines v v1 v2 w w1 w2 r script_is client_left server_left fine played =
-    let h : HasPlayed (usual_terms v w) lines v1 w1 = ok_holds (HasPlayed (usual_terms v w) lines v1 w1) r fine played in
-    subst (λ (ls : List Line). IsRun ls v v2 w w2) script_is
-    (subst (λ (u : Seen). IsRun lines v u w w2) (sym client_left)
-    (subst (λ (u : Seen). IsRun lines v v1 w u) (sym server_left) (run_of lines v v1 w w1 h)))
+pub run_client : (client server : Seen) (v w : Wires) (C : Seen) → v ≡ record { client = client; server = server; wire = None } → Keeps v w → C ≡ w.client → C ≡ record client { entries = C.entries; spare = C.spare }
+run_client client server v w C is k c_is = c_is ∙ (k.client ∙ (ap (λ (u : Wires). record u.client { entries = w.client.entries; spare = w.client.spare }) is ∙ ap (λ (u : Seen). record client { entries = u.entries; spare = u.spare }) (sym c_is)))
+
+pub run_server : (client server : Seen) (v w : Wires) (S : Seen) → v ≡ record { client = client; server = server; wire = None } → Keeps v w → S ≡ w.server → S ≡ record server { entries = S.entries; spare = S.spare }
+run_server client server v w S is k s_is = s_is ∙ (k.server ∙ (ap (λ (u : Wires). record u.server { entries = w.server.entries; spare = w.server.spare }) is ∙ ap (λ (u : Seen). record server { entries = u.entries; spare = u.spare }) (sym s_is)))
+
+pub legal_as : (side : Side) (first last : Seen) → first.settings ≡ usual side → last ≡ record first { entries = last.entries; spare = last.spare } → Legal last.settings last.entries → Legal (usual side) last.entries
+legal_as side first last is same legal = subst (λ (g : Settings). Legal g last.entries) (ap (λ (u : Seen). u.settings) same ∙ is) legal

@@ -1,5 +1,5 @@
 -- What a report is made of.
-use Rattle.std.proofs.Common.{◌≡◌, ℕ, List, [], ◌∷◌, ◌++◌, reverse, Some, None, ap, subst, sym, ◌∙◌, append_assoc}
+use Rattle.std.proofs.Common.{◌≡◌, ℕ, Bool, true, false, List, [], ◌∷◌, ◌++◌, reverse, Some, None, ap, subst, sym, ◌∙◌, append_assoc}
 use Rattle.std.specs.List.{AllByRecursion}
 use Rattle.std.proofs.lemmas.List.{reverse-append, reverse-reverse}
 use Rattle.rs_wire.specs.declared.words.Side.TheVariants as side
@@ -7,9 +7,10 @@ use Rattle.rs_wire.specs.declared.settings.Settings.{Settings}
 use Rattle.tape.specs.declared.event.Event.{Event}
 use Rattle.tape.specs.declared.event.Event.TheVariants as event
 use Rattle.tape.specs.declared.entry.Entry.{Entry}
+use Rattle.session_core.specs.Seen.{Seen, told_by}
 use Rattle.session_model.specs.Legal.{IsFair, Legal}
 use Rattle.cable.specs.Lines.{AreTellable, CanBeTold}
-use Rattle.cable.specs.Report.{counts_of, entry_lines, report_of}
+use Rattle.cable.specs.Report.{counts_of, report_of, told_lines}
 
 fair_told : (g : Settings) (e : Event) → IsFair g e → CanBeTold e
 fair_told g (event.Open None taken) h = tt
@@ -36,11 +37,16 @@ all_back {X} P (x ∷ xs) h = subst (AllByRecursion P) (sym (reverse-append (x �
 pub tellable : (g : Settings) (T : List Entry) → Legal g (reverse T) → AreTellable T
 tellable g T h = subst AreTellable (reverse-reverse T) (all_back (λ (x : Entry). CanBeTold x.event) (reverse T) (all_legal g (reverse T) h))
 
+-- what a tape tells is its entries
+pub told_list : (tells : Bool) (past entries : List Entry) → told_by tells past ≡ Some entries → reverse entries ≡ past
+told_list true past entries h = let is : entries ≡ reverse past = cc in ap reverse is ∙ reverse-reverse past
+told_list false past entries h = absurd (cc)
+
 four : (a b c d e u v w z : List ℕ) → b ≡ a ++ u → c ≡ b ++ v → d ≡ c ++ w → e ≡ d ++ z → e ≡ a ++ (u ++ (v ++ (w ++ z)))
 four a b c d e u v w z p q r s =
     s ∙ (ap (λ (l : List ℕ). l ++ z) (r ∙ ap (λ (l : List ℕ). l ++ w) (q ∙ ap (λ (l : List ℕ). l ++ v) p))
     ∙ (append_assoc ((a ++ u) ++ v) w z ∙ (append_assoc (a ++ u) v (w ++ z) ∙ append_assoc a u (v ++ (w ++ z)))))
 
 -- the four parts of a report
-pub parts : (a b c d e : List ℕ) (client server : List Entry) → b ≡ a ++ counts_of side.Client (reverse client) → c ≡ b ++ counts_of side.Server (reverse server) → d ≡ c ++ entry_lines side.Client client → e ≡ d ++ entry_lines side.Server server → e ≡ a ++ report_of client server
-parts a b c d e client server p q r s = four a b c d e (counts_of side.Client (reverse client)) (counts_of side.Server (reverse server)) (entry_lines side.Client client) (entry_lines side.Server server) p q r s
+pub parts : (a b c d e : List ℕ) (client server : Seen) → b ≡ a ++ counts_of side.Client client.entries → c ≡ b ++ counts_of side.Server server.entries → d ≡ c ++ told_lines side.Client (told_by client.tells client.entries) → e ≡ d ++ told_lines side.Server (told_by server.tells server.entries) → e ≡ a ++ report_of client server
+parts a b c d e client server p q r s = four a b c d e (counts_of side.Client client.entries) (counts_of side.Server server.entries) (told_lines side.Client (told_by client.tells client.entries)) (told_lines side.Server (told_by server.tells server.entries)) p q r s

@@ -1,8 +1,8 @@
 pub mod Line
 pub mod Lines
 pub mod Played
+pub mod Hearing
+pub mod Wires
 pub mod Report
 pub mod Script
 pub mod Words
-pub mod Crossing
-pub mod Run

@@ -1,8 +1,8 @@
 //! The report of a run.
 
-ghost use Rattle.std.specs.Prelude.{◌≡◌, ◌++◌, List, Some, OnOk, OnErr, reverse};
-ghost use Rattle.tape.specs.declared.entry.Entry.{Entry as Line};
-ghost use Rattle.cable.specs.Report.{counts_of, entry_lines, report_of};
+ghost use Rattle.std.specs.Prelude.{◌≡◌, ◌++◌, OnOk, OnErr};
+ghost use Rattle.session_core.specs.Seen.{told_by};
+ghost use Rattle.cable.specs.Report.{counts_of, report_of, told_lines};
 
 use crate::entries::{put_counts, put_entries};
 use crate::run::Ran;
@@ -16,8 +16,7 @@ fn put_end_counts<T: Tape>(
     side: Side,
     end: &Session<T>,
 ) -> Result<(), OutOfMemory>
-    ensures { (entries : List Line) → end.now.told ≡ Some entries →
-        OnOk result (out.new.items ≡ out.old.items ++ counts_of side (reverse entries)) }
+    ensures { OnOk result (out.new.items ≡ out.old.items ++ counts_of side end.now.settings end.now.entries) }
 {
     let counts = end.counts();
     let made = (counts.made_frames, counts.made);
@@ -30,17 +29,16 @@ fn put_end_entries<T: Tape>(
     side: Side,
     end: &Session<T>,
 ) -> Result<(), OutOfMemory>
-    ensures { (entries : List Line) → end.now.told ≡ Some entries →
-        OnOk result (out.new.items ≡ out.old.items ++ entry_lines side entries) }
+    ensures { OnOk result (out.new.items ≡
+        out.old.items ++ told_lines side (told_by end.now.tells end.now.entries)) }
 {
-    end.stands();
+    end.legal();
     put_entries(out, side, end.tape())
 }
 
 fn put_report<T: Tape>(out: &mut Vec<u8>, ran: &Ran<T>) -> Result<(), OutOfMemory>
-    ensures { (client server : List Line) →
-        ran.now.client.told ≡ Some client → ran.now.server.told ≡ Some server →
-        OnOk result (out.new.items ≡ out.old.items ++ report_of client server) }
+    ensures { OnOk result (out.new.items ≡
+        out.old.items ++ report_of ran.now.client ran.now.server) }
 {
     put_end_counts(out, Side::Client, &ran.client)?;
     put_end_counts(out, Side::Server, &ran.server)?;
@@ -52,9 +50,8 @@ fn put_report<T: Tape>(out: &mut Vec<u8>, ran: &Ran<T>) -> Result<(), OutOfMemor
 /// of the server, but for the draws that gave bytes. Of an end whose tape tells no entries there
 /// are only the counts. Where memory runs out, nothing is appended.
 pub fn report<T: Tape>(alloc: Global, ran: &Ran<T>, out: &mut Vec<u8>) -> Result<(), OutOfMemory>
-    ensures ok { (client server : List Line) →
-        ran.now.client.told ≡ Some client → ran.now.server.told ≡ Some server →
-        OnOk result (out.new.items ≡ out.old.items ++ report_of client server) }
+    ensures ok { OnOk result (out.new.items ≡
+        out.old.items ++ report_of ran.now.client ran.now.server) }
     ensures err { OnErr result (out.new.items ≡ out.old.items) }
 {
     let mut text = Vec::new(alloc);

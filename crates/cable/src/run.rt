@@ -1,21 +1,27 @@
 //! The run of a script.
 
-ghost use Rattle.std.specs.Prelude.{◌≡◌, [], false};
+ghost use Rattle.std.specs.Prelude.{◌≡◌, ℕ, [], List, false};
 ghost use Rattle.rs_wire.specs.declared.words.Side.TheVariants.{Client, Server};
 ghost use Rattle.rs_wire.specs.Settings.{usual};
-ghost use Rattle.session_core.specs.Seen.{Stands};
-ghost use Rattle.cable.specs.Run.{IsRun};
+ghost use Rattle.session_model.specs.Lists.{IsPrefix};
+ghost use Rattle.session_model.specs.Frames.{handled, made};
+ghost use Rattle.session_model.specs.Joined.{Joined};
+ghost use Rattle.session_model.specs.Legal.{Legal};
+ghost use Rattle.cable.specs.Played.{Played, pair_of, usual_sides};
 
 use crate::cable::Cable;
+use crate::laws::played_laws;
 use crate::script::Script;
 use session_core::Session;
 use std::alloc::Global;
 use tape::Tape;
 
-/// The two ends of a session behind the run of a script.
+/// The two ends of a session after the run of a script.
 #[derive(Drop)]
 pub struct Ran<T: Tape> {
+    /// The client.
     pub client: Session<T>,
+    /// The server.
     pub server: Session<T>,
     /// Memory ran out, or a tape was full, and the run stopped there.
     pub want: bool,
@@ -33,16 +39,31 @@ pub fn scheduled<T: Tape>(
 ) -> Ran<T>
     requires client_settings { client.settings ≡ usual Client }
     requires server_settings { server.settings ≡ usual Server }
-    requires client_fresh { Stands client [] }
-    requires server_fresh { Stands server [] }
-    ensures run { result.want ≡ false →
-        IsRun script.now client result.client server result.server }
-    ensures client_settings { result.client.settings ≡ client.settings }
-    ensures server_settings { result.server.settings ≡ server.settings }
+    requires client_fresh { client.entries ≡ [] }
+    requires server_fresh { server.entries ≡ [] }
+    ensures played { result.want ≡ false →
+        Played usual_sides script.now result.client.entries result.server.entries }
+
+    // The bytes of the two ends crossed, and what each handled is a prefix of what the other made.
+    ensures joined { result.want ≡ false → (pairs : List ℕ) × Joined (usual Client) (usual Server)
+        result.client.entries result.server.entries (pair_of pairs) }
+    ensures up { result.want ≡ false →
+        IsPrefix (handled result.server.entries) (made (usual Client) result.client.entries) }
+    ensures down { result.want ≡ false →
+        IsPrefix (handled result.client.entries) (made (usual Server) result.server.entries) }
+
+    // Where memory ran out too, both ends are as their answers say.
+    ensures client_legal { Legal (usual Client) result.client.entries }
+    ensures server_legal { Legal (usual Server) result.server.entries }
+    ensures client { result.client ≡ record client { entries = result.client.entries; spare = result.client.spare } }
+    ensures server { result.server ≡ record server { entries = result.server.entries; spare = result.server.spare } }
 {
-    let mut cable = Cable::new(alloc, client, server);
+    let mut cable = Cable::new(client, server);
     let want = cable.play(alloc, script.lines()).is_err();
     let (client, server) = cable.into_ends();
+    client.legal();
+    server.legal();
+    played_laws();
     Ran {
         client,
         server,

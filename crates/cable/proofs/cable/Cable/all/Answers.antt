@@ -1,26 +1,20 @@
-use Rattle.std.proofs.Common.{rules}
-use Rattle.cable.proofs.Carrying.{still_joint}
-use Rattle.cable.proofs.Playing.{IsLeft, all_played, line_played}
+use Rattle.cable.proofs.Playing.{all_played, keeps_on, line_played, some_at}
 use Rattle.cable.proofs.cable.Cable.all.Goals as goal
-
-pub line-requires-clause-joint : goal.line-requires-clause-joint
-line-requires-clause-joint g c =
-    let was = c.args.self.now in
-    let now = c.loop-line.self in
-    still_joint was.client now.client was.server now.server was.crossing now.crossing was.begun now.begun (λ t. IsLeft t c.args.lines.now c.loop-line.line-index) c.requires.joint c.loop-line.invariant.played
 
 pub loop-line-preserved : goal.loop-line-preserved
 loop-line-preserved g c =
+    let was = c.args.self.now in
     let old = c.loop-line.self in
     let new = c.line.new.self in
+    let i = c.loop-line.invariant in
+    let one = c.in_ok-line.ensures.played in
     record {
-      client = search rules;
-      server = search rules;
-      played = λ t C S j. line_played t old.client new.client old.server new.server old.crossing new.crossing old.begun new.begun c.args.lines.now c.loop-line.line-index c.line-item.result C S
-          c.loop-line-test.true c.line-item.is (c.loop-line.invariant.played t C S j) (c.in_ok-line.ensures.played t);
+      at = some_at new _ (one i.at.0 i.at.1);
+      ends = keeps_on was old new i.ends c.line.ensures.ends;
+      played = λ r at.
+          let b = i.played r at in
+          line_played was old new c.args.lines.now c.loop-line.line-index c.line-item.result r i.ends c.loop-line-test.true c.line-item.is b (one b.ends b.at);
     }
 
 pub returns-clause-played : goal.returns-clause-played
-returns-clause-played g c = λ t C S j.
-    let last = c.loop-line.self in
-    all_played t last.client last.server last.crossing last.begun c.args.lines.now c.loop-line.line-index C S c.loop-line-test.false (c.loop-line.invariant.played t C S j)
+returns-clause-played g c = λ r at. all_played c.args.self.now c.loop-line.self c.args.lines.now c.loop-line.line-index r c.loop-line-test.false (c.loop-line.invariant.played r at)

@@ -1,16 +1,20 @@
-use Rattle.cable.proofs.Results.{on_ok}
-use Rattle.cable.proofs.Carrying.{still_joint, up_of}
+use Rattle.std.proofs.Common.{sym, subst, refl}
+use Rattle.cable.specs.Wires.{At, IsAt, Wires}
+use Rattle.cable.proofs.Wiring.{carried_at, up_played}
 use Rattle.cable.proofs.cable.Cable.up.Goals as goal
 
-pub arrive-requires : goal.arrive-requires
-arrive-requires g c =
-    let was = c.args.self.now in
-    let now = c.carry.new.self in
-    record { joint = still_joint was.client now.client was.server now.server was.crossing now.crossing was.begun now.begun _ c.requires.joint c.in_ok-carry.ensures.drew }
+pub arrive-requires-clause-at : goal.arrive-requires-clause-at
+arrive-requires-clause-at g c =
+    let i = subst IsAt (sym c.self.view_is) c.requires.at in
+    let v : Wires = record { client = c.self.inside.client; server = c.self.inside.server; wire = c.self.inside.wire } in
+    (_, _, _, carried_at v i.0 c.args.most c.in-Some.wire c.carry.new.end c.carry.new.rest (sym c.in-Some.ensures.value) i.1 c.legal.ensures c.in_ok-carry.ensures.end c.in_ok-carry.ensures.carried)
 
-pub returns-clause-carried : goal.returns-clause-carried
-returns-clause-carried g c = λ t C S j.
-    let b = c.in_ok-carry.ensures.drew t C S j in
-    let new = c.arrive.new.self in
-    on_ok _ _ c.arrive.result (c.arrive.ensures.came t b.client b.server b.joint)
-    (λ d. up_of t c.args.most C S b.client b.server new.client new.server new.crossing new.begun b.related d)
+pub returns-clause-played : goal.returns-clause-played
+returns-clause-played g c = λ r at0.
+    let v : Wires = record { client = c.self.inside.client; server = c.self.inside.server; wire = c.self.inside.wire } in
+    let at = subst (λ (u : Wires). At u r) (sym c.self.view_is) at0 in
+    let k = c.in_ok-carry.ensures in
+    let w = c.in-Some.wire in
+    let is = sym c.in-Some.ensures.value in
+    let h = c.in_ok-arrive.ensures.arrived v.client.settings _ _ (carried_at v r c.args.most w c.carry.new.end c.carry.new.rest is at c.legal.ensures k.end k.carried) in
+    up_played v c.args.self.now r c.args.most w c.arrive.new.wire c.carry.new.end c.arrive.new.server c.carry.new.rest c.self.view_is is at c.legal.ensures k.end c.arrive.ensures.server k.carried h

@@ -1,0 +1,194 @@
+-- Draws, one behind the other.
+use Rattle.std.proofs.Common.{◌≡◌, ◌≤◌, ◌<◌, ◌+◌, ◌-◌, ◌==◌, ◌^◌, ℕ, Bool, true, false, cond, min, List, [], ◌∷◌, ◌++◌, length, take, drop, refl, ap, subst, sym, ◌∙◌, arith, append_assoc, append-nil}
+use Rattle.std.proofs.lemmas.Bool.Decides.{nat_tests}
+use Rattle.std.proofs.lemmas.Bool.{eq-eqb, ne_eqb}
+use Rattle.std.proofs.Math.Seq.{take-add}
+use Rattle.rs_wire.specs.declared.settings.Settings.{Settings}
+use Rattle.rs_frame.specs.declared.frame.Frame.{Frame}
+use Rattle.rs_frame.specs.Framed.{framed_all}
+use Rattle.rs_chunk.specs.Rest.{Rest}
+use Rattle.tape.specs.declared.event.Event.{Event}
+use Rattle.tape.specs.declared.event.Event.TheVariants as event
+use Rattle.tape.specs.declared.answer.Answer.{Answer}
+use Rattle.tape.specs.declared.answer.Answer.TheVariants as answer
+use Rattle.tape.specs.declared.entry.Entry.{Entry}
+use Rattle.session_model.specs.Life.{is_live, live}
+use Rattle.session_model.specs.Frames.{drawn, draws, due, given, owes, queued}
+use Rattle.session_model.specs.Answers.{answer_to, facts}
+use Rattle.session_core.specs.Queued.{IfDrawn}
+use Rattle.session_core.specs.Seen.{Seen, IsUnlessWant, entries_after}
+use Rattle.session_model.proofs.Queue.{drawn_owes}
+use Rattle.cable.specs.declared.carrying.Most.{Most}
+use Rattle.cable.specs.declared.carrying.Most.TheVariants as most
+use Rattle.cable.specs.Played.{DrawInSum, Draws, DrawsWhere, IsDraw, at_most}
+use Rattle.cable.specs.Hearing.{Carried, Filled, IsNoWant, IsStale}
+use Rattle.cable.proofs.Following.{is_right, noted}
+
+-- ---- answers to draws
+
+filling : (here : Bool) (room q m : ℕ) → here ≡ true → 0 < room → room ≤ q → cond here (cond (q == 0) answer.NotYet (answer.Drawn (min room q))) (answer.Stale m) ≡ answer.Drawn room
+filling false room q m h some fits = absurd (cc)
+filling true room q m h some fits =
+    let more : (q == 0) ≡ false = ne_eqb q 0 (λ e. absurd (omega (arith, e, some, fits))) in
+    let all : min room q ≡ room = omega (arith, fits) in
+    ap (λ (b : Bool). cond b answer.NotYet (answer.Drawn (min room q))) more ∙ ap answer.Drawn all
+
+fills : (g : Settings) (past : List Entry) (c room : ℕ) → is_live (live past) c ≡ true → 0 < room → room ≤ queued g past → answer_to g past (event.Draw c room) ≡ answer.Drawn room
+unfolding facts
+fills g past c room here some fits = filling (is_live (live past) c) room (queued g past) (live past) here some fits
+
+is_stale : (g : Settings) (past : List Entry) (c room : ℕ) → is_live (live past) c ≡ false → answer_to g past (event.Draw c room) ≡ answer.Stale (live past)
+unfolding facts
+is_stale g past c room out = ap (λ (b : Bool). cond b (cond (queued g past == 0) answer.NotYet (answer.Drawn (min room (queued g past)))) (answer.Stale (live past))) out
+
+pub filled : (v w : Seen) (c room : ℕ) (a : Answer) (buffer : List ℕ) → is_live (live v.entries) c ≡ true → 0 < room → room ≤ queued v.settings v.entries → IsNoWant a
+    → IsUnlessWant a (answer_to v.settings v.entries (event.Draw c room))
+    → IfDrawn a (λ k. take k buffer ≡ take k (drop (drawn v.entries c) (framed_all (due v.settings v.entries c))))
+    → w ≡ record v { entries = entries_after 0 (event.Draw c room) a v.entries; spare = w.spare }
+    → Filled c v w room buffer
+filled v w c room a buffer here some fits no_want right bytes after =
+    let is : a ≡ answer.Drawn room = is_right a _ no_want right ∙ fills v.settings v.entries c room here some fits in
+    record {
+      entries = ap (λ (u : Seen). u.entries) after ∙ ap (λ (b : Answer). entries_after 0 (event.Draw c room) b v.entries) is;
+      bytes = subst (λ (b : Answer). IfDrawn b (λ k. take k buffer ≡ take k (drop (drawn v.entries c) (framed_all (due v.settings v.entries c))))) is bytes;
+    }
+
+pub staled : (v w : Seen) (c room : ℕ) (a : Answer) → is_live (live v.entries) c ≡ false → IsNoWant a
+    → IsUnlessWant a (answer_to v.settings v.entries (event.Draw c room))
+    → w ≡ record v { entries = entries_after 0 (event.Draw c room) a v.entries; spare = w.spare }
+    → IsStale c v w room
+staled v w c room a out no_want right after =
+    let is : a ≡ answer.Stale (live v.entries) = is_right a _ no_want right ∙ is_stale v.settings v.entries c room out in
+    ap (λ (u : Seen). u.entries) after ∙ ap (λ (b : Answer). entries_after 0 (event.Draw c room) b v.entries) is
+
+-- ---- the entries of draws
+
+more_front : (d n : ℕ) (fs more : List Frame) → more ≡ [] → take (d + n) (framed_all (fs ++ more)) ≡ take d (framed_all fs) ++ take n (drop d (framed_all fs))
+more_front d n fs more none = ap (λ (m : List Frame). take (d + n) (framed_all (fs ++ m))) none ∙ (ap (λ (l : List Frame). take (d + n) (framed_all l)) (append-nil fs) ∙ take-add d n (framed_all fs))
+
+here_draws : (c n : ℕ) (e : Event) (room : ℕ) → e ≡ event.Draw c room → draws c (answer.Drawn n) e ≡ n
+here_draws c n e room is = ap (λ (v : Event). draws c (answer.Drawn n) v) is ∙ ap (λ (b : Bool). cond b n 0) (eq-eqb c c refl)
+
+drawn_here : (past : List Entry) (c n : ℕ) → drawn (noted (event.Draw c n) (answer.Drawn n) ∷ past) c ≡ drawn past c + n
+unfolding drawn
+drawn_here past c n = ap (λ (k : ℕ). drawn past c + k) (here_draws c n (event.Draw c n) n refl)
+
+given_here : (g : Settings) (past : List Entry) (c n : ℕ) → given g (noted (event.Draw c n) (answer.Drawn n) ∷ past) c ≡ given g past c ++ take n (drop (drawn past c) (framed_all (due g past c)))
+unfolding due drawn
+given_here g past c n =
+    ap (λ (k : ℕ). take (drawn past c + k) (framed_all (due g past c ++ owes g past c (answer.Drawn n) (event.Draw c n)))) (here_draws c n (event.Draw c n) n refl)
+    ∙ more_front (drawn past c) n (due g past c) (owes g past c (answer.Drawn n) (event.Draw c n)) (drawn_owes g past c n (event.Draw c n))
+
+either_none : (b : Bool) → cond {A = List Frame} b [] [] ≡ []
+either_none true = refl
+either_none false = refl
+
+plus_none : (n : ℕ) → n + 0 ≡ n
+plus_none n = omega arith
+
+given_stale : (g : Settings) (past : List Entry) (c room m : ℕ) → given g (noted (event.Draw c room) (answer.Stale m) ∷ past) c ≡ given g past c ++ []
+unfolding due drawn
+given_stale g past c room m =
+    ap (λ (fs : List Frame). take (drawn past c + 0) (framed_all (due g past c ++ fs))) (either_none (is_live (live past) c))
+    ∙ (ap (λ (fs : List Frame). take (drawn past c + 0) (framed_all fs)) (append-nil (due g past c)) ∙ (ap (λ (k : ℕ). take k (framed_all (due g past c))) (plus_none (drawn past c)) ∙ sym (append-nil (given g past c))))
+
+live_same : (past : List Entry) (c n : ℕ) → live (noted (event.Draw c n) (answer.Drawn n) ∷ past) ≡ live past
+unfolding live
+live_same past c n = refl
+
+is_here : (n c : ℕ) → is_live n c ≡ true → n ≡ c
+is_here n c h = grind (arith, nat_tests)
+
+queued_on : (g : Settings) (past : List Entry) (c : ℕ) → live past ≡ c → queued g past ≡ length (framed_all (due g past c)) - drawn past c
+unfolding queued
+queued_on g past c is = ap (λ (k : ℕ). length (framed_all (due g past k)) - drawn past k) is
+
+due_same : (g : Settings) (past : List Entry) (c n : ℕ) → due g (noted (event.Draw c n) (answer.Drawn n) ∷ past) c ≡ due g past c
+unfolding due
+due_same g past c n = ap (λ (l : List Frame). due g past c ++ l) (drawn_owes g past c n (event.Draw c n)) ∙ append-nil (due g past c)
+
+queued_less : (g : Settings) (past : List Entry) (c n : ℕ) → is_live (live past) c ≡ true → n ≤ queued g past → queued g (noted (event.Draw c n) (answer.Drawn n) ∷ past) + n ≡ queued g past
+queued_less g past c n here fits =
+    let at : live past ≡ c = is_here (live past) c here in
+    let now = queued_on g (noted (event.Draw c n) (answer.Drawn n) ∷ past) c (live_same past c n ∙ at) in
+    let before = queued_on g past c at in
+    let long : length (framed_all (due g (noted (event.Draw c n) (answer.Drawn n) ∷ past) c)) ≡ length (framed_all (due g past c)) = ap (λ (l : List Frame). length (framed_all l)) (due_same g past c n) in
+    let more = drawn_here past c n in
+    omega (arith, now, before, long, more, fits)
+
+-- ---- draws so far
+
+pub same_trans : (u v w : Seen) → v ≡ record u { entries = v.entries; spare = v.spare } → w ≡ record v { entries = w.entries; spare = w.spare } → w ≡ record u { entries = w.entries; spare = w.spare }
+same_trans u v w h k = k ∙ ap (λ (x : Seen). record x { entries = w.entries; spare = w.spare }) h
+
+pub record Drew (g : Settings) (c : ℕ) (past now : List Entry) (start rest : Rest) (n : ℕ) : Type 0 where
+  pub drawing : List Entry
+  pub now_is : now ≡ drawing ++ past
+  pub sum : DrawInSum g c drawing past n
+  pub here : is_live (live now) c ≡ true
+  pub less : queued g now + n ≡ queued g past
+  pub piece : List ℕ
+  pub gave : given g now c ≡ given g past c ++ piece
+  pub crossed : rest ≡ record start { bytes = start.bytes ++ piece }
+
+pub none_drew : (g : Settings) (c : ℕ) (past : List Entry) (rest : Rest) → is_live (live past) c ≡ true → Drew g c past past rest rest 0
+unfolding DrawInSum
+none_drew g c past rest here = record {
+  drawing = [];
+  now_is = refl;
+  sum = refl;
+  here = here;
+  less = omega arith;
+  piece = [];
+  gave = sym (append-nil (given g past c));
+  crossed = ap (λ (l : List ℕ). record rest { bytes = l }) (sym (append-nil rest.bytes));
+}
+
+drew_one : (g : Settings) (c : ℕ) (past now : List Entry) (start rest rest' : Rest) (n room : ℕ) (buffer : List ℕ) → Drew g c past now start rest n → 0 < room → room < 2 ^ 32 → room ≤ queued g now
+    → take room buffer ≡ take room (drop (drawn now c) (framed_all (due g now c))) → rest' ≡ record rest { bytes = rest.bytes ++ take room buffer } → Drew g c past (noted (event.Draw c room) (answer.Drawn room) ∷ now) start rest' (n + room)
+unfolding DrawInSum
+drew_one g c past now start rest rest' n room buffer d some few fits bytes fed =
+    let x : Entry = noted (event.Draw c room) (answer.Drawn room) in
+    let one : IsDraw g c now x (answer.Drawn room) = record { room = room; some = some; few = few; entry = refl; right = sym (fills g now c room d.here some fits) } in
+    let less : queued g (x ∷ now) + room ≡ queued g now = queued_less g now c room d.here fits in
+    record {
+      drawing = x ∷ d.drawing;
+      now_is = ap (λ (l : List Entry). x ∷ l) d.now_is;
+      sum = (room, n, d.sum, subst (λ (l : List Entry). IsDraw g c l x (answer.Drawn room)) d.now_is one, refl);
+      here = ap (λ (k : ℕ). is_live k c) (live_same now c room) ∙ d.here;
+      less = omega (arith, less, d.less);
+      piece = d.piece ++ take room buffer;
+      gave = given_here g now c room ∙ (ap (λ (l : List ℕ). given g now c ++ l) (sym bytes) ∙ (ap (λ (l : List ℕ). l ++ take room buffer) d.gave ∙ append_assoc (given g past c) d.piece (take room buffer)));
+      crossed = fed ∙ (ap (λ (r : Rest). record r { bytes = r.bytes ++ take room buffer }) d.crossed ∙ ap (λ (l : List ℕ). record start { bytes = l }) (append_assoc start.bytes d.piece (take room buffer)));
+    }
+
+pub drew_more : (u v w : Seen) (c : ℕ) (start rest rest' : Rest) (n room : ℕ) (buffer : List ℕ) → v ≡ record u { entries = v.entries; spare = v.spare } → Drew u.settings c u.entries v.entries start rest n → 0 < room → room < 2 ^ 32 → room ≤ queued u.settings v.entries
+    → Filled c v w room buffer → rest' ≡ record rest { bytes = rest.bytes ++ take room buffer } → Drew u.settings c u.entries w.entries start rest' (n + room)
+drew_more u v w c start rest rest' n room buffer same d some few fits f fed =
+    let bytes = f.bytes ∙ ap (λ (x : Seen). take room (drop (drawn v.entries c) (framed_all (due x.settings v.entries c)))) same in
+    subst (λ (l : List Entry). Drew u.settings c u.entries l start rest' (n + room)) (sym f.entries) (drew_one u.settings c u.entries v.entries start rest rest' n room buffer d some few fits bytes fed)
+
+pub carried_all : (u v : Seen) (c : ℕ) (m : Most) (start rest : Rest) (n : ℕ) → is_live (live u.entries) c ≡ true → n ≡ at_most m (queued u.settings u.entries) → Drew u.settings c u.entries v.entries start rest n → Carried c m u v start rest
+carried_all u v c m start rest n here total d = record {
+  draws = subst (λ (b : Bool). DrawsWhere b u.settings c m u.entries v.entries) (sym here) (d.drawing, subst (DrawInSum u.settings c d.drawing u.entries) total d.sum, d.now_is);
+  piece = d.piece;
+  gave = d.gave;
+  crossed = d.crossed;
+}
+
+pub carried_stale : (u v : Seen) (c : ℕ) (m : Most) (rest : Rest) (room : ℕ) → is_live (live u.entries) c ≡ false → 0 < room → room < 2 ^ 32 → IsStale c u v room → Carried c m u v rest rest
+carried_stale u v c m rest room out some few s =
+    let g = u.settings in
+    let past = u.entries in
+    let x : Entry = noted (event.Draw c room) (answer.Stale (live past)) in
+    let one : IsDraw g c past x (answer.Stale (live past)) = record { room = room; some = some; few = few; entry = refl; right = sym (is_stale g past c room out) } in
+    record {
+      draws = subst (λ (b : Bool). DrawsWhere b g c m past v.entries) (sym out) (x, one, s);
+      piece = [];
+      gave = ap (λ (l : List Entry). given g l c) s ∙ given_stale g past c room (live past);
+      crossed = ap (λ (l : List ℕ). record rest { bytes = l }) (sym (append-nil rest.bytes));
+    }
+
+pub lesser_below : (m : Most) (n waits : ℕ) → n ≡ at_most m waits → n ≤ waits
+lesser_below (most.Bytes k) n waits e = omega (arith, e)
+lesser_below most.All n waits e = omega (arith, e)

@@ -1,0 +1,51 @@
+-- What crosses, while both ends go on.
+use Rattle.std.proofs.Common.{◌≡◌, ◌≤◌, ◌+◌, ◌-◌, ℕ, Bool, is_some, List, [], ◌++◌, length, take, ap, sym, ◌∙◌, append_assoc, append-nil}
+use Rattle.std.proofs.lemmas.List.{take-append-le}
+use Rattle.rs_wire.specs.declared.settings.Settings.{Settings}
+use Rattle.rs_frame.specs.declared.frame.Frame.{Frame}
+use Rattle.rs_frame.specs.Framed.{framed_all}
+use Rattle.rs_chunk.specs.Rest.{Rest}
+use Rattle.tape.specs.declared.entry.Entry.{Entry}
+use Rattle.session_model.specs.Frames.{came, drawn, draws, due, given}
+use Rattle.session_laws.proofs.Framing.{AreSpellable}
+use Rattle.session_model.proofs.Queue.{framed_all-append}
+use Rattle.cable.specs.declared.arrival.Arrival.{Arrival}
+use Rattle.cable.specs.Played.{crossed}
+use Rattle.cable.specs.Hearing.{CrossedTo}
+use Rattle.cable.proofs.Crosses.{crossed_more, wholes}
+use Rattle.cable.proofs.Grows.{Quiet, Sends, opened_still}
+
+-- ---- the sender goes on
+
+parts_more : (most n n' : ℕ) (frames frames' more came : List Frame) (items : List Arrival) → frames' ≡ frames ++ more → n ≤ n' → wholes came ++ items ≡ crossed most n frames → (items' : List Arrival) × (wholes came ++ items' ≡ crossed most n' frames')
+parts_more most n n' frames frames' more came items is le e =
+    let p = crossed_more most n n' frames more le in
+    (items ++ p.0, sym (append_assoc (wholes came) items p.0) ∙ (ap (λ (l : List Arrival). l ++ p.0) e ∙ (p.1 ∙ ap (crossed most n') (sym is))))
+
+pub crosses_more : (g h : Settings) (c d : ℕ) (C C' S : List Entry) (rest rest' : Rest) (over : Bool) (piece : List ℕ) → Sends g c C C' → AreSpellable (due g C' c) → given g C' c ≡ given g C c ++ piece → rest' ≡ record rest { bytes = rest.bytes ++ piece } → CrossedTo h d (drawn C c) (due g C c) S rest over → CrossedTo h d (drawn C' c) (due g C' c) S rest' over
+crosses_more g h c d C C' S rest rest' over piece z spelled gave fed x = record {
+  ahead = record { longest = ap (λ (r : Rest). r.max_in) fed ∙ x.ahead.longest; below = x.ahead.below; spellable = spelled };
+  opened = x.opened;
+  bytes = gave ∙ (ap (λ (l : List ℕ). l ++ piece) x.bytes ∙ (append_assoc (framed_all (came S d)) rest.bytes piece ∙ ap (λ (r : Rest). framed_all (came S d) ++ r.bytes) (sym fed)));
+  bad = x.bad;
+  parts = λ none. let items = x.parts none in parts_more h.max_in (drawn C c) (drawn C' c) (due g C c) (due g C' c) z.more (came S d) items.0 z.due_is z.drawn_most items.1;
+}
+
+-- it goes on, and draws nothing
+pub still_given : (g : Settings) (c : ℕ) (C C' : List Entry) → Sends g c C C' → drawn C' c ≡ drawn C c → drawn C c ≤ length (framed_all (due g C c)) → given g C' c ≡ given g C c ++ []
+still_given g c C C' z same fits =
+    ap (λ (n : ℕ). take n (framed_all (due g C' c))) same ∙ (ap (λ (fs : List Frame). take (drawn C c) (framed_all fs)) z.due_is ∙ (ap (λ (l : List ℕ). take (drawn C c) l) (framed_all-append (due g C c) z.more)
+    ∙ (take-append-le (drawn C c) (framed_all (due g C c)) (framed_all z.more) fits ∙ sym (append-nil (given g C c)))))
+
+-- ---- the hearer goes on, and nothing comes
+
+pub crosses_quiet : (h : Settings) (d n : ℕ) (frames : List Frame) (S S' : List Entry) (rest : Rest) (over : Bool) → Quiet S S' → CrossedTo h d n frames S rest over → CrossedTo h d n frames S' rest over
+crosses_quiet h d n frames S S' rest over q x =
+    let m = q.same d in
+    record {
+      ahead = x.ahead;
+      opened = opened_still d S S' q.openings_are x.opened;
+      bytes = x.bytes ∙ ap (λ (l : List Frame). framed_all l ++ rest.bytes) (sym m.came_is);
+      bad = x.bad ∙ ap is_some (sym m.bad_is);
+      parts = λ none. let items = x.parts (sym m.bad_is ∙ none) in (items.0, ap (λ (l : List Frame). wholes l ++ items.0) m.came_is ∙ items.1);
+    }

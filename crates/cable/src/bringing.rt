@@ -1,0 +1,84 @@
+//! Events are brought to one end.
+
+ghost use Rattle.std.specs.Prelude.{◌≡◌, None, false, IfOk, OnOk};
+ghost use Rattle.rs_wire.specs.declared.words.Side.TheVariants.{Client};
+ghost use Rattle.session_model.specs.Legal.{IsAskable, IsFair};
+ghost use Rattle.session_model.specs.Answers.{answer_to};
+ghost use Rattle.session_core.specs.Seen.{IsNoDrawEvent};
+ghost use Rattle.cable.specs.Played.{adds};
+ghost use Rattle.cable.specs.Hearing.{IsNoWant};
+
+use rs_frame::Frame;
+use rs_wire::{Call, OutOfMemory};
+use session_core::Session;
+use std::alloc::Global;
+use tape::{Answer, Event, Tape};
+
+/// The number of the one caller.
+pub(crate) const CALLER: u32 = 0;
+
+/// Where memory did not run out.
+pub(crate) fn wanted(answer: &Answer) -> Result<(), OutOfMemory>
+    ensures { OnOk result (IsNoWant answer.now) }
+{
+    match answer {
+        Answer::TapeFull | Answer::OutOfMemory => Err(OutOfMemory),
+        _ => Ok(()),
+    }
+}
+
+/// Brings an event to an end: its answer.
+pub(crate) fn tell<T: Tape>(end: &mut Session<T>, event: &Event) -> Result<Answer, OutOfMemory>
+    requires fair { IsFair end.old.settings event.now }
+    requires no_draw { IsNoDrawEvent event.now }
+    ensures end { end.new ≡ record end.old { entries = end.new.entries; spare = end.new.spare } }
+    ensures noted { OnOk result (end.new.entries ≡
+        adds end.old.settings end.old.entries event.now) }
+    ensures answer { IfOk result (λ a. a ≡ answer_to end.old.settings end.old.entries event.now) }
+{
+    let answer = end.step(CALLER, event);
+    wanted(&answer)?;
+    Ok(answer)
+}
+
+/// The event of an opening, with a first frame on a server.
+pub(crate) fn opening(first: Option<Frame>) -> Event
+    ensures { result ≡ Event.Open first false }
+{
+    Event::Open {
+        first,
+        taken: false,
+    }
+}
+
+/// A client opens a connection: its answer.
+pub(crate) fn connect<T: Tape>(end: &mut Session<T>) -> Result<Answer, OutOfMemory>
+    requires { end.old.settings.side ≡ Client }
+    ensures end { end.new ≡ record end.old { entries = end.new.entries; spare = end.new.spare } }
+    ensures noted { OnOk result (end.new.entries ≡
+        adds end.old.settings end.old.entries (Event.Open None false)) }
+    ensures answer { IfOk result (λ a. a ≡
+        answer_to end.old.settings end.old.entries (Event.Open None false)) }
+{
+    tell(end, &opening(None))
+}
+
+fn asked(call: Call) -> Event
+    ensures { result ≡ Event.Asked call }
+{
+    Event::Asked(call)
+}
+
+/// A caller at an end asks something.
+pub(crate) fn ask<T: Tape>(
+    alloc: Global,
+    end: &mut Session<T>,
+    call: &Call,
+) -> Result<Answer, OutOfMemory>
+    requires { IsAskable call.now }
+    ensures end { end.new ≡ record end.old { entries = end.new.entries; spare = end.new.spare } }
+    ensures noted { OnOk result (end.new.entries ≡
+        adds end.old.settings end.old.entries (Event.Asked call.now)) }
+{
+    tell(end, &asked(call.copy(alloc)?))
+}

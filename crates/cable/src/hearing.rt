@@ -1,0 +1,158 @@
+//! One end hears what crossed to it.
+
+ghost use Rattle.std.specs.Prelude.{◌≡◌, ℕ, List, Some, false, IfOk, OnOk};
+ghost use Rattle.rs_wire.specs.declared.words.Side.TheVariants.{Server};
+ghost use Rattle.rs_frame.specs.declared.frame.Frame.{Frame as Meant};
+ghost use Rattle.rs_frame.specs.Spelling.{IsSpellable};
+ghost use Rattle.session_model.specs.Legal.{IsFair};
+ghost use Rattle.session_model.specs.Answers.{answer_to};
+ghost use Rattle.session_core.specs.Seen.{IsNoDrawEvent};
+ghost use Rattle.cable.specs.Played.{adds, event_of as event_meant};
+ghost use Rattle.tape.specs.Answers.{leaves};
+ghost use Rattle.cable.specs.Hearing.{Crosses, IsCrossing, IsHearer, IsMet, IsNear, IsNoWant, IsOpenedBy, Nears, known_of};
+
+use crate::arrival::{Arrival, event_of, is_too_long, next, whole};
+use crate::bringing::{opening, tell};
+use rs_chunk::Reader;
+use rs_frame::Frame;
+use rs_wire::OutOfMemory;
+use session_core::Session;
+use std::alloc::Global;
+use tape::{Answer, Event, Tape};
+
+/// What crossed to an end on one connection and did not come there yet.
+#[derive(Drop)]
+pub(crate) struct Crossing {
+    pub rest: Reader,
+    /// A length came that no frame may have: nothing more comes.
+    pub over: bool,
+}
+
+/// What an end knows of a connection that the other end opened.
+#[derive(Clone, Copy, Debug, PartialEq, Eq)]
+pub(crate) enum Known {
+    /// Nothing: its first frame did not come yet.
+    Nothing,
+    /// It accepted it; the number that it has there.
+    Accepted(u64),
+    /// It refused it.
+    Refused,
+}
+
+fn leaves_entry(answer: &Answer) -> bool
+    ensures { result ≡ leaves answer.now }
+{
+    !matches!(
+        answer,
+        Answer::NotYet | Answer::OutBusy(_) | Answer::TapeFull | Answer::OutOfMemory
+    )
+}
+
+// Brings an event to an end: whether its answer leaves an entry.
+fn brings<T: Tape>(end: &mut Session<T>, event: &Event) -> Result<bool, OutOfMemory>
+    requires fair { IsFair end.old.settings event.now }
+    requires no_draw { IsNoDrawEvent event.now }
+    ensures end { end.new ≡ record end.old { entries = end.new.entries; spare = end.new.spare } }
+    ensures noted { OnOk result (end.new.entries ≡
+        adds end.old.settings end.old.entries event.now) }
+    ensures leaves { IfOk result (λ b. b ≡
+        leaves (answer_to end.old.settings end.old.entries event.now)) }
+{
+    let answer = tell(end, event)?;
+    Ok(leaves_entry(&answer))
+}
+
+// Brings what stands in front: whether its answer leaves an entry.
+fn come<T: Tape>(end: &mut Session<T>, conn: u64, next: Arrival) -> Result<bool, OutOfMemory>
+    requires fair { IsFair end.old.settings (event_meant conn next) }
+    ensures end { end.new ≡ record end.old { entries = end.new.entries; spare = end.new.spare } }
+    ensures noted { OnOk result (end.new.entries ≡
+        adds end.old.settings end.old.entries (event_meant conn next)) }
+    ensures leaves { IfOk result (λ b. b ≡
+        leaves (answer_to end.old.settings end.old.entries (event_meant conn next))) }
+{
+    brings(end, &event_of(conn, next))
+}
+
+/// Brings all that crossed and can come.
+pub(crate) fn hear<T: Tape>(
+    alloc: Global,
+    end: &mut Session<T>,
+    conn: u64,
+    crossing: &mut Crossing,
+) -> Result<(), OutOfMemory>
+    requires crossing { IsCrossing conn end.old crossing.old }
+    ensures end { end.new ≡ record end.old { entries = end.new.entries; spare = end.new.spare } }
+    ensures heard { (n : ℕ) (frames : List Meant) → Crosses conn n frames end.old crossing.old →
+        OnOk result (IsHearer conn n frames end.old end.new crossing.new) }
+{
+    if crossing.over {
+        return Ok(());
+    }
+    while let Some(next) = next(alloc, &crossing.rest)? {
+        let last = is_too_long(&next);
+        if !come(end, conn, next)? {
+            return Ok(());
+        }
+        if last {
+            crossing.over = true;
+            return Ok(());
+        }
+        crossing.rest.pass();
+    }
+    Ok(())
+}
+
+fn known_by(answer: &Answer) -> Known
+    ensures { result ≡ known_of answer.now }
+{
+    match answer {
+        Answer::Opened(conn) => Known::Accepted(*conn),
+        _ => Known::Refused,
+    }
+}
+
+// Brings an opening: what the end knows of the connection then.
+fn opens<T: Tape>(end: &mut Session<T>, event: &Event) -> Result<Known, OutOfMemory>
+    requires fair { IsFair end.old.settings event.now }
+    requires no_draw { IsNoDrawEvent event.now }
+    ensures end { end.new ≡ record end.old { entries = end.new.entries; spare = end.new.spare } }
+    ensures noted { OnOk result (end.new.entries ≡
+        adds end.old.settings end.old.entries event.now) }
+    ensures known { IfOk result (λ k. k ≡
+        known_of (answer_to end.old.settings end.old.entries event.now)) }
+{
+    let answer = tell(end, event)?;
+    Ok(known_by(&answer))
+}
+
+// Brings the first frame of a connection.
+fn open_by<T: Tape>(end: &mut Session<T>, frame: Frame) -> Result<Known, OutOfMemory>
+    requires side { end.old.settings.side ≡ Server }
+    requires spellable { IsSpellable frame }
+    ensures end { end.new ≡ record end.old { entries = end.new.entries; spare = end.new.spare } }
+    ensures opened { IfOk result (IsOpenedBy frame end.old end.new) }
+{
+    opens(end, &opening(Some(frame)))
+}
+
+/// Brings the first frame that crossed, which opens the connection. Where it is longer than the end
+/// takes, the end never knows of the connection.
+pub(crate) fn meet<T: Tape>(
+    alloc: Global,
+    end: &mut Session<T>,
+    crossing: &mut Crossing,
+) -> Result<Known, OutOfMemory>
+    requires side { end.old.settings.side ≡ Server }
+    requires near { IsNear end.old crossing.old }
+    ensures end { end.new ≡ record end.old { entries = end.new.entries; spare = end.new.spare } }
+    ensures met { (n : ℕ) (frames : List Meant) → Nears n frames end.old crossing.old →
+        IfOk result (IsMet n frames end.old end.new crossing.new) }
+{
+    let Some(frame) = whole(next(alloc, &crossing.rest)?) else {
+        return Ok(Known::Nothing);
+    };
+    let known = open_by(end, frame)?;
+    crossing.rest.pass();
+    Ok(known)
+}
