@@ -20,7 +20,7 @@ use Rattle.session_core.specs.Seen.{Seen, IsUnlessWant, entries_after}
 use Rattle.session_model.proofs.Queue.{drawn_owes}
 use Rattle.cable.specs.declared.carrying.Most.{Most}
 use Rattle.cable.specs.declared.carrying.Most.TheVariants as most
-use Rattle.cable.specs.Played.{DrawInSum, Draws, DrawsWhere, IsDraw, at_most}
+use Rattle.cable.specs.Played.{DrawInSum, DrawsWhere, IsDraw, at_most}
 use Rattle.cable.specs.Hearing.{Carried, Filled, IsNoWant, IsStale}
 use Rattle.cable.proofs.Following.{is_right, noted}
 

@@ -8,7 +8,7 @@ use Rattle.rs_wire.specs.declared.call.Call.{Call}
 use Rattle.rs_wire.specs.declared.settings.Settings.{Settings}
 use Rattle.rs_wire.specs.Settings.{IsChecked, fault_of, usual}
 use Rattle.tape.specs.declared.entry.Entry.{Entry}
-use Rattle.session_model.specs.Legal.{IsAskable, IsPlain, Legal}
+use Rattle.session_model.specs.Legal.{Fair, IsAskable, IsPlain, Legal}
 use Rattle.session_core.specs.Seen.{Seen}
 use Rattle.session_laws.specs.Ends.{AreEnds}
 use Rattle.cable.specs.declared.line.Line.{Line}
@@ -16,7 +16,7 @@ use Rattle.cable.specs.declared.line.Line.TheVariants as lines
 use Rattle.cable.specs.Line.{IsLine}
 use Rattle.cable.specs.Played.{Ends, Played, PlaysLine, PlaysLines, Sides, begins, nothing, opens, usual_sides}
 use Rattle.cable.proofs.Drawing.{same_trans}
-use Rattle.cable.specs.Wires.{At, Keeps, Reaches, Wires, sides_of}
+use Rattle.cable.specs.Wires.{At, Keeps, Reaches, Wires, sides_of, IsOfSession}
 
 -- ---- the lines that are left
 
@@ -114,9 +114,9 @@ pub ok_holds : {A B : Type 0} (P : Type 0) (r : Result A B) → is_err r ≡ fal
 ok_holds P (Ok x) fine h = h
 ok_holds P (Err e) fine h = absurd (cc)
 
-legal_none : (s : Seen) → s.entries ≡ [] → Legal s.settings s.entries
-unfolding Legal
-legal_none s none = subst (Legal s.settings) (sym none) tt
+legal_none : (s : Seen) → s.entries ≡ [] → IsOfSession s.settings s.entries
+unfolding Legal Fair
+legal_none s none = subst (IsOfSession s.settings) (sym none) (tt, tt)
 
 -- two ends with the usual settings, of which nothing happened yet
 pub usual_at : (client server : Seen) (v : Wires) → v ≡ record { client = client; server = server; wire = None } → client.settings ≡ usual Client → server.settings ≡ usual Server → client.entries ≡ [] → server.entries ≡ [] → At v nothing
@@ -131,8 +131,8 @@ usual_at client server v is c s c_none s_none = subst (λ (u : Wires). At u noth
 })
 
 -- the ends of a run
-pub usual_ends : (C S : List Entry) → Legal (usual Client) C → Legal (usual Server) S → AreEnds (usual Client) (usual Server) C S
-usual_ends C S c s = record { client = refl; server = refl; client_plain = usual_plain Client; server_plain = usual_plain Server; client_legal = c; server_legal = s }
+pub usual_ends : (C S : List Entry) → IsOfSession (usual Client) C → IsOfSession (usual Server) S → AreEnds (usual Client) (usual Server) C S
+usual_ends C S c s = record { client = refl; server = refl; client_plain = usual_plain Client; server_plain = usual_plain Server; client_legal = c.0; server_legal = s.0; client_fair = c.1; server_fair = s.1 }
 
 -- the lines of the script were played
 pub run_played : (client server : Seen) (v w : Wires) (C S : Seen) (script lines : List Line) → v ≡ record { client = client; server = server; wire = None } → client.settings ≡ usual Client → server.settings ≡ usual Server → C ≡ w.client → S ≡ w.server → lines ≡ script
@@ -152,5 +152,5 @@ run_client client server v w C is k c_is = c_is ∙ (k.client ∙ (ap (λ (u : W
 pub run_server : (client server : Seen) (v w : Wires) (S : Seen) → v ≡ record { client = client; server = server; wire = None } → Keeps v w → S ≡ w.server → S ≡ record server { entries = S.entries; spare = S.spare }
 run_server client server v w S is k s_is = s_is ∙ (k.server ∙ (ap (λ (u : Wires). record u.server { entries = w.server.entries; spare = w.server.spare }) is ∙ ap (λ (u : Seen). record server { entries = u.entries; spare = u.spare }) (sym s_is)))
 
-pub legal_as : (side : Side) (first last : Seen) → first.settings ≡ usual side → last ≡ record first { entries = last.entries; spare = last.spare } → Legal last.settings last.entries → Legal (usual side) last.entries
-legal_as side first last is same legal = subst (λ (g : Settings). Legal g last.entries) (ap (λ (u : Seen). u.settings) same ∙ is) legal
+pub legal_as : (side : Side) (first last : Seen) → first.settings ≡ usual side → last ≡ record first { entries = last.entries; spare = last.spare } → IsOfSession last.settings last.entries → IsOfSession (usual side) last.entries
+legal_as side first last is same legal = subst (λ (g : Settings). IsOfSession g last.entries) (ap (λ (u : Seen). u.settings) same ∙ is) legal

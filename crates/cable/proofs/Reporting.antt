@@ -8,7 +8,7 @@ use Rattle.tape.specs.declared.event.Event.{Event}
 use Rattle.tape.specs.declared.event.Event.TheVariants as event
 use Rattle.tape.specs.declared.entry.Entry.{Entry}
 use Rattle.session_core.specs.Seen.{Seen, told_by}
-use Rattle.session_model.specs.Legal.{IsFair, Legal}
+use Rattle.session_model.specs.Legal.{Fair, IsFair}
 use Rattle.cable.specs.Lines.{AreTellable, CanBeTold}
 use Rattle.cable.specs.Report.{counts_of, report_of, told_lines}
 
@@ -20,10 +20,10 @@ fair_told g (event.Came conn f) h = h
 fair_told g (event.Bad conn number) h = tt
 fair_told g (event.Asked asked) h = tt
 
-all_legal : (g : Settings) (past : List Entry) → Legal g past → AreTellable past
-unfolding Legal
-all_legal g [] h = tt
-all_legal g (x ∷ past) h = (fair_told g x.event h.1.fair, all_legal g past h.0)
+all_fair : (g : Settings) (past : List Entry) → Fair g past → AreTellable past
+unfolding Fair
+all_fair g [] h = tt
+all_fair g (x ∷ past) h = (fair_told g x.event h.1, all_fair g past h.0)
 
 all_behind : {X : Type 0} (P : X → Type 0) (xs ys : List X) → AllByRecursion P xs → AllByRecursion P ys → AllByRecursion P (xs ++ ys)
 all_behind {X} P [] ys h k = k
@@ -34,8 +34,8 @@ all_back {X} P [] h = tt
 all_back {X} P (x ∷ xs) h = subst (AllByRecursion P) (sym (reverse-append (x ∷ []) xs)) (all_behind P (reverse xs) (x ∷ []) (all_back P xs h.1) (h.0, tt))
 
 -- the entries of a session can be told
-pub tellable : (g : Settings) (T : List Entry) → Legal g (reverse T) → AreTellable T
-tellable g T h = subst AreTellable (reverse-reverse T) (all_back (λ (x : Entry). CanBeTold x.event) (reverse T) (all_legal g (reverse T) h))
+pub tellable : (g : Settings) (T : List Entry) → Fair g (reverse T) → AreTellable T
+tellable g T h = subst AreTellable (reverse-reverse T) (all_back (λ (x : Entry). CanBeTold x.event) (reverse T) (all_fair g (reverse T) h))
 
 -- what a tape tells is its entries
 pub told_list : (tells : Bool) (past entries : List Entry) → told_by tells past ≡ Some entries → reverse entries ≡ past
@@ -48,5 +48,5 @@ four a b c d e u v w z p q r s =
     ∙ (append_assoc ((a ++ u) ++ v) w z ∙ (append_assoc (a ++ u) v (w ++ z) ∙ append_assoc a u (v ++ (w ++ z)))))
 
 -- the four parts of a report
-pub parts : (a b c d e : List ℕ) (client server : Seen) → b ≡ a ++ counts_of side.Client client.entries → c ≡ b ++ counts_of side.Server server.entries → d ≡ c ++ told_lines side.Client (told_by client.tells client.entries) → e ≡ d ++ told_lines side.Server (told_by server.tells server.entries) → e ≡ a ++ report_of client server
-parts a b c d e client server p q r s = four a b c d e (counts_of side.Client client.entries) (counts_of side.Server server.entries) (told_lines side.Client (told_by client.tells client.entries)) (told_lines side.Server (told_by server.tells server.entries)) p q r s
+pub parts : (a b c d e : List ℕ) (client server : Seen) → b ≡ a ++ counts_of side.Client client.settings client.entries → c ≡ b ++ counts_of side.Server server.settings server.entries → d ≡ c ++ told_lines side.Client (told_by client.tells client.entries) → e ≡ d ++ told_lines side.Server (told_by server.tells server.entries) → e ≡ a ++ report_of client server
+parts a b c d e client server p q r s = four a b c d e (counts_of side.Client client.settings client.entries) (counts_of side.Server server.settings server.entries) (told_lines side.Client (told_by client.tells client.entries)) (told_lines side.Server (told_by server.tells server.entries)) p q r s

@@ -1,12 +1,12 @@
 -- What crosses, while both ends go on.
-use Rattle.std.proofs.Common.{◌≡◌, ◌≤◌, ◌+◌, ◌-◌, ℕ, Bool, is_some, List, [], ◌++◌, length, take, ap, sym, ◌∙◌, append_assoc, append-nil}
+use Rattle.std.proofs.Common.{◌≡◌, ◌≤◌, ℕ, Bool, is_some, List, [], ◌++◌, length, take, ap, sym, ◌∙◌, append_assoc, append-nil}
 use Rattle.std.proofs.lemmas.List.{take-append-le}
 use Rattle.rs_wire.specs.declared.settings.Settings.{Settings}
 use Rattle.rs_frame.specs.declared.frame.Frame.{Frame}
 use Rattle.rs_frame.specs.Framed.{framed_all}
 use Rattle.rs_chunk.specs.Rest.{Rest}
 use Rattle.tape.specs.declared.entry.Entry.{Entry}
-use Rattle.session_model.specs.Frames.{came, drawn, draws, due, given}
+use Rattle.session_model.specs.Frames.{came, drawn, due, given}
 use Rattle.session_laws.proofs.Framing.{AreSpellable}
 use Rattle.session_model.proofs.Queue.{framed_all-append}
 use Rattle.cable.specs.declared.arrival.Arrival.{Arrival}

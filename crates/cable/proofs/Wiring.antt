@@ -15,7 +15,7 @@ use Rattle.tape.specs.declared.answer.Answer.TheVariants as answer
 use Rattle.tape.specs.declared.entry.Entry.{Entry}
 use Rattle.session_model.specs.Life.{begun, closed, is_live, live, openings}
 use Rattle.session_model.specs.Frames.{drawn, draws, due, given}
-use Rattle.session_model.specs.Legal.{IsPlain, Legal}
+use Rattle.session_model.specs.Legal.{Fair, IsPlain, Legal}
 use Rattle.session_model.specs.Answers.{answer_to, facts}
 use Rattle.session_core.specs.Seen.{Seen}
 use Rattle.session_laws.proofs.Framing.{AreSpellable}
@@ -31,7 +31,7 @@ use Rattle.cable.specs.declared.hearing.Known.TheVariants as known
 use Rattle.cable.specs.Played.{CarriesUp, Draws, Ends, Link, OnLink, Sides, There, Ups, adds, answered, arrives_up, asks, crossed, crossed_up, hears, hears_if_accepted, hears_up, link_of, meets, nothing, opens, opened_by, there_of, with_client, with_server}
 use Rattle.tape.specs.Answers.{leaves}
 use Rattle.cable.specs.Hearing.{Ahead, Carried, CrossedTo, Crosses, IsHearer, IsMet, IsMetBy, Nears, known_of}
-use Rattle.cable.specs.Wires.{Arrives, At, Knows, Reaches, ServerAt, WireAt, Wires, sides_of, wire_of}
+use Rattle.cable.specs.Wires.{Arrives, At, Knows, Reaches, ServerAt, WireAt, Wires, sides_of, wire_of, IsOfSession}
 use Rattle.cable.proofs.Grows.{Quiet, Sends, added_quiet, drew_where}
 use Rattle.cable.proofs.Opening.{number_is}
 use Rattle.cable.proofs.Sending.{crosses_more, crosses_quiet, still_given}
@@ -203,12 +203,7 @@ knows_more There.Nowhere known.Nothing g c C C' v x rest piece s fed h = record 
 }
 knows_more (There.Accepted d) (known.Accepted e) g c C C' v x rest piece s fed h = (h.0, crosses_more g v.settings c d C C' v.entries x.rest rest x.over piece s.sends s.spelled s.gave fed h.1)
 knows_more (There.Refused d m) known.Refused g c C C' v x rest piece s fed h = tt
-knows_more There.Nowhere (known.Accepted e) g c C C' v x rest piece s fed h = absurd h
-knows_more There.Nowhere known.Refused g c C C' v x rest piece s fed h = absurd h
-knows_more (There.Accepted d) known.Nothing g c C C' v x rest piece s fed h = absurd h
-knows_more (There.Accepted d) known.Refused g c C C' v x rest piece s fed h = absurd h
-knows_more (There.Refused d m) known.Nothing g c C C' v x rest piece s fed h = absurd h
-knows_more (There.Refused d m) (known.Accepted e) g c C C' v x rest piece s fed h = absurd h
+knows_more _ _ g c C C' v x rest piece s fed h = absurd h
 
 abbrev fed : Wire → Rest → Wire
 fed w rest = record w { up = record w.up { rest = rest } }
@@ -222,13 +217,13 @@ server_more g r C' t v w rest piece s is h = record {
 }
 
 -- the client carried
-pub server_carried : (r : Ends) (t : There) (m : Most) (u u' v : Seen) (w : Wire) (rest : Rest) → r.client ≡ u.entries → IsPlain u.settings → Legal u'.settings u'.entries → u' ≡ record u { entries = u'.entries; spare = u'.spare } → Carried w.client m u u' w.up.rest rest
+pub server_carried : (r : Ends) (t : There) (m : Most) (u u' v : Seen) (w : Wire) (rest : Rest) → r.client ≡ u.entries → IsPlain u.settings → IsOfSession u'.settings u'.entries → u' ≡ record u { entries = u'.entries; spare = u'.spare } → Carried w.client m u u' w.up.rest rest
     → ServerAt u.settings r t v w → ServerAt u.settings (with_client r u'.entries) t v (fed w rest)
 server_carried r t m u u' v w rest client plain legal same k h =
     let g = u.settings in
     let went = (drew_where (is_live (live u.entries) w.client) g w.client m u.entries u'.entries k.draws).1 in
-    let here : Legal g u'.entries = subst (λ (s : Settings). Legal s u'.entries) (settings_of u u' same) legal in
-    let sent : Sent g w.client u.entries u'.entries k.piece = record { sends = went.sends w.client; spelled = due_spelled g u'.entries w.client plain here; gave = k.gave } in
+    let here : IsOfSession g u'.entries = subst (λ (s : Settings). IsOfSession s u'.entries) (settings_of u u' same) legal in
+    let sent : Sent g w.client u.entries u'.entries k.piece = record { sends = went.sends w.client; spelled = due_spelled g u'.entries w.client plain here.0 here.1; gave = k.gave } in
     server_more g r u'.entries t v w rest k.piece (subst (λ (l : List Entry). Sent g w.client l u'.entries k.piece) (sym client) sent) k.crossed h
 
 -- ---- lines
@@ -237,7 +232,7 @@ pub at_wire : (v : Wires) (r : Ends) (w : Wire) → v.wire ≡ Some w → At v r
 at_wire v r w is at = subst (λ (o : Option Wire). WireAt o v r) is at.wire
 
 -- the server before it hears, after the client carried
-pub carried_at : (v : Wires) (r : Ends) (m : Most) (w : Wire) (u' : Seen) (rest : Rest) → (is : v.wire ≡ Some w) → (at : At v r) → Legal u'.settings u'.entries → u' ≡ record v.client { entries = u'.entries; spare = u'.spare } → Carried w.client m v.client u' w.up.rest rest
+pub carried_at : (v : Wires) (r : Ends) (m : Most) (w : Wire) (u' : Seen) (rest : Rest) → (is : v.wire ≡ Some w) → (at : At v r) → IsOfSession u'.settings u'.entries → u' ≡ record v.client { entries = u'.entries; spare = u'.spare } → Carried w.client m v.client u' w.up.rest rest
     → ServerAt v.client.settings (with_client r u'.entries) (at_wire v r w is at).0 v.server (fed w rest)
 carried_at v r m w u' rest is at legal same k =
     let here = at_wire v r w is at in
@@ -261,7 +256,7 @@ arrives_client s c (There.Refused d m) r = refl
 side_of : (v v' : Seen) (side : Side) → v' ≡ record v { entries = v'.entries; spare = v'.spare } → v.settings.side ≡ side → v'.settings.side ≡ side
 side_of v v' side same is = ap (λ (g : Settings). g.side) (settings_of v v' same) ∙ is
 
-up_here : (v : Wires) (r : Ends) (m : Most) (w w' : Wire) (u' s' : Seen) (rest : Rest) → (is : v.wire ≡ Some w) → (at : At v r) → Legal u'.settings u'.entries → u' ≡ record v.client { entries = u'.entries; spare = u'.spare } → s' ≡ record v.server { entries = s'.entries; spare = s'.spare } → Carried w.client m v.client u' w.up.rest rest
+up_here : (v : Wires) (r : Ends) (m : Most) (w w' : Wire) (u' s' : Seen) (rest : Rest) → (is : v.wire ≡ Some w) → (at : At v r) → IsOfSession u'.settings u'.entries → u' ≡ record v.client { entries = u'.entries; spare = u'.spare } → s' ≡ record v.server { entries = s'.entries; spare = s'.spare } → Carried w.client m v.client u' w.up.rest rest
     → Arrives v.client.settings (with_client r u'.entries) (at_wire v r w is at).0 v.server s' (fed w rest) w' → Reaches (record { client = u'; server = s'; wire = Some w' }) (Ups (sides_of v) m r)
 up_here v r m w w' u' s' rest is at legal same kept k h =
     let here = at_wire v r w is at in
@@ -283,7 +278,7 @@ up_here v r m w w' u' s' rest is at legal same kept k h =
     }
 
 -- a carrying line was played
-pub up_played : (v v0 : Wires) (r : Ends) (m : Most) (w w' : Wire) (u' s' : Seen) (rest : Rest) → v ≡ v0 → (is : v.wire ≡ Some w) → (at : At v r) → Legal u'.settings u'.entries → u' ≡ record v.client { entries = u'.entries; spare = u'.spare } → s' ≡ record v.server { entries = s'.entries; spare = s'.spare } → Carried w.client m v.client u' w.up.rest rest
+pub up_played : (v v0 : Wires) (r : Ends) (m : Most) (w w' : Wire) (u' s' : Seen) (rest : Rest) → v ≡ v0 → (is : v.wire ≡ Some w) → (at : At v r) → IsOfSession u'.settings u'.entries → u' ≡ record v.client { entries = u'.entries; spare = u'.spare } → s' ≡ record v.server { entries = s'.entries; spare = s'.spare } → Carried w.client m v.client u' w.up.rest rest
     → Arrives v.client.settings (with_client r u'.entries) (at_wire v r w is at).0 v.server s' (fed w rest) w' → Reaches (record { client = u'; server = s'; wire = Some w' }) (Ups (sides_of v0) m r)
 up_played v v0 r m w w' u' s' rest shown is at legal same kept k h = subst (λ (x : Wires). Reaches (record { client = u'; server = s'; wire = Some w' }) (Ups (sides_of x) m r)) shown (up_here v r m w w' u' s' rest is at legal same kept k h)
 
@@ -291,12 +286,7 @@ knows_quiet : (t : There) (k : Known) (n : ℕ) (frames : List Frame) (v v' : Se
 knows_quiet There.Nowhere known.Nothing n frames v v' x same q h = record { ahead = subst (λ (g : Settings). Ahead g frames x.rest) (sym (settings_of v v' same)) h.ahead; bytes = h.bytes; goes_on = h.goes_on }
 knows_quiet (There.Accepted d) (known.Accepted e) n frames v v' x same q h = (h.0, subst (λ (g : Settings). CrossedTo g d n frames v'.entries x.rest x.over) (sym (settings_of v v' same)) (crosses_quiet v.settings d n frames v.entries v'.entries x.rest x.over q h.1))
 knows_quiet (There.Refused d m) known.Refused n frames v v' x same q h = tt
-knows_quiet There.Nowhere (known.Accepted e) n frames v v' x same q h = absurd h
-knows_quiet There.Nowhere known.Refused n frames v v' x same q h = absurd h
-knows_quiet (There.Accepted d) known.Nothing n frames v v' x same q h = absurd h
-knows_quiet (There.Accepted d) known.Refused n frames v v' x same q h = absurd h
-knows_quiet (There.Refused d m) known.Nothing n frames v v' x same q h = absurd h
-knows_quiet (There.Refused d m) (known.Accepted e) n frames v v' x same q h = absurd h
+knows_quiet _ _ n frames v v' x same q h = absurd h
 
 server_quiet : (g : Settings) (r : Ends) (t : There) (v v' : Seen) (w : Wire) → v' ≡ record v { entries = v'.entries; spare = v'.spare } → Quiet v.entries v'.entries → ServerAt g r t v w → ServerAt g (with_server r v'.entries) t v' w
 server_quiet g r t v v' w same q h = record { server = refl; link = h.link; number = h.number; knows = knows_quiet t w.known (drawn r.client w.client) (due g r.client w.client) v v' w.up same q h.knows }
@@ -340,7 +330,7 @@ unfolding drawn
 no_draws g past asked c true = let none = call_draws c (answer_to g past (event.Asked asked)) asked in omega (arith, none)
 no_draws g past asked c false = refl
 
-client_asked : (v : Wires) (r : Ends) (u' : Seen) (asked : Call) → At v r → Legal u'.settings u'.entries → u' ≡ record v.client { entries = u'.entries; spare = u'.spare } → u'.entries ≡ adds v.client.settings v.client.entries (event.Asked asked) → Reaches (record v { client = u' }) (λ r'. r' ≡ asks (sides_of v) Client asked r)
+client_asked : (v : Wires) (r : Ends) (u' : Seen) (asked : Call) → At v r → IsOfSession u'.settings u'.entries → u' ≡ record v.client { entries = u'.entries; spare = u'.spare } → u'.entries ≡ adds v.client.settings v.client.entries (event.Asked asked) → Reaches (record v { client = u' }) (λ r'. r' ≡ asks (sides_of v) Client asked r)
 client_asked v r u' asked at legal same now =
     let u = v.client in
     let g = u.settings in
@@ -348,8 +338,8 @@ client_asked v r u' asked at legal same now =
     let went = (added_quiet g u.entries asked b).1 in
     let sent : (c : ℕ) → Sent g c u.entries (adds g u.entries (event.Asked asked)) [] = λ c. record {
       sends = went.sends c;
-      spelled = due_spelled g (adds g u.entries (event.Asked asked)) c at.plain (subst (Legal g) now (subst (λ (s : Settings). Legal s u'.entries) (settings_of u u' same) legal));
-      gave = still_given g c u.entries (adds g u.entries (event.Asked asked)) (went.sends c) (no_draws g u.entries asked c b) (drawn_le g u.entries c at.legal);
+      spelled = let there = subst (IsOfSession g) now (subst (λ (s : Settings). IsOfSession s u'.entries) (settings_of u u' same) legal) in due_spelled g (adds g u.entries (event.Asked asked)) c at.plain there.0 there.1;
+      gave = still_given g c u.entries (adds g u.entries (event.Asked asked)) (went.sends c) (no_draws g u.entries asked c b) (drawn_le g u.entries c at.legal.0);
     } in
     record {
       ends = with_client r u'.entries;
@@ -366,7 +356,7 @@ client_asked v r u' asked at legal same now =
     }
 
 -- a call, at the value that a cable shows
-pub client_called : (v v0 : Wires) (r : Ends) (u' : Seen) (side : Side) (asked : Call) → v ≡ v0 → side ≡ Client → At v0 r → Legal u'.settings u'.entries → u' ≡ record v.client { entries = u'.entries; spare = u'.spare } → u'.entries ≡ adds v.client.settings v.client.entries (event.Asked asked)
+pub client_called : (v v0 : Wires) (r : Ends) (u' : Seen) (side : Side) (asked : Call) → v ≡ v0 → side ≡ Client → At v0 r → IsOfSession u'.settings u'.entries → u' ≡ record v.client { entries = u'.entries; spare = u'.spare } → u'.entries ≡ adds v.client.settings v.client.entries (event.Asked asked)
     → Reaches (record v { client = u' }) (λ r'. r' ≡ asks (sides_of v0) side asked r)
 client_called v v0 r u' side asked shown is at legal same now =
     subst (λ (x : Wires). Reaches (record v { client = u' }) (λ r'. r' ≡ asks (sides_of x) side asked r)) shown
@@ -388,21 +378,21 @@ first_drawn : (g : Settings) → drawn (adds g [] (event.Open None false)) 1 ≡
 unfolding drawn facts openings begun closed
 first_drawn g = refl
 
-first_server : (g : Settings) (v : Seen) (C : List Entry) (most : ℕ) → v.entries ≡ [] → IsPlain g → Legal g C → C ≡ adds g [] (event.Open None false) → most ≡ v.settings.max_in → IsChecked v.settings
+first_server : (g : Settings) (v : Seen) (C : List Entry) (most : ℕ) → v.entries ≡ [] → IsPlain g → IsOfSession g C → C ≡ adds g [] (event.Open None false) → most ≡ v.settings.max_in → IsChecked v.settings
     → ServerAt g (opens (sides g v) nothing) There.Nowhere v (record { client = 1; known = known.Nothing; up = record { rest = record { bytes = []; max_in = most }; over = false } })
 first_server g v C most none plain legal now longest checked = record {
   server = sym none;
   link = ap link_of (first_answer g);
   number = omega arith;
   knows = record {
-    ahead = record { longest = longest; below = omega (arith, checked.max_in.below); spellable = due_spelled g (adds g [] (event.Open None false)) 1 plain (subst (Legal g) now legal) };
+    ahead = record { longest = longest; below = omega (arith, checked.max_in.below); spellable = let there = subst (IsOfSession g) now legal in due_spelled g (adds g [] (event.Open None false)) 1 plain there.0 there.1 };
     bytes = ap (λ (n : ℕ). take n (framed_all (due g (adds g [] (event.Open None false)) 1))) (first_drawn g);
     goes_on = refl;
   };
 }
 
 -- the client opened the first connection
-pub first_opened : (v v0 : Wires) (u' : Seen) (a : Answer) (o : Option Wire) (most : ℕ) → v ≡ v0 → At v0 nothing → Legal u'.settings u'.entries → u' ≡ record v.client { entries = u'.entries; spare = u'.spare } → u'.entries ≡ adds v.client.settings v.client.entries (event.Open None false)
+pub first_opened : (v v0 : Wires) (u' : Seen) (a : Answer) (o : Option Wire) (most : ℕ) → v ≡ v0 → At v0 nothing → IsOfSession u'.settings u'.entries → u' ≡ record v.client { entries = u'.entries; spare = u'.spare } → u'.entries ≡ adds v.client.settings v.client.entries (event.Open None false)
     → a ≡ answer_to v.client.settings v.client.entries (event.Open None false) → o ≡ wire_of a most → most ≡ v.server.settings.max_in → IsChecked v.server.settings → Reaches (record { client = u'; server = v.server; wire = o }) (λ r. r ≡ opens (sides_of v0) nothing)
 first_opened v v0 u' a o most shown at0 legal same now right wire longest checked =
     let at = subst (λ (x : Wires). At x nothing) (sym shown) at0 in
@@ -413,7 +403,7 @@ first_opened v v0 u' a o most shown at0 legal same now right wire longest checke
     let opened : a ≡ answer.Opened 1 = right ∙ (ap (λ (l : List Entry). answer_to g l e) (sym at.client) ∙ first_answer g) in
     let w : Wire = record { client = 1; known = known.Nothing; up = record { rest = record { bytes = []; max_in = most }; over = false } } in
     let wire_is : o ≡ Some w = wire ∙ ap (λ (b : Answer). wire_of b most) opened in
-    let server = first_server g v.server u'.entries most (sym at.server) at.plain (subst (λ (k : Settings). Legal k u'.entries) gs legal) C longest checked in
+    let server = first_server g v.server u'.entries most (sym at.server) at.plain (subst (λ (k : Settings). IsOfSession k u'.entries) gs legal) C longest checked in
     subst (λ (x : Wires). Reaches (record { client = u'; server = v.server; wire = o }) (λ r. r ≡ opens (sides_of x) nothing)) shown (record {
       ends = opens (sides_of v) nothing;
       at = record {

@@ -3,10 +3,11 @@ use Rattle.std.specs.Prelude.{◌≡◌, ◌<◌, ℕ, [], false, List, Option, 
 use Rattle.rs_wire.specs.declared.words.Side.TheVariants.{Client, Server}
 use Rattle.rs_wire.specs.declared.settings.Settings.{Settings}
 use Rattle.rs_frame.specs.declared.frame.Frame.{Frame}
+use Rattle.tape.specs.declared.entry.Entry.{Entry}
 use Rattle.tape.specs.declared.answer.Answer.{Answer}
 use Rattle.tape.specs.declared.answer.Answer.TheVariants as answer
 use Rattle.session_model.specs.Frames.{drawn, due}
-use Rattle.session_model.specs.Legal.{IsPlain, Legal}
+use Rattle.session_model.specs.Legal.{Fair, IsPlain, Legal}
 use Rattle.session_core.specs.Seen.{Seen}
 use Rattle.cable.specs.declared.cable.Wire.{Wire}
 use Rattle.cable.specs.declared.hearing.Crossing.{Crossing}
@@ -51,12 +52,16 @@ abbrev pub WireAt : Option Wire → Wires → Ends → Type 0
 WireAt None v r = r.link ≡ None
 WireAt (Some w) v r = (t : There) × ServerAt v.client.settings r t v.server w
 
+-- what a session promises of its entries: the answers are right, and whoever brought the events kept their conditions
+abbrev pub IsOfSession : Settings → List Entry → Type 0
+IsOfSession g past = Legal g past × Fair g past
+
 -- the cable follows these ends
 pub record At (v : Wires) (r : Ends) : Type 0 where
   pub client_side : v.client.settings.side ≡ Client
   pub server_side : v.server.settings.side ≡ Server
   pub plain : IsPlain v.client.settings
-  pub legal : Legal v.client.settings v.client.entries
+  pub legal : IsOfSession v.client.settings v.client.entries
   pub client : r.client ≡ v.client.entries
   pub server : r.server ≡ v.server.entries
   pub wire : WireAt v.wire v r

@@ -1,7 +1,6 @@
-use Rattle.std.proofs.Common.{rules, ◌≡◌, ◌≤◌, ◌<◌, ◌+◌, ◌-◌, ◌^◌, ◌∙◌, ◌++◌, ℕ, List, length, min, take, drop, true, false, ap, sym, subst, refl, arith, length-append}
+use Rattle.std.proofs.Common.{rules, ◌≡◌, ◌≤◌, ◌<◌, ◌+◌, ◌-◌, ◌^◌, ◌∙◌, ◌++◌, ℕ, List, length, min, take, drop, true, false, ap, subst, refl, arith, length-append}
 use Rattle.std.proofs.lemmas.Bool.Decides.{nat_tests}
 use Rattle.std.proofs.lemmas.List.{length-take, length-drop, take-append-le}
-use Rattle.rs_chunk.specs.Rest.{Rest}
 use Rattle.session_model.specs.Life.{is_live, live}
 use Rattle.session_model.specs.Frames.{queued}
 use Rattle.session_core.specs.Seen.{Seen}

@@ -1,5 +1,4 @@
 use Rattle.std.proofs.Common.{sym, subst}
-use Rattle.tape.specs.declared.event.Event.{Event}
 use Rattle.session_core.specs.Seen.{IsNoDrawEvent}
 use Rattle.session_model.specs.Legal.{IsFair}
 use Rattle.cable.proofs.Fresh.{opened_so}

@@ -1,8 +1,8 @@
-use Rattle.std.proofs.Common.{◌≡◌, sym, ◌∙◌, false, is_err, List}
+use Rattle.std.proofs.Common.{sym, ◌∙◌}
 use Rattle.rs_wire.specs.declared.words.Side.TheVariants.{Client, Server}
 use Rattle.session_laws.specs.Ends.{AreEnds}
 use Rattle.rs_wire.specs.Settings.{usual}
-use Rattle.cable.specs.Played.{Played, usual_sides}
+use Rattle.cable.specs.Played.{usual_sides}
 use Rattle.cable.proofs.Playing.{legal_as, ok_holds, run_client, run_played, run_server, usual_ends}
 use Rattle.cable.proofs.run.scheduled.Given.{Over}
 use Rattle.cable.proofs.run.scheduled.Goals as goal
@@ -19,7 +19,7 @@ ends_of g c =
     let last = c.play.new.self in
     let client = run_client c.args.client c.args.server first last c.into_ends-client.result.0 c.new-cable.ensures c.play.ensures.ends c.into_ends-client.ensures.client in
     let server = run_server c.args.client c.args.server first last c.into_ends-client.result.1 c.new-cable.ensures c.play.ensures.ends c.into_ends-client.ensures.server in
-    usual_ends c.into_ends-client.result.0.entries c.into_ends-client.result.1.entries (legal_as Client c.args.client c.into_ends-client.result.0 c.requires.client_settings client c.legal.ensures) (legal_as Server c.args.server c.into_ends-client.result.1 c.requires.server_settings server c.legal-2.ensures)
+    usual_ends c.into_ends-client.result.0.entries c.into_ends-client.result.1.entries (legal_as Client c.args.client c.into_ends-client.result.0 c.requires.client_settings client (c.legal.ensures.legal, c.legal.ensures.fair)) (legal_as Server c.args.server c.into_ends-client.result.1 c.requires.server_settings server (c.legal-2.ensures.legal, c.legal-2.ensures.fair))
 
 pub returns-clause-played : goal.returns-clause-played
 returns-clause-played g c = played g c
