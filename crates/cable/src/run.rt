@@ -6,7 +6,7 @@ ghost use Rattle.rs_wire.specs.Settings.{usual};
 ghost use Rattle.session_model.specs.Lists.{IsPrefix};
 ghost use Rattle.session_model.specs.Frames.{handled, made};
 ghost use Rattle.session_model.specs.Joined.{Joined};
-ghost use Rattle.session_model.specs.Legal.{Legal};
+ghost use Rattle.session_model.specs.Legal.{Fair, Legal};
 ghost use Rattle.cable.specs.Played.{Played, pair_of, usual_sides};
 
 use crate::cable::Cable;
@@ -55,6 +55,8 @@ pub fn scheduled<T: Tape>(
     // Where memory ran out too, both ends are as their answers say.
     ensures client_legal { Legal (usual Client) result.client.entries }
     ensures server_legal { Legal (usual Server) result.server.entries }
+    ensures client_fair { Fair (usual Client) result.client.entries }
+    ensures server_fair { Fair (usual Server) result.server.entries }
     ensures client { result.client ≡ record client { entries = result.client.entries; spare = result.client.spare } }
     ensures server { result.server ≡ record server { entries = result.server.entries; spare = result.server.spare } }
 {

@@ -7,7 +7,12 @@ use Rattle.outside.specs.declared.source.Read.TheVariants as reads
 use Rattle.outside.specs.declared.sink.Wrote.{Wrote}
 use Rattle.outside.specs.declared.sink.Wrote.TheVariants as writes
 
--- how many of so many bytes one call moves
+-- what a source or a sink shows: the bytes left or written, where it tells them, and how many of its calls failed
+pub record ByteStream : Type 0 where
+  pub told : Option (List ℕ)
+  pub faults : ℕ
+
+-- how many bytes one call moves, of at most this many
 abbrev pub IsPartOf : ℕ → ℕ → Type 0
 IsPartOf n most = (0 < n) × (n ≤ most)
 

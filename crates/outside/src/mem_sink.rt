@@ -1,7 +1,7 @@
 //! A sink in memory.
 
-ghost use Rattle.std.specs.Prelude.{◌≡◌, ◌≤◌, ◌<◌, ◌++◌, ℕ, IsTrue, Some, length, true, []};
-ghost use Rattle.outside.specs.Causes.{Rose, one_more};
+ghost use Rattle.std.specs.Prelude.{◌≡◌, ◌<◌, ℕ, IsTrue, Some, length, []};
+ghost use Rattle.outside.specs.Causes.{one_more};
 ghost use Rattle.outside.specs.Memory.{next_fails};
 ghost use Rattle.outside.specs.Streams.{IsWrite, faults_after_write};
 
@@ -34,7 +34,6 @@ impl Model for MemSink {
 
 impl MemSink {
     /// A sink with nothing written. `fails` has the numbers, from 1, of the writes that are to fail.
-    /// Takes no memory.
     pub fn new(alloc: Global, fails: Vec<u64>) -> MemSink
         ensures { result ≡ record { content = []; calls = 0; faults = 0; fails = fails.items } }
     {
@@ -44,7 +43,7 @@ impl MemSink {
         }
     }
 
-    /// The bytes written. Takes no memory.
+    /// The bytes written.
     pub fn written(&self) -> &[u8]
         ensures { result.now ≡ self.now.content }
     {
@@ -53,17 +52,13 @@ impl MemSink {
 }
 
 impl Sink for MemSink {
-    ghost use Rattle.std.specs.Prelude.{Some};
+    ghost use Rattle.outside.specs.Memory.{shown_of_memory};
 
-    ghost told = { λ s. Some s.content };
-
-    ghost faults = { λ s. s.faults };
+    ghost shown = { shown_of_memory };
 
     fn write(&mut self, piece: &[u8]) -> Wrote
         requires { 0 < length piece.now }
         ensures write { IsWrite (Some self.old.content) (Some self.new.content) piece.now result }
-        ensures counted { self.old.faults ≤ self.new.faults }
-        ensures cause { result ≡ Wrote.Failed → Rose self.old.faults self.new.faults }
         ensures faults { self.new.faults ≡ faults_after_write result self.old.faults }
 
         // It fails in the calls that it was told to, and else writes the whole piece, unless there

@@ -1,7 +1,7 @@
 //! A source in memory.
 
-ghost use Rattle.std.specs.Prelude.{◌≡◌, ◌≤◌, ◌<◌, ◌↔◌, IsTrue, Some, length, false, [], ◌++◌, take, drop};
-ghost use Rattle.outside.specs.Causes.{Rose, one_more};
+ghost use Rattle.std.specs.Prelude.{◌≡◌, ◌≤◌, ◌<◌, ◌↔◌, IsTrue, Some, length, false, ◌++◌, take, drop};
+ghost use Rattle.outside.specs.Causes.{one_more};
 ghost use Rattle.outside.specs.Memory.{next_fails};
 ghost use Rattle.outside.specs.Streams.{IsPartOf, IsRead, faults_after_read};
 
@@ -38,7 +38,6 @@ impl Model for MemSource {
 
 impl MemSource {
     /// The source of these bytes. `fails` has the numbers, from 1, of the reads that are to fail.
-    /// Takes no memory.
     pub fn new(bytes: Blob, fails: Vec<u64>) -> MemSource
         ensures { result ≡ record { content = bytes; calls = 0; faults = 0; fails = fails.items } }
     {
@@ -51,17 +50,13 @@ impl MemSource {
 }
 
 impl Source for MemSource {
-    ghost use Rattle.std.specs.Prelude.{Some};
+    ghost use Rattle.outside.specs.Memory.{shown_of_memory};
 
-    ghost told = { λ s. Some s.content };
-
-    ghost faults = { λ s. s.faults };
+    ghost shown = { shown_of_memory };
 
     fn read(&mut self, buffer: &mut [u8]) -> Read
         requires { 0 < length buffer.old }
         ensures read { IsRead (Some self.old.content) (Some self.new.content) buffer.new result }
-        ensures counted { self.old.faults ≤ self.new.faults }
-        ensures cause { result ≡ Read.Failed → Rose self.old.faults self.new.faults }
         ensures faults { self.new.faults ≡ faults_after_read result self.old.faults }
 
         // It fails exactly in the calls that it was told to, and else moves all that it can.

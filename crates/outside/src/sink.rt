@@ -1,13 +1,12 @@
 //! Where bytes go.
 
-ghost use Rattle.std.specs.Prelude.{◌≡◌, ◌≤◌, ◌<◌, ℕ, List, Option, length};
-ghost use Rattle.outside.specs.Causes.{Rose};
-ghost use Rattle.outside.specs.Streams.{IsWrite, faults_after_write};
+ghost use Rattle.std.specs.Prelude.{◌≡◌, ◌<◌, length};
+ghost use Rattle.outside.specs.Streams.{ByteStream, IsWrite, faults_after_write};
 
 /// What one write did.
 #[derive(Clone, Copy, Debug, PartialEq, Eq)]
 pub enum Wrote {
-    /// So many bytes of the piece, from its front and at least 1, are written.
+    /// The first bytes of the piece, this many and at least 1, are written.
     Took(usize),
     /// A fault, which is counted. Nothing was written.
     Failed,
@@ -15,18 +14,14 @@ pub enum Wrote {
 
 /// Where bytes go, in their order.
 pub trait Sink {
-    /// The bytes written. A sink that does not tell them has `None`, for ever.
-    ghost told: { Self → Option (List ℕ) };
+    /// The bytes written, where the sink tells them, and how many writes failed: that count never
+    /// falls, and stands still where a u64 ends.
+    ghost shown: { Self → ByteStream };
 
-    /// How many writes failed; where a u64 ends, the count stands still.
-    ghost faults: { Self → ℕ };
-
-    /// Writes bytes from the front of the piece, which is not empty: as many as there is room for
-    /// now, and at least 1. Taking nothing is a fault.
+    /// Writes the first bytes of the piece, which is not empty: as many as there is room for now,
+    /// and at least 1. Taking nothing is a fault.
     fn write(&mut self, piece: &[u8]) -> Wrote
         requires { 0 < length piece.now }
-        ensures write { IsWrite (told self.old) (told self.new) piece.now result }
-        ensures counted { faults self.old ≤ faults self.new }
-        ensures cause { result ≡ Wrote.Failed → Rose (faults self.old) (faults self.new) }
-        ensures faults { faults self.new ≡ faults_after_write result (faults self.old) };
+        ensures write { IsWrite (shown self.old).told (shown self.new).told piece.now result }
+        ensures faults { (shown self.new).faults ≡ faults_after_write result (shown self.old).faults };
 }

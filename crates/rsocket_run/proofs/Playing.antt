@@ -1,0 +1,77 @@
+-- A run that went to its end, and what was read for it.
+use Rattle.std.proofs.Common.{◌≡◌, ℕ, ◌≤◌, ◌+◌, ◌⊎◌, List, [], ◌∷◌, ◌++◌, length, Option, Some, is_some, refl, sym, ap, subst, ◌∙◌, append_assoc, append-nil, inl, inr, arith, Result, Ok, Err, IfOk, OnOk}
+use Rattle.outside.specs.Streams.{ByteStream}
+use Rattle.rs_wire.specs.declared.words.Side.{Side}
+use Rattle.rs_wire.specs.declared.words.Side.TheVariants.{Client, Server}
+use Rattle.tape.specs.declared.entry.Entry.{Entry}
+use Rattle.session_core.specs.Seen.{Seen, told_by}
+use Rattle.cable.specs.Report.{report_of}
+use Rattle.cable.specs.declared.line.Line.{Line}
+use Rattle.cable.specs.Script.{IsScript}
+use Rattle.rsocket_run.specs.Run.{GotTapes, WasScript, end_of}
+use Rattle.rsocket_run.specs.Streams.{IsReadTo}
+
+both_back : (b b' b'' : List (Option (List Entry))) (c s : Option (List Entry)) → b' ≡ b ++ c ∷ [] → b'' ≡ b' ++ s ∷ [] → b'' ≡ b ++ c ∷ s ∷ []
+both_back b b' b'' c s p q = q ∙ ap (λ (x : List (Option (List Entry))). x ++ s ∷ []) p ∙ append_assoc b (c ∷ []) (s ∷ [])
+
+-- a shelf got two tapes back
+pub two_tapes : (b b' b'' b''' : List (Option (List Entry))) (t u : Option (List Entry)) → b' ≡ b → b'' ≡ b' ++ t ∷ [] → b''' ≡ b'' ++ u ∷ [] → GotTapes 2 b b'''
+two_tapes b b' b'' b''' t u same one two =
+    record { tapes = t ∷ u ∷ []; few = omega arith; back = both_back b b'' b''' t u (one ∙ ap (λ (x : List (Option (List Entry))). x ++ t ∷ []) same) two }
+
+-- an end of these entries, whatever its spare
+abbrev pub IsEndOf : Side → Option (List Entry) → List Entry → Seen → Type 0
+IsEndOf side fresh entries v = v ≡ record (end_of side fresh entries) { spare = v.spare }
+
+-- an end that went on is one of its entries
+pub went_on : (side : Side) (fresh : Option (List Entry)) (old new : Seen) → IsEndOf side fresh [] old → new ≡ record old { entries = new.entries; spare = new.spare } → IsEndOf side fresh new.entries new
+went_on side fresh old new begun grew = grew ∙ ap (λ (s : Seen). record s { entries = new.entries; spare = new.spare }) begun
+
+-- what is told of its tape
+pub told_of : (side : Side) (fresh : Option (List Entry)) (old new : Seen) (told : Option (List Entry)) → IsEndOf side fresh [] old → new ≡ record old { entries = new.entries; spare = new.spare } → told ≡ told_by new.tells new.entries
+    → told ≡ told_by (is_some fresh) new.entries
+told_of side fresh old new told begun grew is = is ∙ ap (λ (s : Seen). told_by s.tells new.entries) (went_on side fresh old new begun grew)
+
+-- the report of two ends is that of their entries
+pub report_is : (fresh : Option (List Entry)) (client server : Seen) (text : List ℕ) → IsEndOf Client fresh client.entries client → IsEndOf Server fresh server.entries server → text ≡ report_of client server
+    → text ≡ report_of (end_of Client fresh client.entries) (end_of Server fresh server.entries)
+report_is fresh client server text c s is =
+    is ∙ (ap (λ (v : Seen). report_of v server) c ∙ ap (λ (v : Seen). report_of (record (end_of Client fresh client.entries) { spare = client.spare }) v) s)
+
+-- the shelf got both tapes back
+pub got_both : (b b' b'' b3 : List (Option (List Entry))) (t u t' u' : Option (List Entry)) → b' ≡ b → b'' ≡ b' ++ t ∷ [] → b3 ≡ b'' ++ u ∷ [] → t ≡ t' → u ≡ u' → b3 ≡ b ++ t' ∷ u' ∷ []
+got_both b b' b'' b3 t u t' u' same one two t_is u_is =
+    let back = both_back b' b'' b3 t u one two in
+    cc
+
+ended : (most : ℕ) (text bytes : List ℕ) (left : Option (List ℕ)) (rest : List ℕ) → (rest ≡ []) ⊎ (length bytes ≡ most) → text ≡ bytes ++ rest → left ≡ Some rest → length bytes + 1 ≤ most → (text ≡ bytes) × (left ≡ Some [])
+ended most text bytes left rest (inl none) t l short = (t ∙ ap (λ (x : List ℕ). bytes ++ x) none ∙ append-nil bytes, l ∙ ap Some none)
+ended most text bytes left rest (inr full) t l short = absurd (omega (arith, full, short))
+
+-- what was read is the whole text, where it is below the limit
+pub whole_text : (most : ℕ) (text bytes : List ℕ) (left : Option (List ℕ)) → IsReadTo most text bytes left → length bytes + 1 ≤ most → (text ≡ bytes) × (left ≡ Some [])
+whole_text most text bytes left r short = ended most text bytes left r.rest r.to_the_end r.text_is r.left_is short
+
+pub script_read : (text bytes given : List ℕ) (left : Option (List ℕ)) (script : List Line) → IsReadTo 16777217 text bytes left → given ≡ bytes → IsScript given script → (IsScript text script) × (left ≡ Some [])
+script_read text bytes given left script r same is =
+    let here : IsScript bytes script = subst (λ (t : List ℕ). IsScript t script) same is in
+    let short : length bytes + 1 ≤ 16777217 = omega (arith, here.short) in
+    let whole = whole_text 16777217 text bytes left r short in
+    (subst (λ (t : List ℕ). IsScript t script) (sym whole.0) here, whole.1)
+
+pub was_script : (input : ByteStream) (bytes given : List ℕ) (left : Option (List ℕ)) (script : List Line) → ((text : List ℕ) → input.told ≡ Some text → IsReadTo 16777217 text bytes left) → given ≡ bytes → IsScript given script → WasScript input left
+was_script input bytes given left script whole same is = λ text told.
+    let read = script_read text bytes given left script (whole text told) same is in
+    (read.1, (script, read.0))
+
+pub at_ok : {X E : Type 0} (r : Result X E) (P : X → Type 0) → ((x : X) → r ≡ Ok x → P x) → IfOk r P
+at_ok {X} {E} (Ok x) P f = f x refl
+at_ok {X} {E} (Err e) P f = tt
+
+pub on_ok : {X E : Type 0} (r : Result X E) (x : X) (P : Type 0) → r ≡ Ok x → OnOk r P → P
+on_ok {X} {E} (Ok y) x P is h = h
+on_ok {X} {E} (Err e) x P is h = cc
+
+pub if_ok : {X E : Type 0} (r : Result X E) (x : X) (P : X → Type 0) → r ≡ Ok x → IfOk r P → P x
+if_ok {X} {E} (Ok y) x P is h = let same : y ≡ x = cc in subst P same h
+if_ok {X} {E} (Err e) x P is h = cc

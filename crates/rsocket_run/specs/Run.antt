@@ -1,0 +1,198 @@
+-- What a run of the program promises.
+use Rattle.std.specs.Prelude.{◌≡◌, ℕ, ◌≤◌, ◌⊎◌, true, false, List, [], ◌∷◌, ◌++◌, length, codes, decimal, Option, Some, is_some}
+use Rattle.outside.specs.Causes.{one_more}
+use Rattle.outside.specs.Streams.{ByteStream}
+use Rattle.rs_wire.specs.Settings.{usual}
+use Rattle.rs_wire.specs.declared.words.Side.{Side}
+use Rattle.rs_wire.specs.declared.words.Side.TheVariants.{Client, Server}
+use Rattle.rs_frame.specs.declared.frame.Frame.{Frame}
+use Rattle.rs_frame.specs.Framed.{framed_all}
+use Rattle.tape.specs.declared.entry.Entry.{Entry}
+use Rattle.session_core.specs.Seen.{Seen, told_by}
+use Rattle.session_model.specs.Lists.{IsPrefix}
+use Rattle.session_model.specs.Frames.{made, handled}
+use Rattle.session_model.specs.Legal.{Fair, Legal}
+use Rattle.session_model.specs.Joined.{Joined}
+use Rattle.cable.specs.declared.line.Line.{Line}
+use Rattle.cable.specs.Script.{IsScript, IsFault}
+use Rattle.cable.specs.declared.script.ScriptFault.TheVariants.{Line as WrongLine}
+use Rattle.cable.specs.Played.{Played, pair_of, usual_sides}
+use Rattle.cable.specs.Report.{report_of}
+use Rattle.capture.specs.Captured.{IsBadAt, IsCapture, all_lines}
+use Rattle.capture.specs.Text.{IsTextOf, IsWrongLine}
+use Rattle.command_line.specs.Words.{Asks}
+use Rattle.command_line.specs.declared.task.Task.{Task}
+use Rattle.command_line.specs.declared.task.Task.TheVariants as tasks
+use Rattle.rsocket_run.specs.Streams.{IsReadTo}
+
+-- ---- the last lines
+
+abbrev pub usage_line : List ℕ
+usage_line = codes "rsocket: usage" ++ 10 ∷ []
+
+abbrev pub wrong_line : ℕ → List ℕ
+wrong_line number = codes "rsocket: script line " ++ (decimal number ++ 10 ∷ [])
+
+abbrev pub bad_frame_line : ℕ → ℕ → List ℕ
+bad_frame_line place rule = codes "rsocket: frame at " ++ (decimal place ++ (codes " rule " ++ (decimal rule ++ 10 ∷ [])))
+
+abbrev pub read_fault_line : List ℕ
+read_fault_line = codes "rsocket: read fault" ++ 10 ∷ []
+
+abbrev pub memory_line : List ℕ
+memory_line = codes "rsocket: out of memory" ++ 10 ∷ []
+
+-- ---- the work that is done
+
+-- an end with the usual settings and these entries, the newest first, over a tape that tells them where a fresh one tells; its spare
+-- is left out
+abbrev pub end_of : Side → Option (List Entry) → List Entry → Seen
+end_of side fresh entries = record { settings = usual side; entries = entries; tells = is_some fresh; spare = 0 }
+
+-- the two ends of a run of this script, their entries the newest first: each list is a session's, the bytes of the two
+-- crossed, and what each end has handled is a prefix of what the other made
+pub record EndsOf (script : List Line) (client server : List Entry) : Type 0 where
+  pub played : Played usual_sides script client server
+  pub client_legal : Legal (usual Client) client
+  pub server_legal : Legal (usual Server) server
+  pub client_fair : Fair (usual Client) client
+  pub server_fair : Fair (usual Server) server
+  pub pairs : List ℕ
+  pub joined : Joined (usual Client) (usual Server) client server (pair_of pairs)
+  pub server_handled : IsPrefix (handled server) (made (usual Client) client)
+  pub client_handled : IsPrefix (handled client) (made (usual Server) server)
+
+-- the text is the report of a run of this script, and the shelf has got back the tapes of just this client and this
+-- server: of tapes that tell nothing there are the two lines of counts
+pub record Reports (script : List Line) (fresh : Option (List Entry)) (shelf shelf' : List (Option (List Entry))) (text : List ℕ) : Type 0 where
+  pub client : List Entry
+  pub server : List Entry
+  pub ends : EndsOf script client server
+  pub put_back : shelf' ≡ shelf ++ told_by (is_some fresh) client ∷ told_by (is_some fresh) server ∷ []
+  pub reported : text ≡ report_of (end_of Client fresh client) (end_of Server fresh server)
+
+-- `cable`: the input was read to its end and is a script, and this is the report of a run of it
+pub record RanCable (input : List ℕ) (left : Option (List ℕ)) (fresh : Option (List Entry)) (shelf shelf' : List (Option (List Entry))) (out : List ℕ) : Type 0 where
+  pub to_its_end : left ≡ Some []
+  pub script : List Line
+  pub is_script : IsScript input script
+  pub reports : Reports script fresh shelf shelf' out
+
+-- `frames`: the input was read to its end and is a capture, and these are the lines of its frames
+pub record RanFrames (input : List ℕ) (left : Option (List ℕ)) (out : List ℕ) : Type 0 where
+  pub to_its_end : left ≡ Some []
+  pub frames : List Frame
+  pub capture : IsCapture input frames
+  pub lines : out ≡ all_lines frames
+
+-- `frames --back`: the input was read to its end and is the lines of frames, and these are their bytes
+pub record RanBack (input : List ℕ) (left : Option (List ℕ)) (out : List ℕ) : Type 0 where
+  pub to_its_end : left ≡ Some []
+  pub frames : List Frame
+  pub text : IsTextOf input frames
+  pub bytes : out ≡ framed_all frames
+
+abbrev pub IsDone : Task → List ℕ → Option (List ℕ) → Option (List Entry) → List (Option (List Entry)) → List (Option (List Entry)) → List ℕ → Type 0
+IsDone tasks.Cable input left fresh shelf shelf' out = RanCable input left fresh shelf shelf' out
+IsDone (tasks.Frames false) input left fresh shelf shelf' out = RanFrames input left out
+IsDone (tasks.Frames true) input left fresh shelf shelf' out = RanBack input left out
+
+-- ---- what is wrong with the input: all of it was read, or as much as is read at most
+
+-- the line of this number is the first that is wrong in the script; 0 where the script is too long
+pub record HasWrongScript (input : List ℕ) (left : Option (List ℕ)) (number : ℕ) : Type 0 where
+  pub read : List ℕ
+  pub is_read : IsReadTo 16777217 input read left
+  pub wrong : IsFault read (WrongLine number)
+
+-- the line of this number is the first that is the line of no frame, or that passes the limit
+pub record HasWrongText (input : List ℕ) (left : Option (List ℕ)) (number : ℕ) : Type 0 where
+  pub read : List ℕ
+  pub is_read : IsReadTo 67108865 input read left
+  pub before : List Frame
+  pub wrong : IsWrongLine read number before
+
+abbrev pub HasWrongLine : Task → List ℕ → Option (List ℕ) → ℕ → Type 0
+HasWrongLine tasks.Cable input left number = HasWrongScript input left number
+HasWrongLine (tasks.Frames false) input left number = ⊥
+HasWrongLine (tasks.Frames true) input left number = HasWrongText input left number
+
+-- the frame at this place is the first that can't be read; these are the lines of the frames before it
+pub record HasBadCapture (input : List ℕ) (left : Option (List ℕ)) (place rule : ℕ) (lines : List ℕ) : Type 0 where
+  pub read : List ℕ
+  pub is_read : IsReadTo 67108865 input read left
+  pub before : List Frame
+  pub bad : IsBadAt read place rule before
+  pub lines_are : lines ≡ all_lines before
+
+abbrev pub HasBadFrame : Task → List ℕ → Option (List ℕ) → ℕ → ℕ → List ℕ → Type 0
+HasBadFrame tasks.Cable input left place rule lines = ⊥
+HasBadFrame (tasks.Frames false) input left place rule lines = HasBadCapture input left place rule lines
+HasBadFrame (tasks.Frames true) input left place rule lines = ⊥
+
+-- nothing is wrong with the input
+abbrev pub IsRightInput : Task → List ℕ → Type 0
+IsRightInput tasks.Cable input = (script : List Line) × IsScript input script
+IsRightInput (tasks.Frames false) input = (frames : List Frame) × IsCapture input frames
+IsRightInput (tasks.Frames true) input = (frames : List Frame) × IsTextOf input frames
+
+-- ---- the output
+
+-- the lines of the frames before the first bad one, and the line that tells it
+abbrev pub TellsBadFrame : Task → List ℕ → Option (List ℕ) → List ℕ → Type 0
+TellsBadFrame task input left out = (place rule : ℕ) × (lines : List ℕ) × HasBadFrame task input left place rule lines × (out ≡ lines ++ bad_frame_line place rule)
+
+-- the line that tells the first wrong one
+abbrev pub TellsWrongLine : Task → List ℕ → Option (List ℕ) → List ℕ → Type 0
+TellsWrongLine task input left out = (number : ℕ) × HasWrongLine task input left number × (out ≡ wrong_line number)
+
+-- the line that tells a failed read
+abbrev pub TellsReadFault : ByteStream → ByteStream → List ℕ → Type 0
+TellsReadFault input input' out = (input'.faults ≡ one_more input.faults) × (out ≡ read_fault_line)
+
+-- the whole output that a run was about to write: that of its work, or the line that tells why it stopped
+abbrev pub IsDue : Task → List ℕ → ByteStream → ByteStream → Option (List Entry) → List (Option (List Entry)) → List (Option (List Entry)) → List ℕ → Type 0
+IsDue task text input input' fresh shelf shelf' out =
+    IsDone task text input'.told fresh shelf shelf' out ⊎ (TellsBadFrame task text input'.told out ⊎ (TellsWrongLine task text input'.told out ⊎ TellsReadFault input input' out))
+
+-- ---- the task, and how much of the input it reads at most: one byte more than it may have
+
+abbrev pub most_of : Task → ℕ
+most_of tasks.Cable = 16777217
+most_of (tasks.Frames back) = 67108865
+
+-- the words ask for nothing
+abbrev pub AskNothing : List (List ℕ) → Type 0
+AskNothing words = (task : Task) → ¬ (Asks words task)
+
+-- this holds of the task that the words ask for, and of the text of the input, where it is told
+abbrev pub OfTask : List (List ℕ) → ByteStream → (Task → List ℕ → Type 0) → Type 0
+OfTask words input P = (task : Task) (text : List ℕ) → Asks words task → input.told ≡ Some text → P task text
+
+-- ---- the shelf
+
+-- a shelf got at most that many tapes back
+pub record GotTapes (most : ℕ) (shelf shelf' : List (Option (List Entry))) : Type 0 where
+  pub tapes : List (Option (List Entry))
+  pub few : length tapes ≤ most
+  pub back : shelf' ≡ shelf ++ tapes
+
+-- the input, where it is told, was read to its end and is a script
+abbrev pub WasScript : ByteStream → Option (List ℕ) → Type 0
+WasScript input left = (text : List ℕ) → input.told ≡ Some text → (left ≡ Some []) × ((script : List Line) × IsScript text script)
+
+-- the words ask for `cable`, its script was read, and the shelf got at most the tapes of the two ends
+pub record GotEnds (words : List (List ℕ)) (input : ByteStream) (left : Option (List ℕ)) (shelf shelf' : List (Option (List Entry))) : Type 0 where
+  pub asked : Asks words tasks.Cable
+  pub script : WasScript input left
+  pub got : GotTapes 2 shelf shelf'
+
+-- the shelf after a run with this status: it got nothing; or on 0, 5 and 6 it got the tapes of `cable`
+abbrev pub IsShelfAfter : List (List ℕ) → ByteStream → Option (List ℕ) → List (Option (List Entry)) → List (Option (List Entry)) → ℕ → Type 0
+IsShelfAfter words input left shelf shelf' status =
+    (shelf' ≡ shelf) ⊎ (GotEnds words input left shelf shelf' × ((status ≡ 0) ⊎ ((status ≡ 5) ⊎ (status ≡ 6))))
+
+-- ---- the status
+
+abbrev pub IsStatus : ℕ → Type 0
+IsStatus status = (status ≡ 0) ⊎ ((status ≡ 2) ⊎ ((status ≡ 3) ⊎ ((status ≡ 4) ⊎ ((status ≡ 5) ⊎ ((status ≡ 6) ⊎ (status ≡ 11))))))

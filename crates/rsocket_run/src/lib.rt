@@ -1,0 +1,30 @@
+//! The program `rsocket` as one function, over any words, input, output and shelf of tapes.
+//!
+//! [`run`] carries the program's promise, status by status; [`start`] runs it on the words of the
+//! command line. A program is then a `main` that hands in standard input and output, and ends with
+//! the status.
+#![tactic(auto)]
+
+mod ends;
+mod input;
+mod output;
+mod play;
+mod program;
+mod stop;
+mod tasks;
+mod tell;
+mod words;
+
+pub use program::run;
+pub use words::start;
+
+#[cfg(test)]
+mod edge_tests;
+#[cfg(test)]
+mod frames_tests;
+#[cfg(test)]
+mod order_tests;
+#[cfg(test)]
+mod tests;
+#[cfg(test)]
+mod words_tests;

@@ -1,0 +1,117 @@
+//! What the program does with its words, its input and its output.
+
+ghost use Rattle.std.specs.Prelude.{◌≡◌, ◌⊎◌, [], Err, IfErr, OnOk};
+ghost use Rattle.outside.specs.Causes.{Rose};
+ghost use Rattle.command_line.specs.Words.{Asks};
+ghost use Rattle.command_line.specs.declared.task.Task.{Task};
+ghost use Rattle.rsocket_run.specs.Run.{AskNothing, IsDone, IsDue, IsRightInput, IsShelfAfter, IsStatus, OfTask, TellsBadFrame, TellsWrongLine, memory_line, most_of, read_fault_line, usage_line};
+ghost use Rattle.rsocket_run.specs.Stops.{IsShelfAfterWork, StoppedBy, faults_after_work};
+ghost use Rattle.rsocket_run.specs.Streams.{CutsOffSome, FailedReads, FailedWrites, HasRead, Writes, WritesLine, WritesSome};
+
+use crate::stop::Stop;
+use crate::tasks::{bytes, cable, lines};
+use crate::tell::{tell_done, tell_stop};
+use command_line::{Task, read_words, words_laws};
+use outside::{Sink, Source};
+use rs_wire::Blob;
+use std::alloc::Global;
+use tape::Shelf;
+
+// Does what the words ask for, and appends the output to the text.
+fn work<I: Source, H: Shelf>(
+    alloc: Global,
+    words: &[Blob],
+    input: &mut I,
+    shelf: &mut H,
+    out: &mut Vec<u8>,
+) -> Result<(), Stop>
+    requires { out.old.items ≡ [] }
+    ensures done { OfTask words.now (I.shown input.old) (λ task text. OnOk result
+        (IsDone task text (I.shown input.new).told H.fresh (H.back shelf.old) (H.back shelf.new) out.new.items)) }
+    ensures stopped { OfTask words.now (I.shown input.old) (λ task text.
+        IfErr result (λ stop. StoppedBy task text (I.shown input.new).told stop out.new.items)) }
+    ensures usage { result ≡ Err Stop.Usage → AskNothing words.now }
+    ensures no_task { AskNothing words.now → (result ≡ Err Stop.Usage) ⊎ (result ≡ Err Stop.OutOfMemory) }
+    ensures read { (task : Task) → Asks words.now task →
+        HasRead (most_of task) (I.shown input.old).told (I.shown input.new).told }
+    ensures unread { AskNothing words.now → I.shown input.new ≡ I.shown input.old }
+    ensures faults { (I.shown input.new).faults ≡ faults_after_work result (I.shown input.old).faults }
+    ensures lent { H.lent shelf.new ≡ H.lent shelf.old }
+    ensures back { IsShelfAfterWork words.now (I.shown input.old) (I.shown input.new).told
+        (H.back shelf.old) (H.back shelf.new) result }
+{
+    words_laws();
+    match read_words(alloc, words)? {
+        Task::Cable => cable(alloc, input, shelf, out),
+        Task::Frames { back: false } => lines(alloc, input, out),
+        Task::Frames { back: true } => bytes(alloc, input, out),
+    }
+}
+
+/// Runs the program: `words` are those after its name. Every line, also that of a status, goes to
+/// the output, and all input is read before anything is written.
+///
+/// `cable` reads a script of at most 16,777,216 bytes, plays it between a client and a server, and
+/// writes the report. `frames` reads frames, each after its length, of at most 67,108,864 bytes in
+/// all, and writes their lines; `frames --back` reads such lines, and writes their bytes.
+///
+/// The status is 0 where that was done. 2: the words are none of these. 3: a line of the input is
+/// wrong, or it is too long. 4: a read failed. 5: a write failed. 6: there was not enough memory.
+/// 11: a frame can't be read; the lines of the frames before it are written.
+pub fn run<I: Source, O: Sink, H: Shelf>(
+    alloc: Global,
+    words: &[Blob],
+    input: &mut I,
+    output: &mut O,
+    shelf: &mut H,
+) -> u8
+    // The statuses. 2 comes exactly where the words ask for nothing, but for running out of memory;
+    // 6 is free. Where nothing is wrong with the input and no fault is counted, the work is done.
+    ensures status { IsStatus result }
+    ensures usage { result ≡ 2 → AskNothing words.now }
+    ensures no_task { AskNothing words.now → (result ≡ 2) ⊎ (result ≡ 6) }
+    ensures complete { OfTask words.now (I.shown input.old) (λ task text. IsRightInput task text →
+        ¬ (Rose (I.shown input.old).faults (I.shown input.new).faults) →
+        ¬ (Rose (O.shown output.old).faults (O.shown output.new).faults) →
+        (result ≡ 0) ⊎ (result ≡ 6)) }
+
+    // What is read, on every status: a prefix of the input, at most one byte more than it may have,
+    // and nothing where the words ask for nothing. A failed read is the last one.
+    ensures read { (task : Task) → Asks words.now task →
+        HasRead (most_of task) (I.shown input.old).told (I.shown input.new).told }
+    ensures unread { AskNothing words.now → I.shown input.new ≡ I.shown input.old }
+    ensures failed_reads { FailedReads (I.shown input.old).faults (I.shown input.new).faults result }
+
+    // What is written. Status 0: the output of the work, which for `cable` is the report of two ends
+    // that are legal and joined, and whose tapes the shelf has. 3 and 11: what is wrong with the
+    // input, and just that. 5: a prefix of one of these, or of the line of 4. 2 and 6: their line,
+    // or where a write failed a prefix of it. A failed write is the last one.
+    ensures done { result ≡ 0 → OfTask words.now (I.shown input.old) (λ task text. WritesSome
+        (IsDone task text (I.shown input.new).told H.fresh (H.back shelf.old) (H.back shelf.new))
+        (O.shown output.old) (O.shown output.new)) }
+    ensures usage_line { result ≡ 2 → WritesLine usage_line (O.shown output.old) (O.shown output.new) }
+    ensures wrong_line { result ≡ 3 → OfTask words.now (I.shown input.old) (λ task text.
+        WritesSome (TellsWrongLine task text (I.shown input.new).told)
+        (O.shown output.old) (O.shown output.new)) }
+    ensures fault_line { result ≡ 4 → Writes read_fault_line (O.shown output.old) (O.shown output.new) }
+    ensures cut_off { result ≡ 5 → OfTask words.now (I.shown input.old) (λ task text. CutsOffSome
+        (IsDue task text (I.shown input.old) (I.shown input.new)
+        H.fresh (H.back shelf.old) (H.back shelf.new)) (O.shown output.old) (O.shown output.new)) }
+    ensures memory_line { result ≡ 6 → WritesLine memory_line (O.shown output.old) (O.shown output.new) }
+    ensures bad_frame { result ≡ 11 → OfTask words.now (I.shown input.old) (λ task text.
+        WritesSome (TellsBadFrame task text (I.shown input.new).told)
+        (O.shown output.old) (O.shown output.new)) }
+    ensures failed_writes { FailedWrites (O.shown output.old).faults (O.shown output.new).faults result }
+
+    // The shelf: as many tapes are lent as before, and it gets back at most two, on 0, 5 and 6 alone,
+    // where `cable` has read its script.
+    ensures lent { H.lent shelf.new ≡ H.lent shelf.old }
+    ensures back { IsShelfAfter words.now (I.shown input.old) (I.shown input.new).told
+        (H.back shelf.old) (H.back shelf.new) result }
+{
+    let mut text = Vec::new(alloc);
+    match work(alloc, words, input, shelf, &mut text) {
+        Ok(()) => tell_done(output, &text),
+        Err(stop) => tell_stop(output, &mut text, stop),
+    }
+}

@@ -1,0 +1,91 @@
+//! How the end of a run is told.
+
+ghost use Rattle.std.specs.Prelude.{◌≡◌, ◌⊎◌, ◌++◌, OnOk, decimal};
+ghost use Rattle.rsocket_run.specs.Run.{bad_frame_line, memory_line, wrong_line};
+ghost use Rattle.rsocket_run.specs.Stops.{IsTold, TellsStop};
+ghost use Rattle.rsocket_run.specs.Streams.{CutOff, Writes, WritesLine};
+
+use crate::output::write_all;
+use crate::stop::Stop;
+use outside::Sink;
+use plain_text::write_number;
+use rs_wire::OutOfMemory;
+
+/// The status of a run whose output could not be written.
+const WRITE_FAULT: u8 = 5;
+
+// Writes the last of a run that ends with this status, which is 5 where it can't be written.
+fn say<O: Sink>(output: &mut O, text: &[u8], status: u8) -> u8
+    ensures { ((result ≡ status) × Writes text.now (O.shown output.old) (O.shown output.new)) ⊎
+        ((result ≡ 5) × CutOff text.now (O.shown output.old) (O.shown output.new)) }
+{
+    match write_all(output, text) {
+        Ok(()) => status,
+        Err(_) => WRITE_FAULT,
+    }
+}
+
+// Writes the last line of a run that ends with this status also where it can't be written.
+fn insist<O: Sink>(output: &mut O, line: &[u8], status: u8) -> u8
+    ensures status { result ≡ status }
+    ensures line { WritesLine line.now (O.shown output.old) (O.shown output.new) }
+{
+    let _ = write_all(output, line);
+    status
+}
+
+fn tell_out_of_memory<O: Sink>(output: &mut O) -> u8
+    ensures status { result ≡ 6 }
+    ensures line { WritesLine memory_line (O.shown output.old) (O.shown output.new) }
+{
+    insist(output, b"rsocket: out of memory\n", 6)
+}
+
+fn put_wrong_line(text: &mut Vec<u8>, number: u32) -> Result<(), OutOfMemory>
+    ensures { OnOk result (text.new.items ≡ text.old.items ++ wrong_line number) }
+{
+    text.extend_from_slice(b"rsocket: script line ")?;
+    write_number(text, number.into())?;
+    text.push(b'\n')?;
+    Ok(())
+}
+
+fn put_bad_frame(text: &mut Vec<u8>, place: u32, rule: u8) -> Result<(), OutOfMemory>
+    ensures { OnOk result (text.new.items ≡ text.old.items ++ bad_frame_line place rule) }
+{
+    text.extend_from_slice(b"rsocket: frame at ")?;
+    write_number(text, place.into())?;
+    text.extend_from_slice(b" rule ")?;
+    write_number(text, rule.into())?;
+    text.push(b'\n')?;
+    Ok(())
+}
+
+/// Ends a run whose work is done: writes its output. The status.
+pub fn tell_done<O: Sink>(output: &mut O, text: &[u8]) -> u8
+    ensures { ((result ≡ 0) × Writes text.now (O.shown output.old) (O.shown output.new)) ⊎
+        ((result ≡ 5) × CutOff text.now (O.shown output.old) (O.shown output.new)) }
+{
+    say(output, text, 0)
+}
+
+/// Ends a run that stopped: writes the text that it has by then, and the line that tells why. The
+/// status is that of the stop, or 5 where a write failed, but 2 and 6 stay; or 6 where memory runs
+/// out.
+pub fn tell_stop<O: Sink>(output: &mut O, text: &mut Vec<u8>, stop: Stop) -> u8
+    ensures { TellsStop stop text.old.items (O.shown output.old) (O.shown output.new) result }
+{
+    match stop {
+        Stop::Usage => insist(output, b"rsocket: usage\n", 2),
+        Stop::WrongLine(number) => match put_wrong_line(text, number) {
+            Ok(()) => say(output, text, 3),
+            Err(OutOfMemory) => tell_out_of_memory(output),
+        },
+        Stop::ReadFault => say(output, b"rsocket: read fault\n", 4),
+        Stop::OutOfMemory => tell_out_of_memory(output),
+        Stop::BadFrame { place, rule } => match put_bad_frame(text, place, rule) {
+            Ok(()) => say(output, text, 11),
+            Err(OutOfMemory) => tell_out_of_memory(output),
+        },
+    }
+}
