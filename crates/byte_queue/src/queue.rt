@@ -33,7 +33,8 @@ impl Model for ByteQueue {
     ghost view = { λ q. record { bytes = drop q.start q.buffer.items; reserved = q.reserved } };
 
     ghost invariant = { λ q.
-        (2 * q.start ≤ vec_len q.buffer) × (vec_len q.buffer + q.reserved ≤ vec_capacity q.buffer) };
+        (2 * q.start ≤ vec_len q.buffer) ×
+        (vec_len q.buffer + q.reserved ≤ vec_capacity q.buffer) };
 }
 
 // Removes the first bytes and moves the others to their place.

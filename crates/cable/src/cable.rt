@@ -75,7 +75,8 @@ fn greet<T: Tape>(
 ) -> Result<(), OutOfMemory>
     requires side { server.old.settings.side ≡ Server }
     requires at { (g : Limits) × (r : Ends) × ServerAt g r There.Nowhere server.old wire.old }
-    ensures server { server.new ≡ record server.old { entries = server.new.entries; spare = server.new.spare } }
+    ensures server { server.new ≡
+        record server.old { entries = server.new.entries; spare = server.new.spare } }
     ensures arrived { (g : Limits) (r : Ends) → ServerAt g r There.Nowhere server.old wire.old →
         OnOk result (Arrives g r There.Nowhere server.old server.new wire.old wire.new) }
 {
@@ -94,7 +95,8 @@ fn arrive<T: Tape>(
 ) -> Result<(), OutOfMemory>
     requires side { server.old.settings.side ≡ Server }
     requires at { (g : Limits) × (r : Ends) × (t : There) × ServerAt g r t server.old wire.old }
-    ensures server { server.new ≡ record server.old { entries = server.new.entries; spare = server.new.spare } }
+    ensures server { server.new ≡
+        record server.old { entries = server.new.entries; spare = server.new.spare } }
     ensures arrived { (g : Limits) (r : Ends) (t : There) → ServerAt g r t server.old wire.old →
         OnOk result (Arrives g r t server.old server.new wire.old wire.new) }
 {

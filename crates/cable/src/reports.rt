@@ -16,7 +16,8 @@ fn put_end_counts<T: Tape>(
     side: Side,
     end: &Session<T>,
 ) -> Result<(), OutOfMemory>
-    ensures { OnOk result (out.new.items ≡ out.old.items ++ counts_of side end.now.settings end.now.entries) }
+    ensures { OnOk result (out.new.items ≡ out.old.items ++
+        counts_of side end.now.settings end.now.entries) }
 {
     let counts = end.counts();
     let made = (counts.made_frames, counts.made);

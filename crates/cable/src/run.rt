@@ -57,8 +57,10 @@ pub fn scheduled<T: Tape>(
     ensures server_legal { Legal (usual Server) result.server.entries }
     ensures client_fair { Fair (usual Client) result.client.entries }
     ensures server_fair { Fair (usual Server) result.server.entries }
-    ensures client { result.client ≡ record client { entries = result.client.entries; spare = result.client.spare } }
-    ensures server { result.server ≡ record server { entries = result.server.entries; spare = result.server.spare } }
+    ensures client { result.client ≡
+        record client { entries = result.client.entries; spare = result.client.spare } }
+    ensures server { result.server ≡
+        record server { entries = result.server.entries; spare = result.server.spare } }
 {
     let mut cable = Cable::new(client, server);
     let want = cable.play(alloc, script.lines()).is_err();

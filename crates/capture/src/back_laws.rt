@@ -10,7 +10,8 @@ ghost use Rattle.capture.specs.Text.{IsFrame, IsTextOf, IsWrongLine};
 /// What holds of every text. The call does nothing; its clauses are the laws.
 pub fn text_laws()
     // A text is that of one list of frames.
-    ensures one_text { (text : List ℕ) (fs gs : List Frame) → IsTextOf text fs → IsTextOf text gs → fs ≡ gs }
+    ensures one_text { (text : List ℕ) (fs gs : List Frame) → IsTextOf text fs →
+        IsTextOf text gs → fs ≡ gs }
     // A text of frames has no wrong line.
     ensures either_text { (text : List ℕ) (fs : List Frame) (number : ℕ) (before : List Frame) →
         IsTextOf text fs → ¬ (IsWrongLine text number before) }

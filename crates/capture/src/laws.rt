@@ -11,7 +11,8 @@ ghost use Rattle.capture.specs.Captured.{IsBadAt, IsCapture};
 /// What holds of all bytes. The call does nothing; its clauses are the laws.
 pub fn capture_laws()
     // A capture is of one list of frames.
-    ensures one { (bytes : List ℕ) (fs gs : List Frame) → IsCapture bytes fs → IsCapture bytes gs → fs ≡ gs }
+    ensures one { (bytes : List ℕ) (fs gs : List Frame) → IsCapture bytes fs →
+        IsCapture bytes gs → fs ≡ gs }
     // A capture has no frame that can't be read.
     ensures either { (bytes : List ℕ) (place rule : ℕ) (fs gs : List Frame) →
         IsCapture bytes fs → IsBadAt bytes place rule gs → ⊥ }
@@ -21,5 +22,6 @@ pub fn capture_laws()
         IsBadAt bytes p r fs → IsBadAt bytes q s gs → (p ≡ q) × (r ≡ s) × (fs ≡ gs) }
     // The canonical bytes of frames, each after its length, are a capture of them.
     ensures framed { (frames : List Frame) →
-        AllByRecursion IsSpellable frames → length (framed_all frames) ≤ MOST_CAPTURE → IsCapture (framed_all frames) frames }
+        AllByRecursion IsSpellable frames → length (framed_all frames) ≤ MOST_CAPTURE →
+        IsCapture (framed_all frames) frames }
 {}

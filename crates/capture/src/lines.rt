@@ -45,9 +45,11 @@ impl From<OutOfMemory> for CaptureFault {
 /// `CaptureFault::Frame` the lines of the frames before it are appended; on
 /// `CaptureFault::OutOfMemory` nothing is.
 pub fn to_lines(alloc: Global, bytes: &[u8], out: &mut Vec<u8>) -> Result<(), CaptureFault>
-    ensures whole { OnOk result ((frames : List Frame) × IsCapture bytes.now frames × (out.new.items ≡ out.old.items ++ all_lines frames)) }
+    ensures whole { OnOk result ((frames : List Frame) × IsCapture bytes.now frames ×
+        (out.new.items ≡ out.old.items ++ all_lines frames)) }
     ensures frame { (place rule : ℕ) → result ≡ Err (faults.Frame place rule) →
-        (before : List Frame) × IsBadAt bytes.now place rule before × (out.new.items ≡ out.old.items ++ all_lines before) }
+        (before : List Frame) × IsBadAt bytes.now place rule before ×
+        (out.new.items ≡ out.old.items ++ all_lines before) }
     ensures want { result ≡ Err faults.OutOfMemory → out.new.items ≡ out.old.items }
 {
     let start = out.len();
@@ -71,7 +73,8 @@ fn write_lines(alloc: Global, bytes: &[u8], out: &mut Vec<u8>) -> Result<(), Cap
     requires { length bytes.now ≤ MOST_CAPTURE }
     ensures whole { OnOk result (WroteLines bytes.now [] out.old.items out.new.items) }
     ensures frame { (place rule : ℕ) → result ≡ Err (faults.Frame place rule) →
-        (before : List Frame) × IsBadAt bytes.now place rule before × (out.new.items ≡ out.old.items ++ all_lines before) }
+        (before : List Frame) × IsBadAt bytes.now place rule before ×
+        (out.new.items ≡ out.old.items ++ all_lines before) }
     ensures want { OnErr result ((more : List ℕ) × (out.new.items ≡ out.old.items ++ more)) }
 {
     let mut rest = bytes;
@@ -90,9 +93,11 @@ fn write_first<'a>(
     place: u32,
     out: &mut Vec<u8>,
 ) -> Result<&'a [u8], CaptureFault>
-    ensures wrote { IfOk result (λ after. (all old : List ℕ) → WroteLines all bytes.now old out.old.items → WroteLines all after.now old out.new.items) }
+    ensures wrote { IfOk result (λ after. (all old : List ℕ) →
+        WroteLines all bytes.now old out.old.items → WroteLines all after.now old out.new.items) }
     ensures shorter { IfOk result (λ after. length after.now < length bytes.now) }
-    ensures frame { (at rule : ℕ) → result ≡ Err (faults.Frame at rule) → (at ≡ place) × IsWrong bytes.now rule }
+    ensures frame { (at rule : ℕ) → result ≡ Err (faults.Frame at rule) →
+        (at ≡ place) × IsWrong bytes.now rule }
     ensures err { OnErr result (out.new.items ≡ out.old.items) }
 {
     let Some((frame, after)) = split_frame(bytes) else {
@@ -110,7 +115,8 @@ fn write_first<'a>(
 // Appends the line of the frame that the bytes spell. On a fault nothing is appended.
 fn write_line(alloc: Global, bytes: &[u8], out: &mut Vec<u8>) -> Result<(), FrameFault>
     requires { length bytes.now < 2 ^ 24 }
-    ensures ok { OnOk result ((f : Frame) × Spells f bytes.now × (out.new.items ≡ out.old.items ++ ended (line_of f))) }
+    ensures ok { OnOk result ((f : Frame) × Spells f bytes.now ×
+        (out.new.items ≡ out.old.items ++ ended (line_of f))) }
     ensures rule { IfErr result (λ fault. IsLeastBroken fault bytes.now) }
     ensures err { OnErr result (out.new.items ≡ out.old.items) }
 {

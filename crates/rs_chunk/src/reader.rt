@@ -41,7 +41,8 @@ impl Reader {
 
     /// Appends a piece of the stream, of any size.
     pub fn feed(&mut self, piece: &[u8]) -> Result<(), OutOfMemory>
-        ensures ok { OnOk result (self.new ≡ record self.old { bytes = self.old.bytes ++ piece.now }) }
+        ensures ok { OnOk result (self.new ≡
+            record self.old { bytes = self.old.bytes ++ piece.now }) }
         ensures err { OnErr result (self.new ≡ self.old) }
 
         // What was fed is still the frames passed and the bytes left.

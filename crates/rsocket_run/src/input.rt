@@ -26,7 +26,8 @@ pub fn read_to<I: Source>(alloc: Global, input: &mut I, most: usize) -> Result<V
     ensures whole { (text : List ℕ) → (I.shown input.old).told ≡ Some text →
         IfOk result (λ bytes. IsReadTo most text bytes.items (I.shown input.new).told) }
     ensures read { HasRead most (I.shown input.old).told (I.shown input.new).told }
-    ensures faults { (I.shown input.new).faults ≡ faults_after_reading result (I.shown input.old).faults }
+    ensures faults { (I.shown input.new).faults ≡
+        faults_after_reading result (I.shown input.old).faults }
 {
     let mut bytes = Vec::new(alloc);
     let mut buffer = [0u8; PIECE];

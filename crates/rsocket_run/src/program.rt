@@ -27,15 +27,18 @@ fn work<I: Source, H: Shelf>(
 ) -> Result<(), Stop>
     requires { out.old.items ≡ [] }
     ensures done { OfTask words.now (I.shown input.old) (λ task text. OnOk result
-        (IsDone task text (I.shown input.new).told H.fresh (H.back shelf.old) (H.back shelf.new) out.new.items)) }
+        (IsDone task text (I.shown input.new).told H.fresh (H.back shelf.old)
+        (H.back shelf.new) out.new.items)) }
     ensures stopped { OfTask words.now (I.shown input.old) (λ task text.
         IfErr result (λ stop. StoppedBy task text (I.shown input.new).told stop out.new.items)) }
     ensures usage { result ≡ Err Stop.Usage → AskNothing words.now }
-    ensures no_task { AskNothing words.now → (result ≡ Err Stop.Usage) ⊎ (result ≡ Err Stop.OutOfMemory) }
-    ensures read { (task : Task) → Asks words.now task →
+    ensures no_task { AskNothing words.now  →
+        (result ≡ Err Stop.Usage) ⊎ (result ≡ Err Stop.OutOfMemory) }
+    ensures read { (task : Task) → Asks words.now task  →
         HasRead (most_of task) (I.shown input.old).told (I.shown input.new).told }
     ensures unread { AskNothing words.now → I.shown input.new ≡ I.shown input.old }
-    ensures faults { (I.shown input.new).faults ≡ faults_after_work result (I.shown input.old).faults }
+    ensures faults { (I.shown input.new).faults ≡
+        faults_after_work result (I.shown input.old).faults }
     ensures lent { H.lent shelf.new ≡ H.lent shelf.old }
     ensures back { IsShelfAfterWork words.now (I.shown input.old) (I.shown input.new).told
         (H.back shelf.old) (H.back shelf.new) result }
@@ -70,17 +73,18 @@ pub fn run<I: Source, O: Sink, H: Shelf>(
     ensures status { IsStatus result }
     ensures usage { result ≡ 2 → AskNothing words.now }
     ensures no_task { AskNothing words.now → (result ≡ 2) ⊎ (result ≡ 6) }
-    ensures complete { OfTask words.now (I.shown input.old) (λ task text. IsRightInput task text →
-        ¬ (Rose (I.shown input.old).faults (I.shown input.new).faults) →
-        ¬ (Rose (O.shown output.old).faults (O.shown output.new).faults) →
+    ensures complete { OfTask words.now (I.shown input.old) (λ task text. IsRightInput task text  →
+        ¬ (Rose (I.shown input.old).faults (I.shown input.new).faults)  →
+        ¬ (Rose (O.shown output.old).faults (O.shown output.new).faults)  →
         (result ≡ 0) ⊎ (result ≡ 6)) }
 
     // What is read, on every status: a prefix of the input, at most one byte more than it may have,
     // and nothing where the words ask for nothing. A failed read is the last one.
-    ensures read { (task : Task) → Asks words.now task →
+    ensures read { (task : Task) → Asks words.now task  →
         HasRead (most_of task) (I.shown input.old).told (I.shown input.new).told }
     ensures unread { AskNothing words.now → I.shown input.new ≡ I.shown input.old }
-    ensures failed_reads { FailedReads (I.shown input.old).faults (I.shown input.new).faults result }
+    ensures failed_reads { FailedReads
+        (I.shown input.old).faults (I.shown input.new).faults result }
 
     // What is written. Status 0: the output of the work, which for `cable` is the report of two ends
     // that are legal and joined, and whose tapes the shelf has. 3 and 11: what is wrong with the
@@ -89,19 +93,23 @@ pub fn run<I: Source, O: Sink, H: Shelf>(
     ensures done { result ≡ 0 → OfTask words.now (I.shown input.old) (λ task text. WritesSome
         (IsDone task text (I.shown input.new).told H.fresh (H.back shelf.old) (H.back shelf.new))
         (O.shown output.old) (O.shown output.new)) }
-    ensures usage_line { result ≡ 2 → WritesLine usage_line (O.shown output.old) (O.shown output.new) }
+    ensures usage_line { result ≡ 2 →
+        WritesLine usage_line (O.shown output.old) (O.shown output.new) }
     ensures wrong_line { result ≡ 3 → OfTask words.now (I.shown input.old) (λ task text.
         WritesSome (TellsWrongLine task text (I.shown input.new).told)
         (O.shown output.old) (O.shown output.new)) }
-    ensures fault_line { result ≡ 4 → Writes read_fault_line (O.shown output.old) (O.shown output.new) }
+    ensures fault_line { result ≡ 4 →
+        Writes read_fault_line (O.shown output.old) (O.shown output.new) }
     ensures cut_off { result ≡ 5 → OfTask words.now (I.shown input.old) (λ task text. CutsOffSome
         (IsDue task text (I.shown input.old) (I.shown input.new)
         H.fresh (H.back shelf.old) (H.back shelf.new)) (O.shown output.old) (O.shown output.new)) }
-    ensures memory_line { result ≡ 6 → WritesLine memory_line (O.shown output.old) (O.shown output.new) }
+    ensures memory_line { result ≡ 6 →
+        WritesLine memory_line (O.shown output.old) (O.shown output.new) }
     ensures bad_frame { result ≡ 11 → OfTask words.now (I.shown input.old) (λ task text.
         WritesSome (TellsBadFrame task text (I.shown input.new).told)
         (O.shown output.old) (O.shown output.new)) }
-    ensures failed_writes { FailedWrites (O.shown output.old).faults (O.shown output.new).faults result }
+    ensures failed_writes { FailedWrites
+        (O.shown output.old).faults (O.shown output.new).faults result }
 
     // The shelf: as many tapes are lent as before, and it gets back at most two, on 0, 5 and 6 alone,
     // where `cable` has read its script.

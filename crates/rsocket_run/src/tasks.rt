@@ -30,11 +30,14 @@ pub fn cable<I: Source, H: Shelf>(
 ) -> Result<(), Stop>
     requires { out.old.items ≡ [] }
     ensures done { (text : List ℕ) → (I.shown input.old).told ≡ Some text →
-        OnOk result (RanCable text (I.shown input.new).told H.fresh (H.back shelf.old) (H.back shelf.new) out.new.items) }
+        OnOk result (RanCable text (I.shown input.new).told H.fresh (H.back shelf.old)
+        (H.back shelf.new) out.new.items) }
     ensures stopped { (text : List ℕ) → (I.shown input.old).told ≡ Some text →
-        IfErr result (λ stop. StoppedBy tasks.Cable text (I.shown input.new).told stop out.new.items) }
+        IfErr result (λ stop. StoppedBy tasks.Cable text
+        (I.shown input.new).told stop out.new.items) }
     ensures read { HasRead 16777217 (I.shown input.old).told (I.shown input.new).told }
-    ensures faults { (I.shown input.new).faults ≡ faults_after_work result (I.shown input.old).faults }
+    ensures faults { (I.shown input.new).faults ≡
+        faults_after_work result (I.shown input.old).faults }
     ensures words { ¬ (result ≡ Err Stop.Usage) }
     ensures lent { H.lent shelf.new ≡ H.lent shelf.old }
     ensures back { IsShelfAfterCable (I.shown input.old) (I.shown input.new).told
@@ -52,9 +55,11 @@ pub fn lines<I: Source>(alloc: Global, input: &mut I, out: &mut Vec<u8>) -> Resu
     ensures done { (text : List ℕ) → (I.shown input.old).told ≡ Some text →
         OnOk result (RanFrames text (I.shown input.new).told out.new.items) }
     ensures stopped { (text : List ℕ) → (I.shown input.old).told ≡ Some text →
-        IfErr result (λ stop. StoppedBy (tasks.Frames false) text (I.shown input.new).told stop out.new.items) }
+        IfErr result (λ stop. StoppedBy (tasks.Frames false) text
+        (I.shown input.new).told stop out.new.items) }
     ensures read { HasRead 67108865 (I.shown input.old).told (I.shown input.new).told }
-    ensures faults { (I.shown input.new).faults ≡ faults_after_work result (I.shown input.old).faults }
+    ensures faults { (I.shown input.new).faults ≡
+        faults_after_work result (I.shown input.old).faults }
     ensures words { ¬ (result ≡ Err Stop.Usage) }
 {
     let bytes = read_to(alloc, input, CAPTURE)?;
@@ -67,9 +72,11 @@ pub fn bytes<I: Source>(alloc: Global, input: &mut I, out: &mut Vec<u8>) -> Resu
     ensures done { (text : List ℕ) → (I.shown input.old).told ≡ Some text →
         OnOk result (RanBack text (I.shown input.new).told out.new.items) }
     ensures stopped { (text : List ℕ) → (I.shown input.old).told ≡ Some text →
-        IfErr result (λ stop. StoppedBy (tasks.Frames true) text (I.shown input.new).told stop out.new.items) }
+        IfErr result (λ stop. StoppedBy (tasks.Frames true) text
+        (I.shown input.new).told stop out.new.items) }
     ensures read { HasRead 67108865 (I.shown input.old).told (I.shown input.new).told }
-    ensures faults { (I.shown input.new).faults ≡ faults_after_work result (I.shown input.old).faults }
+    ensures faults { (I.shown input.new).faults ≡
+        faults_after_work result (I.shown input.old).faults }
     ensures words { ¬ (result ≡ Err Stop.Usage) }
 {
     let text = read_to(alloc, input, CAPTURE)?;

@@ -57,11 +57,16 @@ pub fn start<R: Env, I: Source, O: Sink, H: Shelf>(
     shelf: &mut H,
 ) -> u8
     ensures status { IsStatus result }
-    ensures failed_reads { FailedReads (I.shown input.old).faults (I.shown input.new).faults result }
-    ensures failed_writes { FailedWrites (O.shown output.old).faults (O.shown output.new).faults result }
-    ensures usage_line { result ≡ 2 → WritesLine usage_line (O.shown output.old) (O.shown output.new) }
-    ensures fault_line { result ≡ 4 → Writes read_fault_line (O.shown output.old) (O.shown output.new) }
-    ensures memory_line { result ≡ 6 → WritesLine memory_line (O.shown output.old) (O.shown output.new) }
+    ensures failed_reads { FailedReads
+        (I.shown input.old).faults (I.shown input.new).faults result }
+    ensures failed_writes { FailedWrites
+        (O.shown output.old).faults (O.shown output.new).faults result }
+    ensures usage_line { result ≡ 2 →
+        WritesLine usage_line (O.shown output.old) (O.shown output.new) }
+    ensures fault_line { result ≡ 4 →
+        Writes read_fault_line (O.shown output.old) (O.shown output.new) }
+    ensures memory_line { result ≡ 6 →
+        WritesLine memory_line (O.shown output.old) (O.shown output.new) }
     ensures lent { H.lent shelf.new ≡ H.lent shelf.old }
 {
     match words(rt, alloc) {

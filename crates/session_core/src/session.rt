@@ -42,9 +42,15 @@ impl<T: Tape> Model for Session<T> {
 
     ghost Value = { Seen };
 
-    ghost view = { λ s. record { settings = s.settings; entries = s.history; tells = is_some (T.told s.tape); spare = T.spare s.tape } };
+    ghost view = { λ s. record {
+      settings = s.settings;
+      entries = s.history;
+      tells = is_some (T.told s.tape);
+      spare = T.spare s.tape;
+    } };
 
-    ghost invariant = { λ s. IsSound s.settings s.state s.history (T.told s.tape) (T.count s.tape) };
+    ghost invariant = { λ s.
+        IsSound s.settings s.state s.history (T.told s.tape) (T.count s.tape) };
 }
 
 // The answer to a draw that leaves an entry, again.
@@ -66,8 +72,12 @@ impl<T: Tape> Session<T> {
     pub fn new(alloc: Global, settings: Checked, tape: T) -> Result<Session<T>, (T, OutOfMemory)>
         requires empty { T.count tape ≡ 0 }
         requires plain { IsPlain settings }
-        ensures ok { IfOk result (λ s. s ≡
-            record { settings = settings; entries = []; tells = is_some (T.told tape); spare = T.spare tape }) }
+        ensures ok { IfOk result (λ s. s ≡ record {
+          settings = settings;
+          entries = [];
+          tells = is_some (T.told tape);
+          spare = T.spare tape;
+        }) }
         ensures back { IfErr result (λ e. e.0 ≡ tape) }
     {
         Ok(Session {
@@ -87,7 +97,8 @@ impl<T: Tape> Session<T> {
     pub fn step(&mut self, who: u32, event: &Event) -> Answer
         requires fair { IsFair self.old.settings event.now }
         requires no_draw { IsNoDrawEvent event.now }
-        ensures answer { IsUnlessWant result (answer_to self.old.settings self.old.entries event.now) }
+        ensures answer { IsUnlessWant result
+            (answer_to self.old.settings self.old.entries event.now) }
         ensures full { (result ≡ Answer.TapeFull) ↔ (2 ^ 63 ≤ length self.old.entries) }
         ensures after { self.new ≡ record self.old {
           entries = entries_after who event.now result self.old.entries;
@@ -159,7 +170,8 @@ impl<T: Tape> Session<T> {
         ensures full { (result ≡ Answer.TapeFull) ↔ (2 ^ 63 ≤ length self.old.entries) }
         ensures memory { 0 < self.old.spare → result ≢ Answer.OutOfMemory }
         ensures bytes { IfDrawn result (λ n. take n buffer.new ≡ take n
-            (drop (drawn self.old.entries conn) (framed_all (due self.old.settings self.old.entries conn)))) }
+            (drop (drawn self.old.entries conn)
+            (framed_all (due self.old.settings self.old.entries conn)))) }
         ensures untouched { IsUntouched result buffer.old buffer.new }
         ensures after { self.new ≡ record self.old {
           entries = entries_after who (Event.Draw conn (length buffer.old)) result self.old.entries;
@@ -187,10 +199,12 @@ impl<T: Tape> Session<T> {
         requires not_full { length self.old.entries < 2 ^ 63 }
         requires spare { 0 < self.old.spare }
         requires of_draw { IsOfDraw answer }
-        requires is { answer ≡ answer_to self.old.settings self.old.entries (Event.Draw conn (length buffer.old)) }
+        requires is { answer ≡
+            answer_to self.old.settings self.old.entries (Event.Draw conn (length buffer.old)) }
         ensures answer { result ≡ answer }
         ensures bytes { IfDrawn result (λ n. take n buffer.new ≡ take n
-            (drop (drawn self.old.entries conn) (framed_all (due self.old.settings self.old.entries conn)))) }
+            (drop (drawn self.old.entries conn)
+            (framed_all (due self.old.settings self.old.entries conn)))) }
         ensures untouched { IsUntouched result buffer.old buffer.new }
         ensures after { self.new ≡ record self.old {
           entries = entry_of who (Event.Draw conn (length buffer.old)) answer ∷ self.old.entries;
