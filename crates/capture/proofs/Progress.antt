@@ -1,6 +1,5 @@
 -- How far the lines of a text were read.
-use Rattle.std.proofs.Common.{◌≡◌, ℕ, ◌+◌, ◌<◌, ◌≤◌, List, [], ◌∷◌, ◌++◌, length, min, take, Result, Ok, Err, refl, sym, ap, subst, ◌∙◌, inl, inr, append_assoc, arith}
-use Rattle.std.specs.Prelude.{IfErr, OnOk}
+use Rattle.std.proofs.Common.{◌≡◌, ℕ, ◌+◌, ◌<◌, ◌≤◌, List, [], ◌∷◌, ◌++◌, length, min, take, refl, sym, ap, subst, ◌∙◌, inl, inr, append_assoc, arith}
 use Rattle.std.specs.List.{AllByRecursion}
 use Rattle.std.proofs.ByRecursion.{All-append}
 use Rattle.std.proofs.lemmas.List.{append-nil, flat_map_more, length-append, length-take, take_all, take_min}
@@ -27,9 +26,8 @@ pub record SoFar (text rest : List ℕ) (number : ℕ) (old new : List ℕ) : Ty
 -- the text up to the limit
 pub at_limit : (text front : List ℕ) (n : ℕ) → n ≡ min (length text) 67108864 → front ≡ take n text → (front ≡ take MOST_CAPTURE text) × (length front ≤ 67108864)
 at_limit text front n n_is front_is =
-    let len : length front ≡ length (take n text) = ap (λ (t : List ℕ). length t) front_is in
     let same : n ≡ min MOST_CAPTURE (length text) = omega (arith, n_is) in
-    (front_is ∙ ap (λ k. take k text) same ∙ take_min MOST_CAPTURE text, omega (arith, len, n_is, length-take n text))
+    (front_is ∙ ap (λ k. take k text) same ∙ take_min MOST_CAPTURE text, omega (arith, ap length front_is, n_is, length-take n text))
 
 pub at_start : (text rest old : List ℕ) → rest ≡ take MOST_CAPTURE text → SoFar text rest 1 old old
 at_start text rest old rest_is = record { frames = []; are_frames = tt; parts = sym rest_is; number_is = refl; appended = sym (append-nil old) }

@@ -4,14 +4,13 @@ use Rattle.std.proofs.lemmas.Grind.{common_steps}
 use Rattle.std.proofs.lemmas.List.{append-nil, flat_map_more, length-drop, length-take, take_all}
 use Rattle.rs_frame.specs.declared.frame.Frame.{Frame}
 use Rattle.rs_frame.specs.declared.fault.FrameFault.{FrameFault}
-use Rattle.rs_frame.specs.declared.fault.FrameFault.TheVariants as faults
 use Rattle.rs_frame.specs.Rules.{IsLeastBroken, broken, number_of_rule}
 use Rattle.rs_frame.specs.Spelling.{Spells}
 use Rattle.rs_chunk.specs.Stream.{HasFrame, IsCut, after_frame, first_frame, first_length}
 use Rattle.frame_text.specs.Lines.{line_of}
 use Rattle.plain_text.specs.Lines.{ended}
 use Rattle.capture.specs.declared.TheConstants.{MOST_CAPTURE}
-use Rattle.capture.specs.Captured.{AreSpelled, Holds, IsBadAt, IsCapture, IsWrong, WroteLines, all_lines}
+use Rattle.capture.specs.Captured.{AreSpelled, Holds, IsBadAt, IsWrong, WroteLines, all_lines}
 
 spelled_snoc : (fs : List Frame) (bs : List (List ℕ)) (f : Frame) (b : List ℕ) → AreSpelled fs bs → Spells f b → AreSpelled (fs ++ f ∷ []) (bs ++ b ∷ [])
 unfolding AreSpelled
