@@ -16,15 +16,6 @@ use Rattle.conn_lock.proofs.Totals.{total_at, once_same, below_in, below_out, be
 use Rattle.conn_lock.proofs.Changes.{within, follows, moved, stays, kept_place, refreshed, alone, other_turn, own_name, was_drawn, Goes}
 
 module _ {S E : Type 0} (list_of : S → List E) (IsThere : S → Type 0) (number : E → ℕ) where
-  abbrev V : Type 0
-  V = View E
-
-  abbrev St : Type 0
-  St = State S V
-
-  abbrev Ok : List E → ℕ → ℕ → List (Option S) → V → Type 0
-  Ok = IsSound number
-
   -- the table at the start
   pub opened : (x : S) → IsThere x → list_of x ≡ [] → Kept list_of IsThere number (opening (0 ∷ 0 ∷ 1 ∷ []) (x ∷ []) first_view)
   opened x is_there empty = record {
@@ -42,8 +33,8 @@ module _ {S E : Type 0} (list_of : S → List E) (IsThere : S → Type 0) (numbe
     place = inl (x, refl, empty, is_there);
   }
     where
-      one : (i : ℕ) (v : V) → get_elem? (first_view ∷ []) i ≡ some v → Ok [] 0 1 (some x ∷ []) v
-      one zero v e = subst (Ok [] 0 1 (some x ∷ [])) (some-injective _ _ e) record {
+      one : (i : ℕ) (v : View E) → get_elem? (first_view ∷ []) i ≡ some v → IsSound number [] 0 1 (some x ∷ []) v
+      one zero v e = subst (IsSound number [] 0 1 (some x ∷ [])) (some-injective _ _ e) record {
         fits = (([], refl), λ y _. refl);
         spent = λ z. absurd (omega (arith, z));
         inside = λ t. absurd (true≢false (sym t));
@@ -53,7 +44,7 @@ module _ {S E : Type 0} (list_of : S → List E) (IsThere : S → Type 0) (numbe
       }
       one (suc i) v e = absurd (some-ne-none v (sym e))
 
-  pub draws : (slots id : ℕ) (me : Me S V) (old new : ℕ) → new ≡ old + 1 → me.0.tickets ≡ [] → me.0.turn ≡ false → 0 < me.0.parts
+  pub draws : (slots id : ℕ) (me : Me S (View E)) (old new : ℕ) → new ≡ old + 1 → me.0.tickets ≡ [] → me.0.turn ≡ false → 0 < me.0.parts
       → Allows (Kept list_of IsThere number) slots id me 0 (λ n. either (eqb n old) new n) (drew (step slots 0 old new none) me)
   draws slots id me old new next none_yet out some_part s k _ at _ =
       let v = me.0 in
@@ -80,7 +71,7 @@ module _ {S E : Type 0} (list_of : S → List E) (IsThere : S → Type 0) (numbe
       (λ miss. (v, keeps, tt, stays list_of IsThere number s k id v at (set s.words 0 n) (rw k.words refl), ((λ hit. absurd (miss hit)), (λ _. refl))))
 
   -- the turn begins
-  looks : (slots id : ℕ) (v : V) (t : ℕ) → v.tickets ≡ t ∷ [] → v.turn ≡ false → 0 < v.parts
+  looks : (slots id : ℕ) (v : View E) (t : ℕ) → v.tickets ≡ t ∷ [] → v.turn ≡ false → 0 < v.parts
       → Allows (Kept list_of IsThere number) slots id (v, []) 1 (λ n. n) (looked list_of IsThere number (step slots 1 0 0 none) (v, []))
   looks slots id v t mine out some_part s k _ at _ =
       let n : ℕ = slice_index s.words 1 in
@@ -120,7 +111,7 @@ module _ {S E : Type 0} (list_of : S → List E) (IsThere : S → Type 0) (numbe
           (λ miss. absurd (miss (served ∙ ap (λ z. z ∷ []) (sym n_is)))),
         ),
       ))
-      (λ (away : (i : ℕ) × (u : V) × (s.homes ≡ none ∷ []) × (get_elem? s.views i ≡ some u) × (u.turn ≡ true)).
+      (λ (away : (i : ℕ) × (u : View E) × (s.homes ≡ none ∷ []) × (get_elem? s.views i ≡ some u) × (u.turn ≡ true)).
       absurd (alone list_of IsThere number s k id v at served away.0 away.1 (other_turn s.views id away.0 v away.1 at out away.3 away.4) away.3 ((k.sound away.0 away.1 away.3).inside away.4).2))
       k.place)
       (λ no. (v, keeps, tt, stays list_of IsThere number s k id v at (set s.words 1 n) same_words, ((λ hit. absurd (no (head (sym mine ∙ hit) ∙ n_is))), (λ _. refl))))
@@ -129,7 +120,7 @@ module _ {S E : Type 0} (list_of : S → List E) (IsThere : S → Type 0) (numbe
       head e = ap (λ l. slice_index l 0) e
 
   -- the turn ends
-  passes : (slots id : ℕ) (v : V) (x : S) → IsThere x → (t n : ℕ) (own : List E) → v.tickets ≡ t ∷ [] → v.turn ≡ true → 0 < v.parts → 0 < times n v.names → list_of x ≡ v.front ++ own → calls number n own ≡ length own
+  passes : (slots id : ℕ) (v : View E) (x : S) → IsThere x → (t n : ℕ) (own : List E) → v.tickets ≡ t ∷ [] → v.turn ≡ true → 0 < v.parts → 0 < times n v.names → list_of x ≡ v.front ++ own → calls number n own ≡ length own
       → Allows (Kept list_of IsThere number) slots id (v, (0, x) ∷ []) 1 (λ _. t + 1) (λ _ m. passed list_of (step slots 1 (t + 1) 0 none) (v, (0, x) ∷ []) (t + 1) m)
   passes slots id v x is_there t n own mine inside some_part named added counted s k _ at _ =
       let ok = k.sound id v at in
@@ -180,7 +171,7 @@ module _ {S E : Type 0} (list_of : S → List E) (IsThere : S → Type 0) (numbe
       longer_prefix : (front list own new : List E) → new ≡ list ++ own → IsPrefix front list → IsPrefix front new
       longer_prefix front list own new is p = (p.0 ++ own, sym (append_assoc front p.0 own) ∙ (ap (λ l. l ++ own) p.1 ∙ sym is))
 
-  pub notes : (slots id : ℕ) (me : Me S V) → me.0.turn ≡ false → Allows (Kept list_of IsThere number) slots id me 1 (λ n. n) (noted (step slots 1 0 0 none) me)
+  pub notes : (slots id : ℕ) (me : Me S (View E)) → me.0.turn ≡ false → Allows (Kept list_of IsThere number) slots id me 1 (λ n. n) (noted (step slots 1 0 0 none) me)
   notes slots id me out s k _ at _ =
       let v = me.0 in
       let n : ℕ = slice_index s.words 1 in
@@ -189,7 +180,7 @@ module _ {S E : Type 0} (list_of : S → List E) (IsThere : S → Type 0) (numbe
       (record v { note = Some n }, keeps, tt, refreshed list_of IsThere number s k id v at out v.found (Some n) v.misses ok.found (λ m h. let same : n ≡ m = ap (λ o. unwrap_or o 0) h in omega (arith, n_is, same)) (set s.words 1 n) (rw k.words refl), refl)
 
   -- a turn that one exchange begins
-  grabs : (slots id : ℕ) (v : V) (old new : ℕ) → new ≡ old + 1 → v.note ≡ Some old → v.tickets ≡ [] → v.turn ≡ false → 0 < v.parts
+  grabs : (slots id : ℕ) (v : View E) (old new : ℕ) → new ≡ old + 1 → v.note ≡ Some old → v.tickets ≡ [] → v.turn ≡ false → 0 < v.parts
       → Allows (Kept list_of IsThere number) slots id (v, []) 0 (λ n. either (eqb n old) new n) (grabbed list_of IsThere number (step slots 0 old new none) (v, []))
   grabs slots id v old new next was none_yet out some_part s k _ at _ =
       let n : ℕ = slice_index s.words 0 in
@@ -203,9 +194,9 @@ module _ {S E : Type 0} (list_of : S → List E) (IsThere : S → Type 0) (numbe
       let a = below_in k.ticket k.serving (lt_of_not-le no) in
       absurd (omega arith)) in
       let same : k.serving ≡ n = let a = ok.noted old was in omega (arith, hit, n_is, ahead) in
-      let nobody : (i : ℕ) (u : V) → get_elem? s.views i ≡ some u → u.tickets ≡ k.serving ∷ [] → ⊥ = λ i u e theirs.
+      let nobody : (i : ℕ) (u : View E) → get_elem? s.views i ≡ some u → u.tickets ≡ k.serving ∷ [] → ⊥ = λ i u e theirs.
       let q : ℕ = k.serving in
-      let f : V → ℕ = λ w. times q w.tickets in
+      let f : View E → ℕ = λ w. times q w.tickets in
       let a = total_at f s.views i u e in let b : f u ≡ once q q + 0 = ap (times q) theirs in let c = once_same q in let d = k.tickets q in
       let g : below q k.ticket ≡ 0 = below_out q k.ticket (omega (arith, same, n_is)) in absurd (omega arith) in
       ⊎_elim
@@ -233,7 +224,7 @@ module _ {S E : Type 0} (list_of : S → List E) (IsThere : S → Type 0) (numbe
             (inr (id, w, ap (λ l. set l 0 none) home.1, set_here s.views id w (within s.views id v at), refl)),
         ((λ _. (x, refl, follows number k.list v.names v.front (list_of x) home.2 ok.fits, home.3)), (λ miss. absurd (miss hit))),
       ))
-      (λ (away : (i : ℕ) × (u : V) × (s.homes ≡ none ∷ []) × (get_elem? s.views i ≡ some u) × (u.turn ≡ true)).
+      (λ (away : (i : ℕ) × (u : View E) × (s.homes ≡ none ∷ []) × (get_elem? s.views i ≡ some u) × (u.turn ≡ true)).
       absurd (nobody away.0 away.1 away.3 ((k.sound away.0 away.1 away.3).inside away.4).2))
       k.place)
       (λ miss. (
@@ -245,17 +236,17 @@ module _ {S E : Type 0} (list_of : S → List E) (IsThere : S → Type 0) (numbe
       ))
 
   -- the same of a seat of which it is known what it holds
-  pub looks_at : (slots id : ℕ) (me : Me S V) (t : ℕ) → me.1 ≡ [] → me.0.tickets ≡ t ∷ [] → me.0.turn ≡ false → 0 < me.0.parts
+  pub looks_at : (slots id : ℕ) (me : Me S (View E)) (t : ℕ) → me.1 ≡ [] → me.0.tickets ≡ t ∷ [] → me.0.turn ≡ false → 0 < me.0.parts
       → Allows (Kept list_of IsThere number) slots id me 1 (λ n. n) (looked list_of IsThere number (step slots 1 0 0 none) me)
   looks_at slots id me t empty mine out some_part =
       subst (λ (m : List (ℕ × S)). Allows (Kept list_of IsThere number) slots id (me.0, m) 1 (λ n. n) (looked list_of IsThere number (step slots 1 0 0 none) (me.0, m))) (sym empty) (looks slots id me.0 t mine out some_part)
 
-  pub passes_at : (slots id : ℕ) (me : Me S V) (x : S) → IsThere x → (t n : ℕ) (own : List E) → me.1 ≡ (0, x) ∷ [] → me.0.tickets ≡ t ∷ [] → me.0.turn ≡ true → 0 < me.0.parts → 0 < times n me.0.names → list_of x ≡ me.0.front ++ own → calls number n own ≡ length own
+  pub passes_at : (slots id : ℕ) (me : Me S (View E)) (x : S) → IsThere x → (t n : ℕ) (own : List E) → me.1 ≡ (0, x) ∷ [] → me.0.tickets ≡ t ∷ [] → me.0.turn ≡ true → 0 < me.0.parts → 0 < times n me.0.names → list_of x ≡ me.0.front ++ own → calls number n own ≡ length own
       → Allows (Kept list_of IsThere number) slots id me 1 (λ _. t + 1) (λ _ m. passed list_of (step slots 1 (t + 1) 0 none) me (t + 1) m)
   passes_at slots id me x is_there t n own has mine inside some_part named added counted =
       subst (λ (m : List (ℕ × S)). Allows (Kept list_of IsThere number) slots id (me.0, m) 1 (λ _. t + 1) (λ _ m'. passed list_of (step slots 1 (t + 1) 0 none) (me.0, m) (t + 1) m')) (sym has) (passes slots id me.0 x is_there t n own mine inside some_part named added counted)
 
-  pub grabs_at : (slots id : ℕ) (me : Me S V) (old new : ℕ) → new ≡ old + 1 → me.1 ≡ [] → me.0.note ≡ Some old → me.0.tickets ≡ [] → me.0.turn ≡ false → 0 < me.0.parts
+  pub grabs_at : (slots id : ℕ) (me : Me S (View E)) (old new : ℕ) → new ≡ old + 1 → me.1 ≡ [] → me.0.note ≡ Some old → me.0.tickets ≡ [] → me.0.turn ≡ false → 0 < me.0.parts
       → Allows (Kept list_of IsThere number) slots id me 0 (λ n. either (eqb n old) new n) (grabbed list_of IsThere number (step slots 0 old new none) me)
   grabs_at slots id me old new next empty was none_yet out some_part =
       subst (λ (m : List (ℕ × S)). Allows (Kept list_of IsThere number) slots id (me.0, m) 0 (λ n. either (eqb n old) new n) (grabbed list_of IsThere number (step slots 0 old new none) (me.0, m))) (sym empty) (grabs slots id me.0 old new next was none_yet out some_part)
