@@ -22,9 +22,7 @@ module _ {S E : Type 0} (list_of : S → List E) (IsThere : S → Type 0) (numbe
       let v = me.0 in
       let n : ℕ = slice_index s.words 2 in
       let n_is : n ≡ k.drawn = ap (λ l. slice_index l 2) k.words in
-      let few = k.few in
       let ok = k.sound id v at in
-      let before = ok.found in
       (record v { found = n }, keeps, tt, refreshed list_of IsThere number s k id v at out n v.note v.misses (omega (arith, n_is)) ok.noted (set s.words 2 n) (rw k.words refl), (refl, omega (arith, n_is), omega (arith, n_is)))
 
   pub names : (slots id : ℕ) (me : Me S (View E)) (old new : ℕ) → new ≡ old + 1 → old < most_numbers → me.0.turn ≡ false → 0 < me.0.parts
@@ -34,7 +32,6 @@ module _ {S E : Type 0} (list_of : S → List E) (IsThere : S → Type 0) (numbe
       let n : ℕ = slice_index s.words 2 in
       let n_is : n ≡ k.drawn = ap (λ l. slice_index l 2) k.words in
       let ok = k.sound id v at in
-      let before = ok.found in
       let unused : calls number n v.front ≡ 0 = let a = k.known n (omega (arith, n_is)) in let b = calls_prefix number n v.front k.list ok.fits.0 in omega arith in
       exchanged n old new (Goes list_of IsThere number s 2 id me (named number (step slots 2 old new none) me))
       (λ hit.
@@ -65,7 +62,7 @@ module _ {S E : Type 0} (list_of : S → List E) (IsThere : S → Type 0) (numbe
             (kept_place list_of IsThere number k.list s.homes s.views id v w at out k.place),
         ((λ _. (refl, omega (arith, n_is), (let a = total_at (λ (u : View E). times n u.names) s.views id v at in let b = k.names n in let c = below_out n k.drawn (omega (arith, n_is)) in omega arith), unused)), (λ miss. absurd (miss hit))),
       ))
-      (λ miss. let few = k.few in (
+      (λ miss. (
         record v { found = n },
         keeps,
         tt,
@@ -95,7 +92,7 @@ module _ {S E : Type 0} (list_of : S → List E) (IsThere : S → Type 0) (numbe
       let q : ℕ = share p in
       let l = left v in
       let r = right v in
-      let small = share_le p parts in
+      let small : (0 < q) × (q < p) = (omega arith, omega arith) in
       let names_l : l.names ≡ ns = rw has refl in
       let names_r : r.names ≡ n ∷ [] = rw has refl in
       let left_ok : IsSound number k.list k.serving k.drawn s.homes l = record {
@@ -142,9 +139,6 @@ module _ {S E : Type 0} (list_of : S → List E) (IsThere : S → Type 0) (numbe
             (at_snoc (set s.views id l) r u i e);
         place = ⊎_elim (λ home. inl home) (λ away. inr (away.0, away.1, away.2, at_longer (set s.views id l) (r ∷ []) away.0 away.1 away.3, away.4)) (kept_place list_of IsThere number k.list s.homes s.views id v l at out k.place);
       }
-    where
-      share_le : (p : ℕ) → 1 < p → (0 < share p) × (share p < p)
-      share_le p some_parts = (omega arith, omega arith)
 
   -- the first takes in the second's names and parts, and has the longer front
   pub joins : (id : ℕ) (v : View E) (other : ℕ) (w : View E) → v.turn ≡ false → v.tickets ≡ [] → 0 < v.parts → w.turn ≡ false → w.tickets ≡ [] → Joins (Kept list_of IsThere number) id v other w (both v w) spent
