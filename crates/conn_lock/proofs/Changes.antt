@@ -6,6 +6,7 @@ use mathlib.Core.Option.{Option, some, some-injective, some-ne-none}
 use mathlib.Core.Logic.{dite}
 use native.Mathlib.Decide.{dec_le}
 use lib.ListN.{get_elem?}
+use Rattle.std.proofs.lemmas.Bool.Decides.{nat_tests}
 use Rattle.atomic_table.specs.Table.{State, Me, Act, stepped, Valid, carried_after}
 use Rattle.atomic_table.proofs.Lists.{at_set, set_again, set_else}
 use Rattle.conn_lock.specs.declared.view.View.{View}
@@ -31,6 +32,11 @@ follows number list names front new is fits =
           let c = fits.1 x some_name in
           omega arith,
     )
+
+-- what holds of a new view, and of each other view, holds of each
+pub sound_set : {A : Type 0} (views : List A) (id : ℕ) (w : A) (P : A → Type 0) → ((i : ℕ) (u : A) → i ≢ id → get_elem? views i ≡ some u → P u) → P w
+    → (i : ℕ) (u : A) → get_elem? (set views id w) i ≡ some u → P u
+sound_set views id w P others mine i u e = ⊎_elim (λ (x : (i ≡ id) × (w ≡ u)). subst P x.1 mine) (λ (x : (i ≢ id) × (get_elem? views i ≡ some u)). others i u x.0 x.1) (at_set views id i w u e)
 
 -- who has the turn is not a seat without one
 pub other_turn : {E : Type 0} (views : List (View E)) (id i : ℕ) (v u : View E) → get_elem? views id ≡ some v → v.turn ≡ false → get_elem? views i ≡ some u → u.turn ≡ true → i ≢ id
@@ -60,10 +66,7 @@ module _ {S E : Type 0} (list_of : S → List E) (IsThere : S → Type 0) (numbe
     parts = let a = total_set (λ (u : View E). u.parts) s.views id v w at in let b = k.parts in omega (arith, parts);
     few = few;
     known = known;
-    sound = λ i u e. ⊎_elim
-        (λ (x : (i ≡ id) × (w ≡ u)). subst (IsSound number list n d homes) x.1 mine)
-        (λ (x : (i ≢ id) × (get_elem? s.views i ≡ some u)). others i u x.0 x.1)
-        (at_set s.views id i w u e);
+    sound = sound_set s.views id w (IsSound number list n d homes) others mine;
     place = place;
   }
 
@@ -114,9 +117,7 @@ module _ {S E : Type 0} (list_of : S → List E) (IsThere : S → Type 0) (numbe
 
   -- a name was drawn
   pub was_drawn : (s : State S (View E)) (k : Kept list_of IsThere number s) (id : ℕ) (v : View E) → get_elem? s.views id ≡ some v → (x : ℕ) → 0 < times x v.names → x < k.drawn
-  was_drawn s k id v at x named = dite (dec_le k.drawn x)
-      (λ le. let a = total_at (λ (w : View E). times x w.names) s.views id v at in let b = k.names x in let c = below_out x k.drawn le in absurd (omega arith))
-      (λ no. lt_of_not-le no)
+  was_drawn s k id v at x named = grind (arith, nat_tests, total_at (λ (w : View E). times x w.names) s.views id v at, k.names x)
 
   -- what a step on the word i, which the seat id found to be n, owes
   abbrev pub Goes : State S (View E) → ℕ → ℕ → Me S (View E) → (ℕ → Me S (View E) → Type 0) → ℕ → Type 0

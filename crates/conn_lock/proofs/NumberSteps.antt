@@ -13,8 +13,8 @@ use Rattle.atomic_table.proofs.Lists.{at_set, at_snoc, at_longer, exchanged}
 use Rattle.conn_lock.specs.declared.view.View.{View}
 use Rattle.conn_lock.specs.Callers.{once, times, calls, share, most_numbers}
 use Rattle.conn_lock.specs.Rule.{below, IsSound, Kept, counted, named, told, left, right, both, spent}
-use Rattle.conn_lock.proofs.Totals.{total_set, total_at, total_snoc, once_other, below_out, below_most, below_more, times_append, calls_prefix, begins_longer}
-use Rattle.conn_lock.proofs.Changes.{moved, stays, kept_place, refreshed, Goes}
+use Rattle.conn_lock.proofs.Totals.{total_set, total_at, total_snoc, below_out, below_most, below_more, times_append, calls_prefix, begins_longer}
+use Rattle.conn_lock.proofs.Changes.{moved, sound_set, stays, kept_place, refreshed, Goes}
 
 module _ {S E : Type 0} (list_of : S → List E) (IsThere : S → Type 0) (number : E → ℕ) where
   pub counts : (slots id : ℕ) (me : Me S (View E)) → me.0.turn ≡ false → Allows (Kept list_of IsThere number) slots id me 2 (λ n. n) (counted (step slots 2 0 0 none) me)
@@ -51,7 +51,7 @@ module _ {S E : Type 0} (list_of : S → List E) (IsThere : S → Type 0) (numbe
                 ok.fits.0,
                 λ y has. dite (ℕ_discrete y n)
                     (λ same. let a : calls number y k.list ≡ 0 = k.known y (omega (arith, same, n_is)) in let b = calls_prefix number y v.front k.list ok.fits.0 in omega arith)
-                    (λ other. let a = once_other n y (λ same. other (sym same)) in ok.fits.1 y (omega arith)),
+                    (λ other. ok.fits.1 y (grind (arith, nat_tests))),
               );
               spent = λ z. absurd (omega (arith, some_part, z));
               inside = ok.inside;
@@ -131,10 +131,7 @@ module _ {S E : Type 0} (list_of : S → List E) (IsThere : S → Type 0) (numbe
         few = k.few;
         known = k.known;
         sound = λ i u e. ⊎_elim
-            (λ (was : get_elem? (set s.views id l) i ≡ some u). ⊎_elim
-            (λ (x : (i ≡ id) × (l ≡ u)). subst (IsSound number k.list k.serving k.drawn s.homes) x.1 left_ok)
-            (λ (x : (i ≢ id) × (get_elem? s.views i ≡ some u)). k.sound i u x.1)
-            (at_set s.views id i l u was))
+            (sound_set s.views id l (IsSound number k.list k.serving k.drawn s.homes) (λ j x _. k.sound j x) left_ok i u)
             (λ (same : r ≡ u). subst (IsSound number k.list k.serving k.drawn s.homes) same right_ok)
             (at_snoc (set s.views id l) r u i e);
         place = ⊎_elim (λ home. inl home) (λ away. inr (away.0, away.1, away.2, at_longer (set s.views id l) (r ∷ []) away.0 away.1 away.3, away.4)) (kept_place list_of IsThere number k.list s.homes s.views id v l at out k.place);
@@ -192,13 +189,8 @@ module _ {S E : Type 0} (list_of : S → List E) (IsThere : S → Type 0) (numbe
             let a = total_set f s.views id v b at in let c = total_set f first other w spent there in let d = k.parts in omega arith;
         few = k.few;
         known = k.known;
-        sound = λ i u e. ⊎_elim
-            (λ (x : (i ≡ other) × (spent ≡ u)). subst (IsSound number k.list k.serving k.drawn s.homes) x.1 spent_ok)
-            (λ (x : (i ≢ other) × (get_elem? first i ≡ some u)). ⊎_elim
-            (λ (y : (i ≡ id) × (b ≡ u)). subst (IsSound number k.list k.serving k.drawn s.homes) y.1 both_ok)
-            (λ (y : (i ≢ id) × (get_elem? s.views i ≡ some u)). k.sound i u y.1)
-            (at_set s.views id i b u x.1))
-            (at_set first other i spent u e);
+        sound = sound_set first other spent (IsSound number k.list k.serving k.drawn s.homes)
+            (λ j x _. sound_set s.views id b (IsSound number k.list k.serving k.drawn s.homes) (λ i u _. k.sound i u) both_ok j x) spent_ok;
         place = kept_place list_of IsThere number k.list s.homes first other w spent there out_w (kept_place list_of IsThere number k.list s.homes s.views id v b at out k.place);
       }
     where

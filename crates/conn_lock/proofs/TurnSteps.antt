@@ -8,6 +8,7 @@ use mathlib.Core.Logic.{dite}
 use native.Mathlib.Decide.{ℕ_discrete, dec_le}
 use prog.Atomic.{either}
 use lib.ListN.{get_elem?}
+use Rattle.std.proofs.lemmas.Bool.Decides.{nat_tests}
 use Rattle.atomic_table.specs.Table.{State, Me, keeps, takes, gives, opening, Allows, step}
 use Rattle.atomic_table.proofs.Lists.{set_here, exchanged}
 use Rattle.conn_lock.specs.declared.view.View.{View}
@@ -190,11 +191,7 @@ module _ {S E : Type 0} (list_of : S → List E) (IsThere : S → Type 0) (numbe
       let ok = k.sound id v at in
       exchanged n old new (Goes list_of IsThere number s 0 id me (grabbed list_of IsThere number (step slots 0 old new none) me))
       (λ hit.
-      let ahead : k.serving ≤ k.ticket = dite (dec_le k.serving k.ticket) (λ le. le) (λ no.
-      let top = k.tickets k.ticket in
-      let self = below_out k.ticket k.ticket (le_refl k.ticket) in
-      let a = below_in k.ticket k.serving (lt_of_not-le no) in
-      absurd (omega arith)) in
+      let ahead : k.serving ≤ k.ticket = grind (arith, nat_tests, k.tickets k.ticket) in
       let same : k.serving ≡ n = let a = ok.noted old was in omega (arith, hit, n_is, ahead) in
       let nobody : (i : ℕ) (u : View E) → i ≢ id → get_elem? s.views i ≡ some u → u.tickets ≡ k.serving ∷ [] → ⊥ = λ i u _ e theirs.
       let q : ℕ = k.serving in
