@@ -1,10 +1,8 @@
 -- A change of one view keeps the rule.
-use Rattle.std.proofs.Common.{◌≡◌, ◌≢◌, ℕ, zero, suc, ◌+◌, ◌<◌, ◌≤◌, List, [], ◌∷◌, ◌++◌, length, set, true, false, true≢false, refl, sym, ap, ◌∙◌, subst, inl, inr, ⊎_elim, arith, le_refl, lt_of_not-le, Some}
+use Rattle.std.proofs.Common.{◌≡◌, ◌≢◌, ℕ, zero, suc, ◌+◌, ◌<◌, ◌≤◌, List, [], ◌∷◌, ◌++◌, length, set, true, false, true≢false, refl, sym, ap, ◌∙◌, subst, inl, inr, ⊎_elim, arith, Some}
 use Rattle.std.specs.Prelude as std
 use Rattle.std.specs.Prelude.{slice_index}
 use mathlib.Core.Option.{Option, some, some-injective, some-ne-none}
-use mathlib.Core.Logic.{dite}
-use native.Mathlib.Decide.{dec_le}
 use lib.ListN.{get_elem?}
 use Rattle.std.proofs.lemmas.Bool.Decides.{nat_tests}
 use Rattle.atomic_table.specs.Table.{State, Me, Act, stepped, Valid, carried_after}
@@ -12,7 +10,7 @@ use Rattle.atomic_table.proofs.Lists.{at_set, set_again, set_else}
 use Rattle.conn_lock.specs.declared.view.View.{View}
 use Rattle.conn_lock.specs.Callers.{once, times, calls, Follows, Fits, most_numbers}
 use Rattle.conn_lock.specs.Rule.{below, IsSound, IsPlaced, Kept}
-use Rattle.conn_lock.proofs.Totals.{total_set, total_at, total_both, once_same, below_out, below_most, calls_append}
+use Rattle.conn_lock.proofs.Totals.{total_set, total_at, total_both, calls_append}
 
 -- a list has the places that it answers at
 pub within : {A : Type 0} (xs : List A) (i : ℕ) (x : A) → get_elem? xs i ≡ some x → i < length xs
@@ -102,18 +100,12 @@ module _ {S E : Type 0} (list_of : S → List E) (IsThere : S → Type 0) (numbe
       let a : f v ≡ once n n + 0 = ap (times n) mine in
       let b : f u ≡ once n n + 0 = ap (times n) theirs in
       let sum = k.tickets n in
-      let none_below = below_out n n (le_refl n) in
-      let most = below_most n k.ticket in
-      let one = once_same n in
-      absurd (omega arith)
+      absurd (grind (arith, nat_tests))
 
   -- a name in one view stands in no other
   pub own_name : (s : State S (View E)) (k : Kept list_of IsThere number s) (id : ℕ) (v : View E) → get_elem? s.views id ≡ some v → (x : ℕ) → 0 < times x v.names → (i : ℕ) (u : View E) → i ≢ id → get_elem? s.views i ≡ some u → times x u.names ≡ 0
   own_name s k id v at x named i u other there =
-      let both = total_both (λ (w : View E). times x w.names) s.views i id u v other there at in
-      let all = k.names x in
-      let most = below_most x k.drawn in
-      omega arith
+      grind (arith, nat_tests, total_both (λ (w : View E). times x w.names) s.views i id u v other there at, k.names x)
 
   -- a name was drawn
   pub was_drawn : (s : State S (View E)) (k : Kept list_of IsThere number s) (id : ℕ) (v : View E) → get_elem? s.views id ≡ some v → (x : ℕ) → 0 < times x v.names → x < k.drawn

@@ -4,11 +4,12 @@ use mathlib.Core.Option.{none, some, some-injective, some-ne-none}
 use mathlib.Core.Logic.{dite}
 use native.Mathlib.Decide.{dec_le}
 use lib.ListN.{get_elem?}
+use Rattle.std.proofs.lemmas.Bool.Decides.{nat_tests}
 use Rattle.atomic_table.specs.Table.{State, Seen}
 use Rattle.conn_lock.specs.declared.view.View.{View}
 use Rattle.conn_lock.specs.Callers.{times, calls, all_parts}
 use Rattle.conn_lock.specs.Rule.{total, Kept}
-use Rattle.conn_lock.proofs.Totals.{total_at, total_both, total_zero, below_in, calls_append, calls_prefix, no_calls}
+use Rattle.conn_lock.proofs.Totals.{total_at, total_both, total_zero, calls_append, calls_prefix, no_calls}
 use Rattle.conn_lock.proofs.Changes.{other_turn}
 
 -- where one view has the whole of g, and who has none of g has none of f, that view has the whole of f
@@ -27,8 +28,7 @@ module _ {S E : Type 0} (list_of : S → List E) (IsThere : S → Type 0) (numbe
   all_names : (s : State S (View E)) (k : Kept list_of IsThere number s) (id : ℕ) (v : View E) → get_elem? s.views id ≡ some v → v.parts ≡ all_parts → (y : ℕ) → y < k.drawn → 0 < times y v.names
   all_names s k id v at all y below_drawn =
       let c = sole (λ (u : View E). times y u.names) (λ (u : View E). u.parts) s.views id v at (k.parts ∙ sym all) (λ i u e z. ap (times y) ((k.sound i u e).spent z).0) in
-      let d = k.names y in let e = below_in y k.drawn below_drawn in
-      omega arith
+      let d = k.names y in grind (arith, nat_tests)
 
   -- so the list has no entry beyond its front
   no_more : (s : State S (View E)) (k : Kept list_of IsThere number s) (id : ℕ) (v : View E) → get_elem? s.views id ≡ some v → v.parts ≡ all_parts → (more : List E) → v.front ++ more ≡ k.list → more ≡ []

@@ -2,18 +2,18 @@
 use Rattle.std.proofs.Common.{◌≡◌, ◌≢◌, ℕ, ◌+◌, ◌-◌, ◌<◌, List, [], ◌∷◌, length, set, Bool, true, false, true≢false, refl, sym, ap, ◌∙◌, subst, inl, inr, ⊎_elim, arith, eqb, append-nil, lt_of_not-le, cond, nat_lt}
 use Rattle.std.specs.Prelude.{slice_index}
 use mathlib.Core.List.{IsPrefix}
-use mathlib.Core.Option.{Option, none, some}
+use mathlib.Core.Option.{none, some}
 use mathlib.Core.Logic.{dite}
 use native.Mathlib.Decide.{ℕ_discrete, dec_le}
 use prog.Atomic.{either}
 use lib.ListN.{get_elem?}
 use Rattle.std.proofs.lemmas.Bool.Decides.{nat_tests}
-use Rattle.atomic_table.specs.Table.{State, Me, keeps, Allows, Splits, Joins, step}
+use Rattle.atomic_table.specs.Table.{Me, keeps, Allows, Splits, Joins, step}
 use Rattle.atomic_table.proofs.Lists.{at_set, at_snoc, at_longer, exchanged}
 use Rattle.conn_lock.specs.declared.view.View.{View}
 use Rattle.conn_lock.specs.Callers.{once, times, calls, share, most_numbers}
-use Rattle.conn_lock.specs.Rule.{below, IsSound, Kept, counted, named, told, left, right, both, spent}
-use Rattle.conn_lock.proofs.Totals.{total_set, total_at, total_snoc, below_out, below_most, below_more, times_append, calls_prefix, begins_longer}
+use Rattle.conn_lock.specs.Rule.{IsSound, Kept, counted, named, told, left, right, both, spent}
+use Rattle.conn_lock.proofs.Totals.{total_set, total_at, total_snoc, times_append, calls_prefix, begins_longer}
 use Rattle.conn_lock.proofs.Changes.{moved, sound_set, stays, kept_place, refreshed, Goes}
 
 module _ {S E : Type 0} (list_of : S → List E) (IsThere : S → Type 0) (number : E → ℕ) where
@@ -41,7 +41,7 @@ module _ {S E : Type 0} (list_of : S → List E) (IsThere : S → Type 0) (numbe
         keeps,
         tt,
         moved list_of IsThere number s k id v w at k.ticket k.serving new k.list (set s.words 2 new) s.homes (ap (λ l. set l 2 new) k.words) (λ x. refl)
-            (λ x. let a = below_more x n in let b : below x k.drawn ≡ below x n = ap (below x) (sym n_is) in let c : below x new ≡ below x (n + 1) = ap (below x) new_is in omega arith)
+            (λ x. grind (arith, nat_tests))
             refl
             (omega (arith, next, room))
             (λ x le. k.known x (omega (arith, le, new_is, n_is)))
@@ -60,7 +60,7 @@ module _ {S E : Type 0} (list_of : S → List E) (IsThere : S → Type 0) (numbe
               begun = ok.begun;
             }
             (kept_place list_of IsThere number k.list s.homes s.views id v w at out k.place),
-        ((λ _. (refl, omega (arith, n_is), (let a = total_at (λ (u : View E). times n u.names) s.views id v at in let b = k.names n in let c = below_out n k.drawn (omega (arith, n_is)) in omega arith), unused)), (λ miss. absurd (miss hit))),
+        ((λ _. (refl, omega (arith, n_is), (let a = total_at (λ (u : View E). times n u.names) s.views id v at in let b = k.names n in grind (arith, nat_tests)), unused)), (λ miss. absurd (miss hit))),
       ))
       (λ miss. (
         record v { found = n },
@@ -79,7 +79,7 @@ module _ {S E : Type 0} (list_of : S → List E) (IsThere : S → Type 0) (numbe
     (
       refl,
       (k.sound id me.0 at).begun,
-      (λ x. let a = total_at (λ (u : View E). times x u.names) s.views id me.0 at in let b = k.names x in let c = below_most x k.drawn in omega arith),
+      (λ x. let a = total_at (λ (u : View E). times x u.names) s.views id me.0 at in let b = k.names x in grind (arith, nat_tests)),
       (let a = total_at (λ (u : View E). u.parts) s.views id me.0 at in let b = k.parts in omega arith),
     ),
   )

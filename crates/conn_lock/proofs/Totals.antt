@@ -68,7 +68,7 @@ module _ {E : Type 0} (number : E → ℕ) where
   -- a list without calls of any number is empty
   pub no_calls : (es : List E) → ((x : ℕ) → calls number x es ≡ 0) → es ≡ []
   no_calls [] h = refl
-  no_calls (e ∷ es) h = let a = h (number e) in let b = once_same (number e) in absurd (omega arith)
+  no_calls (e ∷ es) h = let a = h (number e) in absurd (grind (arith, nat_tests))
 
 -- of two beginnings of one list the shorter begins the longer
 pub begins_longer : {E : Type 0} (a b list : List E) → IsPrefix a list → IsPrefix b list → length a ≤ length b → IsPrefix a b

@@ -1,11 +1,10 @@
 -- The steps of a turn keep the rule.
-use Rattle.std.proofs.Common.{◌≡◌, ◌≢◌, ℕ, zero, suc, ◌+◌, ◌<◌, ◌≤◌, List, [], ◌∷◌, ◌++◌, length, set, true, false, true≢false, refl, sym, ap, ◌∙◌, subst, inl, inr, ⊎_elim, arith, eqb, le_refl, append-nil, append_assoc, lt_of_not-le, Some, None, unwrap_or}
+use Rattle.std.proofs.Common.{◌≡◌, ◌≢◌, ℕ, zero, suc, ◌+◌, ◌<◌, ◌≤◌, List, [], ◌∷◌, ◌++◌, length, set, true, false, true≢false, refl, sym, ap, ◌∙◌, subst, inl, inr, ⊎_elim, arith, eqb, append-nil, append_assoc, Some, None, unwrap_or}
 use Rattle.std.specs.Prelude as std
 use Rattle.std.specs.Prelude.{slice_index}
-use mathlib.Core.List.{IsPrefix}
-use mathlib.Core.Option.{Option, none, some, some-injective, some-ne-none}
+use mathlib.Core.Option.{none, some, some-injective, some-ne-none}
 use mathlib.Core.Logic.{dite}
-use native.Mathlib.Decide.{ℕ_discrete, dec_le}
+use native.Mathlib.Decide.{ℕ_discrete}
 use prog.Atomic.{either}
 use lib.ListN.{get_elem?}
 use Rattle.std.proofs.lemmas.Bool.Decides.{nat_tests}
@@ -14,7 +13,7 @@ use Rattle.atomic_table.proofs.Lists.{set_here, exchanged}
 use Rattle.conn_lock.specs.declared.view.View.{View}
 use Rattle.conn_lock.specs.Callers.{Follows, once, times, calls}
 use Rattle.conn_lock.specs.Rule.{below, IsSound, Kept, first_view, drew, looked, passed, noted, grabbed}
-use Rattle.conn_lock.proofs.Totals.{total_at, once_same, below_in, below_out, below_more, calls_append, calls_other}
+use Rattle.conn_lock.proofs.Totals.{total_at, calls_append, calls_other}
 use Rattle.conn_lock.proofs.Changes.{within, follows, moved, stays, kept_place, refreshed, alone, other_turn, own_name, was_drawn, Goes}
 
 module _ {S E : Type 0} (list_of : S → List E) (IsThere : S → Type 0) (number : E → ℕ) where
@@ -26,8 +25,8 @@ module _ {S E : Type 0} (list_of : S → List E) (IsThere : S → Type 0) (numbe
     drawn = 1;
     list = [];
     words = refl;
-    tickets = λ y. omega (arith, below_out y 0);
-    names = λ y. omega (arith, below_more y 0, below_out y 0);
+    tickets = λ y. grind (arith, nat_tests);
+    names = λ y. grind (arith, nat_tests);
     parts = refl;
     few = omega arith;
     known = λ y _. refl;
@@ -60,7 +59,7 @@ module _ {S E : Type 0} (list_of : S → List E) (IsThere : S → Type 0) (numbe
         tt,
         moved list_of IsThere number s k id v w at new k.serving k.drawn k.list (set s.words 0 new) s.homes
             (ap (λ l. set l 0 new) k.words)
-            (λ x. let a = below_more x old in let b : k.ticket ≡ old = sym n_is ∙ hit in rw (next, b, hit, none_yet) (omega arith))
+            (λ x. let b : k.ticket ≡ old = sym n_is ∙ hit in rw (next, b, hit, none_yet) (grind (arith, nat_tests)))
             (λ x. refl)
             refl
             k.few
@@ -141,7 +140,7 @@ module _ {S E : Type 0} (list_of : S → List E) (IsThere : S → Type 0) (numbe
         gives,
         tt,
         moved list_of IsThere number s k id v w at k.ticket (t + 1) k.drawn (list_of x) (set s.words 1 (t + 1)) (set s.homes 0 (some x)) (ap (λ l. set l 1 (t + 1)) k.words)
-            (λ y. let a = below_more y t in let b : times y v.tickets ≡ once t y + 0 = ap (times y) mine in let c : below y t ≡ below y k.serving = ap (below y) served in omega arith)
+            (λ y. let b : times y v.tickets ≡ once t y + 0 = ap (times y) mine in grind (arith, nat_tests))
             (λ y. refl)
             refl
             k.few
@@ -196,10 +195,9 @@ module _ {S E : Type 0} (list_of : S → List E) (IsThere : S → Type 0) (numbe
       let nobody : (i : ℕ) (u : View E) → i ≢ id → get_elem? s.views i ≡ some u → u.tickets ≡ k.serving ∷ [] → ⊥ = λ i u _ e theirs.
       let q : ℕ = k.serving in
       let f : View E → ℕ = λ w. times q w.tickets in
-      let a = total_at f s.views i u e in let b : f u ≡ once q q + 0 = ap (times q) theirs in let c = once_same q in let d = k.tickets q in
-      let g : below q k.ticket ≡ 0 = below_out q k.ticket (omega (arith, same, n_is)) in absurd (omega arith) in
+      let a = total_at f s.views i u e in let b : f u ≡ once q q + 0 = ap (times q) theirs in let d = k.tickets q in absurd (grind (arith, nat_tests)) in
       let b = begins s k id v at out some_part new (set s.words 0 new) (n ∷ []) None (ap (λ l. set l 0 new) k.words) (ap (λ z. z ∷ []) (sym same))
-          (λ y. let a = below_more y old in let b : k.ticket ≡ old = sym n_is ∙ hit in rw (next, b, hit, none_yet) (omega arith)) (λ m h. absurd (cc)) nobody in (
+          (λ y. let b : k.ticket ≡ old = sym n_is ∙ hit in rw (next, b, hit, none_yet) (grind (arith, nat_tests))) (λ m h. absurd (cc)) nobody in (
         record v { tickets = n ∷ []; turn = true; front = list_of b.0; note = None; shorter = [] },
         takes 0 b.0,
         b.1,
