@@ -11,9 +11,9 @@ use Rattle.std.proofs.lemmas.Bool.Decides.{nat_tests}
 use Rattle.atomic_table.specs.Table.{Me, keeps, Allows, Splits, Joins, step}
 use Rattle.atomic_table.proofs.Lists.{at_set, at_snoc, at_longer, exchanged}
 use Rattle.conn_lock.specs.declared.view.View.{View}
-use Rattle.conn_lock.specs.Callers.{once, times, calls, share, most_numbers}
+use Rattle.conn_lock.specs.Callers.{times, calls, share, most_numbers}
 use Rattle.conn_lock.specs.Rule.{IsSound, Kept, counted, named, told, left, right, both, spent}
-use Rattle.conn_lock.proofs.Totals.{total_set, total_at, total_snoc, times_append, calls_prefix, begins_longer}
+use Rattle.conn_lock.proofs.Totals.{total_split, total_two, total_at, times_append, calls_prefix, begins_longer}
 use Rattle.conn_lock.proofs.Changes.{moved, sound_set, stays, kept_place, refreshed, Goes}
 
 module _ {S E : Type 0} (list_of : S → List E) (IsThere : S → Type 0) (number : E → ℕ) where
@@ -117,17 +117,9 @@ module _ {S E : Type 0} (list_of : S → List E) (IsThere : S → Type 0) (numbe
         drawn = k.drawn;
         list = k.list;
         words = k.words;
-        tickets = λ x.
-            let f : View E → ℕ = λ u. times x u.tickets in
-            let a = total_set f s.views id v l at in let b = total_snoc f (set s.views id l) r in let c = k.tickets x in omega arith;
-        names = λ x.
-            let f : View E → ℕ = λ u. times x u.names in
-            let a = total_set f s.views id v l at in let b = total_snoc f (set s.views id l) r in let c = k.names x in
-            let d : f l ≡ times x ns = ap (times x) names_l in let e : f r ≡ once n x + 0 = ap (times x) names_r in let g : f v ≡ once n x + times x ns = ap (times x) has in omega arith;
-        parts =
-            let f : View E → ℕ = λ u. u.parts in
-            let a = total_set f s.views id v l at in let b = total_snoc f (set s.views id l) r in let c = k.parts in
-            let d : f l ≡ p - q = refl in let e : f r ≡ q = refl in omega (arith, small);
+        tickets = λ x. omega (arith, total_split (λ (u : View E). times x u.tickets) s.views id v l r at, k.tickets x);
+        names = λ x. omega (arith, total_split (λ (u : View E). times x u.names) s.views id v l r at, k.names x, ap (times x) names_l, ap (times x) names_r, ap (times x) has);
+        parts = let e : r.parts ≡ q = refl in omega (arith, total_split (λ (u : View E). u.parts) s.views id v l r at, k.parts, small);
         few = k.few;
         known = k.known;
         sound = λ i u e. ⊎_elim
@@ -176,17 +168,9 @@ module _ {S E : Type 0} (list_of : S → List E) (IsThere : S → Type 0) (numbe
         drawn = k.drawn;
         list = k.list;
         words = k.words;
-        tickets = λ x.
-            let f : View E → ℕ = λ u. times x u.tickets in
-            let a = total_set f s.views id v b at in let c = total_set f first other w spent there in let d = k.tickets x in
-            let e : f w ≡ 0 = ap (times x) no_ticket_w in omega arith;
-        names = λ x.
-            let f : View E → ℕ = λ u. times x u.names in
-            let a = total_set f s.views id v b at in let c = total_set f first other w spent there in let d = k.names x in
-            let e = times_append x v.names w.names in omega arith;
-        parts =
-            let f : View E → ℕ = λ u. u.parts in
-            let a = total_set f s.views id v b at in let c = total_set f first other w spent there in let d = k.parts in omega arith;
+        tickets = λ x. omega (arith, total_two (λ (u : View E). times x u.tickets) s.views id other v w b spent at there, k.tickets x, ap (times x) no_ticket_w);
+        names = λ x. omega (arith, total_two (λ (u : View E). times x u.names) s.views id other v w b spent at there, k.names x, times_append x v.names w.names);
+        parts = omega (arith, total_two (λ (u : View E). u.parts) s.views id other v w b spent at there, k.parts);
         few = k.few;
         known = k.known;
         sound = sound_set first other spent (IsSound number k.list k.serving k.drawn s.homes)

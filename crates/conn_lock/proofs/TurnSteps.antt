@@ -124,9 +124,11 @@ module _ {S E : Type 0} (list_of : S → List E) (IsThere : S → Type 0) (numbe
       (λ no. (v, keeps, tt, stays list_of IsThere number s k id v at (set s.words 1 n) same_words, ((λ hit. absurd (no (ap (λ l. slice_index l 0) (sym mine ∙ hit) ∙ n_is))), (λ _. refl))))
 
   -- the turn ends
-  passes : (slots id : ℕ) (v : View E) (x : S) → IsThere x → (t n : ℕ) (own : List E) → v.tickets ≡ t ∷ [] → v.turn ≡ true → 0 < v.parts → 0 < times n v.names → list_of x ≡ v.front ++ own → calls number n own ≡ length own
-      → Allows (Kept list_of IsThere number) slots id (v, (0, x) ∷ []) 1 (λ _. t + 1) (λ _ m. passed list_of (step slots 1 (t + 1) 0 none) (v, (0, x) ∷ []) (t + 1) m)
-  passes slots id v x is_there t n own mine inside some_part named added counted s k _ at _ =
+  pub passes : (slots id : ℕ) (me : Me S (View E)) (x : S) → IsThere x → (t n : ℕ) (own : List E) → me.1 ≡ (0, x) ∷ [] → me.0.tickets ≡ t ∷ [] → me.0.turn ≡ true → 0 < me.0.parts → 0 < times n me.0.names → list_of x ≡ me.0.front ++ own → calls number n own ≡ length own
+      → Allows (Kept list_of IsThere number) slots id me 1 (λ _. t + 1) (λ _ m. passed list_of (step slots 1 (t + 1) 0 none) me (t + 1) m)
+  passes slots id me x is_there t n own has mine inside some_part named added counted =
+      subst (λ (m : List (ℕ × S)). Allows (Kept list_of IsThere number) slots id (me.0, m) 1 (λ _. t + 1) (λ _ m'. passed list_of (step slots 1 (t + 1) 0 none) (me.0, m) (t + 1) m')) (sym has) (λ s k _ at _.
+      let v = me.0 in
       let ok = k.sound id v at in
       let in_turn = ok.inside inside in
       let list_is : k.list ≡ v.front = sym in_turn.1 in
@@ -170,7 +172,7 @@ module _ {S E : Type 0} (list_of : S → List E) (IsThere : S → Type 0) (numbe
             }
             (inl (x, homes_are, refl, is_there)),
         refl,
-      )
+      ))
 
   pub notes : (slots id : ℕ) (me : Me S (View E)) → me.0.turn ≡ false → Allows (Kept list_of IsThere number) slots id me 1 (λ n. n) (noted (step slots 1 0 0 none) me)
   notes slots id me out s k _ at _ =
@@ -211,9 +213,3 @@ module _ {S E : Type 0} (list_of : S → List E) (IsThere : S → Type 0) (numbe
         refreshed list_of IsThere number s k id v at out v.found None (v.misses + 1) ok.found (λ m h. absurd (cc)) (set s.words 0 n) (rw k.words refl),
         ((λ hit. absurd (miss hit)), (λ _. refl)),
       ))
-
-  -- the same of a seat of which it is known what it holds
-  pub passes_at : (slots id : ℕ) (me : Me S (View E)) (x : S) → IsThere x → (t n : ℕ) (own : List E) → me.1 ≡ (0, x) ∷ [] → me.0.tickets ≡ t ∷ [] → me.0.turn ≡ true → 0 < me.0.parts → 0 < times n me.0.names → list_of x ≡ me.0.front ++ own → calls number n own ≡ length own
-      → Allows (Kept list_of IsThere number) slots id me 1 (λ _. t + 1) (λ _ m. passed list_of (step slots 1 (t + 1) 0 none) me (t + 1) m)
-  passes_at slots id me x is_there t n own has mine inside some_part named added counted =
-      subst (λ (m : List (ℕ × S)). Allows (Kept list_of IsThere number) slots id (me.0, m) 1 (λ _. t + 1) (λ _ m'. passed list_of (step slots 1 (t + 1) 0 none) (me.0, m) (t + 1) m')) (sym has) (passes slots id me.0 x is_there t n own mine inside some_part named added counted)
