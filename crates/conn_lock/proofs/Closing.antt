@@ -1,8 +1,6 @@
 -- What the seat with all parts knows at the end.
-use Rattle.std.proofs.Common.{◌≡◌, ℕ, zero, suc, ◌<◌, List, [], ◌∷◌, ◌++◌, false, true, refl, sym, ap, ◌∙◌, subst, ⊎_elim, arith, append-nil, lt_of_not-le}
+use Rattle.std.proofs.Common.{◌≡◌, ℕ, zero, suc, ◌<◌, List, [], ◌∷◌, ◌++◌, false, true, refl, sym, ap, ◌∙◌, subst, ⊎_elim, arith, append-nil}
 use mathlib.Core.Option.{none, some, some-injective, some-ne-none}
-use mathlib.Core.Logic.{dite}
-use native.Mathlib.Decide.{dec_le}
 use lib.ListN.{get_elem?}
 use Rattle.std.proofs.lemmas.Bool.Decides.{nat_tests}
 use Rattle.atomic_table.specs.Table.{State, Seen}
@@ -35,9 +33,7 @@ module _ {S E : Type 0} (list_of : S → List E) (IsThere : S → Type 0) (numbe
   no_more s k id v at all more is = no_calls number more (λ y.
       let a = calls_append number y v.front more in
       let b : calls number y (v.front ++ more) ≡ calls number y k.list = ap (calls number y) is in
-      dite (dec_le k.drawn y)
-      (λ le. let c = k.known y le in omega arith)
-      (λ no. let c = (k.sound id v at).fits.1 y (all_names s k id v at all y (lt_of_not-le no)) in omega arith))
+      grind (arith, k.known y, (k.sound id v at).fits.1 y, all_names s k id v at all y))
 
   -- the seat with all parts has the whole list, and the value is at home
   closes : (s : State S (View E)) (id : ℕ) (v : View E) → Seen (Kept list_of IsThere number) id v s → v.turn ≡ false → v.parts ≡ all_parts → (x : S) × (s.homes ≡ some x ∷ []) × (list_of x ≡ v.front) × IsThere x
@@ -72,6 +68,4 @@ module _ {S E : Type 0} (list_of : S → List E) (IsThere : S → Type 0) (numbe
   pub all_named : (s : State S (View E)) (id : ℕ) (v : View E) → Seen (Kept list_of IsThere number) id v s → v.parts ≡ all_parts → (y : ℕ) → times y v.names ≡ 0 → calls number y v.front ≡ 0
   all_named s id v seen all y none_of =
       let k = seen.0 in let at = seen.1 in
-      dite (dec_le k.drawn y)
-      (λ le. let c = k.known y le in let few = calls_prefix number y v.front k.list (k.sound id v at).fits.0 in omega arith)
-      (λ no. let c = all_names s k id v at all y (lt_of_not-le no) in absurd (omega arith))
+      grind (arith, k.known y, calls_prefix number y v.front k.list (k.sound id v at).fits.0, all_names s k id v at all y)

@@ -1,10 +1,8 @@
 -- The steps on numbers and parts keep the rule.
-use Rattle.std.proofs.Common.{◌≡◌, ◌≢◌, ℕ, ◌+◌, ◌-◌, ◌<◌, List, [], ◌∷◌, length, set, Bool, true, false, true≢false, refl, sym, ap, ◌∙◌, subst, inl, inr, ⊎_elim, arith, eqb, append-nil, lt_of_not-le, cond, nat_lt}
+use Rattle.std.proofs.Common.{◌≡◌, ◌≢◌, ℕ, ◌+◌, ◌-◌, ◌<◌, List, [], ◌∷◌, length, set, Bool, true, false, true≢false, refl, sym, ap, ◌∙◌, subst, inl, inr, ⊎_elim, arith, eqb, append-nil, cond, nat_lt}
 use Rattle.std.specs.Prelude.{slice_index}
 use mathlib.Core.List.{IsPrefix}
 use mathlib.Core.Option.{none, some}
-use mathlib.Core.Logic.{dite}
-use native.Mathlib.Decide.{ℕ_discrete, dec_le}
 use prog.Atomic.{either}
 use lib.ListN.{get_elem?}
 use Rattle.std.proofs.lemmas.Bool.Decides.{nat_tests}
@@ -49,9 +47,7 @@ module _ {S E : Type 0} (list_of : S → List E) (IsThere : S → Type 0) (numbe
             record {
               fits = (
                 ok.fits.0,
-                λ y has. dite (ℕ_discrete y n)
-                    (λ same. let a : calls number y k.list ≡ 0 = k.known y (omega (arith, same, n_is)) in let b = calls_prefix number y v.front k.list ok.fits.0 in omega arith)
-                    (λ other. ok.fits.1 y (grind (arith, nat_tests))),
+                λ y has. grind (arith, nat_tests, k.known y, calls_prefix number y v.front k.list ok.fits.0, ok.fits.1 y),
               );
               spent = λ z. absurd (omega (arith, some_part, z));
               inside = ok.inside;
@@ -141,11 +137,9 @@ module _ {S E : Type 0} (list_of : S → List E) (IsThere : S → Type 0) (numbe
         fits = (
           fronts.0,
           λ y some_name.
-              let a = times_append y v.names w.names in
-              let m = calls_prefix number y b.front k.list fronts.0 in
-              dite (dec_le (times y v.names) 0)
-              (λ none. let c = ok_w.fits.1 y (omega (arith, some_name)) in let d = calls_prefix number y w.front b.front fronts.2 in omega arith)
-              (λ some. let l = lt_of_not-le some in let c = ok.fits.1 y l in let d = calls_prefix number y v.front b.front fronts.1 in omega arith),
+              let theirs = calls_prefix number y w.front b.front fronts.2 in
+              let ours = calls_prefix number y v.front b.front fronts.1 in
+              grind (arith, times_append y v.names w.names, calls_prefix number y b.front k.list fronts.0, ok.fits.1 y, ok_w.fits.1 y),
         );
         spent = λ z. absurd (let e : v.parts + w.parts ≡ 0 = z in omega (arith, some_part));
         inside = λ t. absurd (true≢false (sym t ∙ out));
