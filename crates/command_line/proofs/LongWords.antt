@@ -3,24 +3,17 @@ use Rattle.std.proofs.Common.{◌≡◌, ◌∙◌, ◌==◌, ◌+◌, ◌||◌,
 use Rattle.std.specs.Prelude.{option_and_then}
 use Rattle.std.specs.List.{before_first, list_any}
 use Rattle.std.proofs.lemmas.Bool.Decides.{nat_tests}
+use Rattle.std.proofs.lemmas.List.Folds.{list_any_at}
 use Rattle.clap.specs.Lexer.{has_byte, long_of, long_of_rest, name_and_value, strip_byte}
 use Rattle.clap.specs.Walk.{Text}
+use Rattle.clap.proofs.CutLemmas.{before_first-Lacks}
 
 byte_stripped : (c : ℕ) (text rest : Text) → strip_byte c text ≡ Some rest → text ≡ c ∷ rest
 byte_stripped c [] rest e = cc
 byte_stripped c (x ∷ xs) rest e = grind (arith, nat_tests)
 
-one_more : (n : ℕ) → 1 + n ≡ suc n
-one_more n = omega arith
-
 all_before : (text : Text) → has_byte 61 text ≡ false → before_first (λ x. x == 61) text ≡ text
-all_before [] e = refl
-all_before (x ∷ xs) e = go (x == 61) refl e (all_before xs)
-  where
-    go : (t : Bool) → (x == 61) ≡ t → (t || list_any (λ y. y == 61) xs) ≡ false
-        → (has_byte 61 xs ≡ false → before_first (λ y. y == 61) xs ≡ xs) → before_first (λ y. y == 61) (x ∷ xs) ≡ x ∷ xs
-    go true is f rest = cc
-    go false is f rest = rw is (ap (λ n. take n (x ∷ xs)) (one_more _) ∙ ap (λ t. x ∷ t) (rest f))
+all_before text e = before_first-Lacks 61 text (λ i lt is. absurd (grind (arith, nat_tests, list_any_at (λ x. x == 61) text i 0 lt)))
 
 no_value : (text name : Text) → name_and_value text ≡ (name, None) → text ≡ name
 no_value text name e = grind (arith, all_before text, ap (λ p. p.0) e, ap (λ p. p.1) e)

@@ -95,12 +95,8 @@ module _ {S E : Type 0} (list_of : S → List E) (IsThere : S → Type 0) (numbe
   pub alone : (s : State S (View E)) (k : Kept list_of IsThere number s) (id : ℕ) (v : View E) → get_elem? s.views id ≡ some v → v.tickets ≡ k.serving ∷ [] → (i : ℕ) (u : View E) → i ≢ id → get_elem? s.views i ≡ some u → u.tickets ≡ k.serving ∷ [] → ⊥
   alone s k id v at mine i u other there theirs =
       let n : ℕ = k.serving in
-      let f : View E → ℕ = λ w. times n w.tickets in
-      let both = total_both f s.views i id u v other there at in
-      let a : f v ≡ once n n + 0 = ap (times n) mine in
-      let b : f u ≡ once n n + 0 = ap (times n) theirs in
-      let sum = k.tickets n in
-      absurd (grind (arith, nat_tests))
+      let both = total_both (λ (w : View E). times n w.tickets) s.views i id u v other there at in
+      absurd (grind (arith, nat_tests, ap (times n) mine, ap (times n) theirs, k.tickets n))
 
   -- a name in one view stands in no other
   pub own_name : (s : State S (View E)) (k : Kept list_of IsThere number s) (id : ℕ) (v : View E) → get_elem? s.views id ≡ some v → (x : ℕ) → 0 < times x v.names → (i : ℕ) (u : View E) → i ≢ id → get_elem? s.views i ≡ some u → times x u.names ≡ 0

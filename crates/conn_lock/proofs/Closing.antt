@@ -51,8 +51,7 @@ module _ {S E : Type 0} (list_of : S → List E) (IsThere : S → Type 0) (numbe
       let other = other_turn s.views id i v u at out away.3 away.4 in
       let theirs = k.sound i u away.3 in
       let two = total_both (λ (w : View E). w.parts) s.views i id u v other away.3 at in
-      let sum = k.parts in
-      let idle : u.parts ≡ 0 = omega (arith, all) in
+      let idle : u.parts ≡ 0 = omega (arith, all, k.parts) in
       absurd (some-ne-none k.serving (ap (λ l. get_elem? l 0) (sym (theirs.inside away.4).2 ∙ (theirs.spent idle).1))))
       k.place
 

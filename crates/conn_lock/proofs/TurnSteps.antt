@@ -150,11 +150,7 @@ module _ {S E : Type 0} (list_of : S → List E) (IsThere : S → Type 0) (numbe
             (λ i u other e. let o = k.sound i u e in record {
               fits = (
                 (o.fits.0.0 ++ own, sym (append_assoc u.front o.fits.0.0 own) ∙ ap (λ l. l ++ own) (o.fits.0.1 ∙ list_is) ∙ sym added),
-                λ y some_name.
-                    let a = counts y in
-                    let b = none_of y (λ same. absurd (let c : times n u.names ≡ 0 = own_name list_of IsThere number s k id v at n named i u other e in let d : 0 < times n u.names = rw same some_name in omega arith)) in
-                    let c = o.fits.1 y some_name in
-                    omega arith,
+                λ y some_name. grind (arith, counts y, none_of y, own_name list_of IsThere number s k id v at n named i u other e, o.fits.1 y),
               );
               spent = o.spent;
               inside = λ turn. absurd (alone list_of IsThere number s k id v at in_turn.2 i u other e (o.inside turn).2);
@@ -196,8 +192,7 @@ module _ {S E : Type 0} (list_of : S → List E) (IsThere : S → Type 0) (numbe
       let same : k.serving ≡ n = let a = ok.noted old was in omega (arith, hit, n_is, ahead) in
       let nobody : (i : ℕ) (u : View E) → i ≢ id → get_elem? s.views i ≡ some u → u.tickets ≡ k.serving ∷ [] → ⊥ = λ i u _ e theirs.
       let q : ℕ = k.serving in
-      let f : View E → ℕ = λ w. times q w.tickets in
-      let a = total_at f s.views i u e in let b : f u ≡ once q q + 0 = ap (times q) theirs in let d = k.tickets q in absurd (grind (arith, nat_tests)) in
+      absurd (grind (arith, nat_tests, total_at (λ (w : View E). times q w.tickets) s.views i u e, ap (times q) theirs, k.tickets q)) in
       let b = begins s k id v at out some_part new (set s.words 0 new) (n ∷ []) None (ap (λ l. set l 0 new) k.words) (ap (λ z. z ∷ []) (sym same))
           (λ y. let b : k.ticket ≡ old = sym n_is ∙ hit in rw (next, b, hit, none_yet) (grind (arith, nat_tests))) (λ m h. absurd (cc)) nobody in (
         record v { tickets = n ∷ []; turn = true; front = list_of b.0; note = None; shorter = [] },
