@@ -91,10 +91,7 @@ either bytes place rule fs gs p q =
     absurd (omega (arith, q.place_is, q.there, ap length same, ap length all))
 
 same_rule : (bytes : List ℕ) (r s : ℕ) → IsWrong bytes r → IsWrong bytes s → r ≡ s
-same_rule bytes r s (inl a) (inl b) = cc (a.least, b.least, a.number_is, b.number_is)
-same_rule bytes r s (inl a) (inr b) = absurd (b.1 a.whole)
-same_rule bytes r s (inr a) (inl b) = absurd (a.1 b.whole)
-same_rule bytes r s (inr a) (inr b) = a.0 ∙ sym b.0
+same_rule bytes r s p q = grind arith
 
 pub one_place : (bytes : List ℕ) (p q r s : ℕ) (fs gs : List Frame) → IsBadAt bytes p r fs → IsBadAt bytes q s gs → (p ≡ q) × (r ≡ s) × (fs ≡ gs)
 one_place bytes p q r s fs gs a b =

@@ -56,33 +56,15 @@ long bytes b =
 
 -- ---- one list of frames
 
-the_same : (fs gs : List Frame) → Aligned fs gs [] [] → fs ≡ gs
-the_same fs gs (inl both) = both.0
-the_same fs gs (inr (inl b)) = absurd (omega (arith, long [] b))
-the_same fs gs (inr (inr b)) = absurd (omega (arith, long [] b))
-
 same_lines : (fs gs : List Frame) → AllByRecursion IsFrame fs → AllByRecursion IsFrame gs → all_lines fs ≡ all_lines gs → fs ≡ gs
-same_lines fs gs are_fs are_gs same = the_same fs gs (aligned fs gs [] [] are_fs are_gs (ap (λ t. t ++ []) same))
-
-not_aligned : (fs gs : List Frame) → ¬ (Aligned fs gs (10 ∷ []) [])
-not_aligned fs gs (inl both) = absurd (cc both.1)
-not_aligned fs gs (inr (inl b)) = absurd (omega (arith, long (10 ∷ []) b))
-not_aligned fs gs (inr (inr b)) = absurd (omega (arith, long [] b))
+same_lines fs gs are_fs are_gs same = grind (arith, long [], aligned fs gs [] [] are_fs are_gs (ap (λ t. t ++ []) same))
 
 not_ended : (fs gs : List Frame) → AllByRecursion IsFrame fs → AllByRecursion IsFrame gs → ¬ (ended (all_lines fs) ≡ all_lines gs)
-not_ended fs gs are_fs are_gs same = not_aligned fs gs (aligned fs gs (10 ∷ []) [] are_fs are_gs (same ∙ sym (append-nil (all_lines gs))))
-
-abbrev HasLines : List ℕ → List Frame → Type 0
-HasLines text fs = (text ≡ all_lines fs) ⊎ (ended text ≡ all_lines fs)
-
-one_by : (text : List ℕ) (fs gs : List Frame) → AllByRecursion IsFrame fs → AllByRecursion IsFrame gs → HasLines text fs → HasLines text gs → fs ≡ gs
-one_by text fs gs are_fs are_gs (inl p) (inl q) = same_lines fs gs are_fs are_gs (sym p ∙ q)
-one_by text fs gs are_fs are_gs (inr p) (inr q) = same_lines fs gs are_fs are_gs (sym p ∙ q)
-one_by text fs gs are_fs are_gs (inl p) (inr q) = absurd (not_ended fs gs are_fs are_gs (ap ended (sym p) ∙ q))
-one_by text fs gs are_fs are_gs (inr p) (inl q) = absurd (not_ended gs fs are_gs are_fs (ap ended (sym q) ∙ p))
+not_ended fs gs are_fs are_gs same = grind (arith, long [], long (10 ∷ []), aligned fs gs (10 ∷ []) [] are_fs are_gs (same ∙ sym (append-nil (all_lines gs))))
 
 pub one_text : (text : List ℕ) (fs gs : List Frame) → IsTextOf text fs → IsTextOf text gs → fs ≡ gs
-one_text text fs gs a b = one_by text fs gs a.are_frames b.are_frames a.lines b.lines
+one_text text fs gs a b =
+    grind (arith, a.lines, b.lines, same_lines fs gs a.are_frames b.are_frames, not_ended fs gs a.are_frames b.are_frames, not_ended gs fs b.are_frames a.are_frames)
 
 -- ---- no wrong line
 
