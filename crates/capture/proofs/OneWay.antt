@@ -72,10 +72,8 @@ agree (f ∷ fs) (g ∷ gs) (d ∷ bs) (c ∷ cs) r s p q a b no_r no_s e =
     (cc (frame, rest.0), rest.1)
 agree [] gs (d ∷ bs) cs r s p q a b no_r no_s e = absurd p
 agree (f ∷ fs) gs [] cs r s p q a b no_r no_s e = absurd p
-agree [] [] [] (c ∷ cs) r s p q a b no_r no_s e = absurd q
-agree [] (g ∷ gs) [] [] r s p q a b no_r no_s e = absurd q
-agree (f ∷ fs) [] (d ∷ bs) (c ∷ cs) r s p q a b no_r no_s e = absurd q
-agree (f ∷ fs) (g ∷ gs) (d ∷ bs) [] r s p q a b no_r no_s e = absurd q
+agree fs [] bs (c ∷ cs) r s p q a b no_r no_s e = absurd q
+agree fs (g ∷ gs) bs [] r s p q a b no_r no_s e = absurd q
 
 one_way : (bytes : List ℕ) (fs gs : List Frame) (r s : List ℕ) → Holds bytes fs r → Holds bytes gs s → Stops r → Stops s → (fs ≡ gs) × (r ≡ s)
 one_way bytes fs gs r s p q no_r no_s = agree fs gs p.spellings q.spellings r s p.spelled q.spelled p.cut.fit q.cut.fit no_r no_s (sym p.cut.whole ∙ q.cut.whole)

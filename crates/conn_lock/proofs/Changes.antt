@@ -8,7 +8,7 @@ use Rattle.std.proofs.lemmas.Bool.Decides.{nat_tests}
 use Rattle.atomic_table.specs.Table.{State, Me, Act, stepped, Valid, carried_after}
 use Rattle.atomic_table.proofs.Lists.{at_set, set_again, set_else}
 use Rattle.conn_lock.specs.declared.view.View.{View}
-use Rattle.conn_lock.specs.Callers.{once, times, calls, Follows, Fits, most_numbers}
+use Rattle.conn_lock.specs.Callers.{times, calls, Follows, Fits, most_numbers}
 use Rattle.conn_lock.specs.Rule.{below, IsSound, IsPlaced, Kept}
 use Rattle.conn_lock.proofs.Totals.{total_set, total_at, total_both, calls_append}
 

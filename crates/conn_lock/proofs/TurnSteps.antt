@@ -194,7 +194,7 @@ module _ {S E : Type 0} (list_of : S → List E) (IsThere : S → Type 0) (numbe
       let q : ℕ = k.serving in
       absurd (grind (arith, nat_tests, total_at (λ (w : View E). times q w.tickets) s.views i u e, ap (times q) theirs, k.tickets q)) in
       let b = begins s k id v at out some_part new (set s.words 0 new) (n ∷ []) None (ap (λ l. set l 0 new) k.words) (ap (λ z. z ∷ []) (sym same))
-          (λ y. let b : k.ticket ≡ old = sym n_is ∙ hit in rw (next, b, hit, none_yet) (grind (arith, nat_tests))) (λ m h. absurd (cc)) nobody in (
+      (λ y. let b : k.ticket ≡ old = sym n_is ∙ hit in rw (next, b, hit, none_yet) (grind (arith, nat_tests))) (λ m h. absurd (cc)) nobody in (
         record v { tickets = n ∷ []; turn = true; front = list_of b.0; note = None; shorter = [] },
         takes 0 b.0,
         b.1,

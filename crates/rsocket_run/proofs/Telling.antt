@@ -13,16 +13,13 @@ use Rattle.rsocket_run.specs.Stops.{IsTold, StoppedBy, TellsStop, faults_after_w
 use Rattle.rsocket_run.specs.Streams.{CutOff, CutsOffSome, Writes, WritesSome}
 use Rattle.rsocket_run.proofs.Right.{no_bad_frame, no_wrong_line}
 
-whole : (known : ℕ) (text : List ℕ) (old new : ByteStream) (status : ℕ) → known ≢ 5 → known ≢ 6 → IsTold known text old new status → status ≡ known → Writes text old new
-whole known text old new status a b told is = grind (arith, common_steps)
-
 cut : (known : ℕ) (text : List ℕ) (old new : ByteStream) (status : ℕ) → known ≢ 5 → IsTold known text old new status → status ≡ 5 → CutOff text old new
 cut known text old new status a told is = grind (arith, common_steps)
 
 pub stop_wrong_line : (task : Task) (input : List ℕ) (left : Option (List ℕ)) (stop : Stop) (text : List ℕ) (old new : ByteStream) (status : ℕ) → StoppedBy task input left stop text → TellsStop stop text old new status → status ≡ 3 → WritesSome (TellsWrongLine task input left) old new
 stop_wrong_line task input left stops.Usage text old new status by t is = absurd by
 stop_wrong_line task input left (stops.WrongLine number) text old new status by t is =
-    (text ++ wrong_line number, (number, by.0, ap (λ (t : List ℕ). t ++ wrong_line number) by.1), whole 3 _ old new status (λ e. cc) (λ e. cc) t is)
+    (text ++ wrong_line number, (number, by.0, ap (λ (t : List ℕ). t ++ wrong_line number) by.1), grind (arith, common_steps))
 stop_wrong_line task input left stops.ReadFault text old new status by t is = absurd (grind arith)
 stop_wrong_line task input left stops.OutOfMemory text old new status by t is = absurd (omega arith)
 stop_wrong_line task input left (stops.BadFrame place rule) text old new status by t is = absurd (grind arith)
@@ -33,7 +30,7 @@ stop_bad_frame task input left (stops.WrongLine number) text old new status by t
 stop_bad_frame task input left stops.ReadFault text old new status by t is = absurd (grind arith)
 stop_bad_frame task input left stops.OutOfMemory text old new status by t is = absurd (omega arith)
 stop_bad_frame task input left (stops.BadFrame place rule) text old new status by t is =
-    (text ++ bad_frame_line place rule, (place, rule, text, by, refl), whole 11 _ old new status (λ e. cc) (λ e. cc) t is)
+    (text ++ bad_frame_line place rule, (place, rule, text, by, refl), grind (arith, common_steps))
 
 pub stop_cut_off : (task : Task) (text : List ℕ) (input input' : ByteStream) (fresh : Option (List Entry)) (shelf shelf' : List (Option (List Entry))) (stop : Stop) (out : List ℕ) (old new : ByteStream) (status : ℕ) → input'.faults ≡ faults_after_work (Err stop) input.faults → StoppedBy task text input'.told stop out → TellsStop stop out old new status → status ≡ 5 → CutsOffSome (IsDue task text input input' fresh shelf shelf') old new
 stop_cut_off task text input input' fresh shelf shelf' stops.Usage out old new status faults by t is = absurd by
