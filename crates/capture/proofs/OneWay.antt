@@ -72,10 +72,8 @@ agree (f ∷ fs) (g ∷ gs) (d ∷ bs) (c ∷ cs) r s p q a b no_r no_s e =
     (cc (frame, rest.0), rest.1)
 agree [] gs (d ∷ bs) cs r s p q a b no_r no_s e = absurd p
 agree (f ∷ fs) gs [] cs r s p q a b no_r no_s e = absurd p
-agree [] [] [] (c ∷ cs) r s p q a b no_r no_s e = absurd q
-agree [] (g ∷ gs) [] [] r s p q a b no_r no_s e = absurd q
-agree (f ∷ fs) [] (d ∷ bs) (c ∷ cs) r s p q a b no_r no_s e = absurd q
-agree (f ∷ fs) (g ∷ gs) (d ∷ bs) [] r s p q a b no_r no_s e = absurd q
+agree fs [] bs (c ∷ cs) r s p q a b no_r no_s e = absurd q
+agree fs (g ∷ gs) bs [] r s p q a b no_r no_s e = absurd q
 
 one_way : (bytes : List ℕ) (fs gs : List Frame) (r s : List ℕ) → Holds bytes fs r → Holds bytes gs s → Stops r → Stops s → (fs ≡ gs) × (r ≡ s)
 one_way bytes fs gs r s p q no_r no_s = agree fs gs p.spellings q.spellings r s p.spelled q.spelled p.cut.fit q.cut.fit no_r no_s (sym p.cut.whole ∙ q.cut.whole)
@@ -91,10 +89,7 @@ either bytes place rule fs gs p q =
     absurd (omega (arith, q.place_is, q.there, ap length same, ap length all))
 
 same_rule : (bytes : List ℕ) (r s : ℕ) → IsWrong bytes r → IsWrong bytes s → r ≡ s
-same_rule bytes r s (inl a) (inl b) = cc (a.least, b.least, a.number_is, b.number_is)
-same_rule bytes r s (inl a) (inr b) = absurd (b.1 a.whole)
-same_rule bytes r s (inr a) (inl b) = absurd (a.1 b.whole)
-same_rule bytes r s (inr a) (inr b) = a.0 ∙ sym b.0
+same_rule bytes r s p q = grind arith
 
 pub one_place : (bytes : List ℕ) (p q r s : ℕ) (fs gs : List Frame) → IsBadAt bytes p r fs → IsBadAt bytes q s gs → (p ≡ q) × (r ≡ s) × (fs ≡ gs)
 one_place bytes p q r s fs gs a b =

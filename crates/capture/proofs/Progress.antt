@@ -1,7 +1,7 @@
 -- How far the lines of a text were read.
-use Rattle.std.proofs.Common.{◌≡◌, ℕ, ◌+◌, ◌<◌, ◌≤◌, List, [], ◌∷◌, ◌++◌, length, min, take, Result, Ok, Err, refl, sym, ap, subst, ◌∙◌, inl, inr, append_assoc, arith}
-use Rattle.std.specs.Prelude.{IfErr, OnOk}
+use Rattle.std.proofs.Common.{◌≡◌, ℕ, ◌+◌, ◌<◌, ◌≤◌, List, [], ◌∷◌, ◌++◌, length, min, take, refl, sym, ap, subst, ◌∙◌, inl, inr, append_assoc, arith}
 use Rattle.std.specs.List.{AllByRecursion}
+use Rattle.std.proofs.ByRecursion.{All-append}
 use Rattle.std.proofs.lemmas.List.{append-nil, flat_map_more, length-append, length-take, take_all, take_min}
 use Rattle.rs_frame.specs.declared.frame.Frame.{Frame}
 use Rattle.rs_frame.specs.Framed.{framed_all, framed_frame}
@@ -23,16 +23,11 @@ pub record SoFar (text rest : List ℕ) (number : ℕ) (old new : List ℕ) : Ty
   pub number_is : length frames + 1 ≡ number
   pub appended : new ≡ old ++ framed_all frames
 
-snoc : (frames : List Frame) (f : Frame) → AllByRecursion IsFrame frames → IsFrame f → AllByRecursion IsFrame (frames ++ f ∷ [])
-snoc [] f all one = (one, tt)
-snoc (g ∷ frames) f all one = (all.0, snoc frames f all.1 one)
-
 -- the text up to the limit
 pub at_limit : (text front : List ℕ) (n : ℕ) → n ≡ min (length text) 67108864 → front ≡ take n text → (front ≡ take MOST_CAPTURE text) × (length front ≤ 67108864)
 at_limit text front n n_is front_is =
-    let len : length front ≡ length (take n text) = ap (λ (t : List ℕ). length t) front_is in
     let same : n ≡ min MOST_CAPTURE (length text) = omega (arith, n_is) in
-    (front_is ∙ ap (λ k. take k text) same ∙ take_min MOST_CAPTURE text, omega (arith, len, n_is, length-take n text))
+    (front_is ∙ ap (λ k. take k text) same ∙ take_min MOST_CAPTURE text, omega (arith, ap length front_is, n_is, length-take n text))
 
 pub at_start : (text rest old : List ℕ) → rest ≡ take MOST_CAPTURE text → SoFar text rest 1 old old
 at_start text rest old rest_is = record { frames = []; are_frames = tt; parts = sym rest_is; number_is = refl; appended = sym (append-nil old) }
@@ -47,16 +42,14 @@ pub one_more : (text rest line after old mid new : List ℕ) (number : ℕ) → 
 one_more text rest line after old mid new number s rest_is w =
     record {
       frames = s.frames ++ w.frame ∷ [];
-      are_frames = snoc s.frames w.frame s.are_frames w.is_frame;
+      are_frames = All-append IsFrame s.frames (w.frame ∷ []) s.are_frames (w.is_frame, tt);
       parts = s.parts ∙ ap (λ t. all_lines s.frames ++ t) rest_is ∙ sym (append_assoc (all_lines s.frames) (ended line) after) ∙ ap (λ t. t ++ after) (more_lines s.frames w.frame line w.line_is);
       number_is = omega (arith, s.number_is, length-append s.frames (w.frame ∷ []));
       appended = more_bytes s.frames w.frame old mid new s.appended w.appended;
     }
 
 pub one_more_counted : (rest line after : List ℕ) → rest ≡ ended line ++ after → length after + 1 ≤ length rest
-one_more_counted rest line after rest_is =
-    let len : length rest ≡ length (ended line ++ after) = ap (λ (t : List ℕ). length t) rest_is in
-    omega (arith, len, length-append (ended line) after, length-append line (10 ∷ []))
+one_more_counted rest line after rest_is = omega (arith, ap length rest_is, length-append (ended line) after, length-append line (10 ∷ []))
 
 -- ---- a wrong line
 
@@ -66,74 +59,51 @@ not_begins text rest line after f rest_is clean is_clean other (inl b) = other (
 not_begins text rest line after f rest_is clean is_clean other (inr b) = has_feed line after (subst HasNoFeed (sym b.1 ∙ rest_is) is_clean)
 
 -- where it has none
-not_last : (text rest : List ℕ) (f : Frame) → HasNoFeed rest → ¬ (rest ≡ line_of f) → ¬ (BeginsWith text rest f)
-not_last text rest f clean other (inl b) = has_feed (line_of f) b.0 (subst HasNoFeed b.1 clean)
-not_last text rest f clean other (inr b) = other b.1
-
--- where it has none, and the text goes on
-not_cut : (text rest : List ℕ) (f : Frame) → HasNoFeed rest → MOST_CAPTURE < length text → ¬ (BeginsWith text rest f)
-not_cut text rest f clean long (inl b) = has_feed (line_of f) b.0 (subst HasNoFeed b.1 clean)
-not_cut text rest f clean long (inr b) = absurd (omega (arith, b.0))
+whole_rest : (text rest : List ℕ) (f : Frame) → HasNoFeed rest → BeginsWith text rest f → (length text ≤ MOST_CAPTURE) × (rest ≡ line_of f)
+whole_rest text rest f clean (inl b) = absurd (has_feed (line_of f) b.0 (subst HasNoFeed b.1 clean))
+whole_rest text rest f clean (inr b) = b
 
 -- no frame's line begins the rest
-first_wrong : (text rest : List ℕ) (number : ℕ) (old new : List ℕ) → (s : SoFar text rest number old new) → length (all_lines s.frames) < length text → ((f : Frame) → IsFrame f → ¬ (BeginsWith text rest f)) → IsLineFault text (faults.Line number)
-first_wrong text rest number old new s there wrong = (s.frames, record { rest = rest; are_frames = s.are_frames; parts = s.parts; number_is = s.number_is; there = there; wrong = wrong })
-
-behind : (text before rest : List ℕ) → take MOST_CAPTURE text ≡ before ++ rest → 0 < length rest → length before < length text
-behind text before rest parts some =
-    let len : length (take MOST_CAPTURE text) ≡ length (before ++ rest) = ap (λ (t : List ℕ). length t) parts in
-    omega (arith, len, length-append before rest, length-take MOST_CAPTURE text)
+first_wrong : (text rest : List ℕ) (number n : ℕ) (old new : List ℕ) → SoFar text rest number old new → n ≡ number → min MOST_CAPTURE (length text) < length text + length rest → ((f : Frame) → IsFrame f → ¬ (BeginsWith text rest f)) → IsLineFault text (faults.Line n)
+first_wrong text rest number n old new s n_is long wrong =
+    let there : length (all_lines s.frames) < length text = omega (arith, ap length s.parts, length-append (all_lines s.frames) rest, length-take MOST_CAPTURE text) in
+    (s.frames, record { rest = rest; are_frames = s.are_frames; parts = s.parts; number_is = s.number_is ∙ sym n_is; there = there; wrong = wrong })
 
 -- a line with its line feed
 pub wrong_line : (text rest line after : List ℕ) (number : ℕ) (old new : List ℕ) (e : LineFault) → SoFar text rest number old new → rest ≡ ended line ++ after → HasNoFeed line → IsFaultOfLine line number e → IsLineFault text e
 wrong_line text rest line after number old new (faults.Line n) s rest_is clean fault =
-    let wrong : (f : Frame) → IsFrame f → ¬ (BeginsWith text rest f) = λ f is begins. not_begins text rest line after f rest_is clean (line_clean f is) (fault.1 f is) begins in
-    let some : 0 < length rest = omega (arith, one_more_counted rest line after rest_is) in
-    subst (λ k. IsLineFault text (faults.Line k)) (sym fault.0) (first_wrong text rest number old new s (behind text (all_lines s.frames) rest s.parts some) wrong)
+    first_wrong text rest number n old new s fault.0 (omega (arith, one_more_counted rest line after rest_is))
+    (λ f is. not_begins text rest line after f rest_is clean (line_clean f is) (fault.1 f is))
 wrong_line text rest line after number old new faults.OutOfMemory s rest_is clean fault = tt
 
 -- bytes behind the last line feed
 pub wrong_last : (text rest : List ℕ) (number : ℕ) (old new : List ℕ) (e : LineFault) → SoFar text rest number old new → 0 < length rest → HasNoFeed rest → IsFaultOfLine rest number e → IsLineFault text e
 wrong_last text rest number old new (faults.Line n) s some clean fault =
-    let wrong : (f : Frame) → IsFrame f → ¬ (BeginsWith text rest f) = λ f is begins. not_last text rest f clean (fault.1 f is) begins in
-    subst (λ k. IsLineFault text (faults.Line k)) (sym fault.0) (first_wrong text rest number old new s (behind text (all_lines s.frames) rest s.parts some) wrong)
+    first_wrong text rest number n old new s fault.0 (omega arith) (λ f is begins. fault.1 f is (whole_rest text rest f clean begins).1)
 wrong_last text rest number old new faults.OutOfMemory s some clean fault = tt
 
 -- the limit
 pub too_long : (text rest : List ℕ) (number : ℕ) (old new : List ℕ) → SoFar text rest number old new → HasNoFeed rest → MOST_CAPTURE < length text → IsLineFault text (faults.Line number)
 too_long text rest number old new s clean long =
-    let len : length (take MOST_CAPTURE text) ≡ length (all_lines s.frames ++ rest) = ap (λ (t : List ℕ). length t) s.parts in
-    let there : length (all_lines s.frames) < length text = omega (arith, len, length-append (all_lines s.frames) rest, length-take MOST_CAPTURE text) in
-    first_wrong text rest number old new s there (λ f is begins. not_cut text rest f clean long begins)
+    first_wrong text rest number number old new s refl (omega arith) (λ f is begins. absurd (omega (arith, (whole_rest text rest f clean begins).0)))
 
 -- ---- a whole text
-
-whole_text : (text : List ℕ) → length text ≤ MOST_CAPTURE → take MOST_CAPTURE text ≡ text
-whole_text text short = take_all MOST_CAPTURE text short
 
 pub all_read : (text rest : List ℕ) (number : ℕ) (old new : List ℕ) → SoFar text rest number old new → length text ≤ MOST_CAPTURE → length rest ≡ 0 → WroteFrames text old new
 all_read text [] number old new s short none =
     record {
       frames = s.frames;
-      is_text = record { short = short; are_frames = s.are_frames; lines = inl (sym (whole_text text short) ∙ s.parts ∙ append-nil (all_lines s.frames)) };
+      is_text = record { short = short; are_frames = s.are_frames; lines = inl (sym (take_all MOST_CAPTURE text short) ∙ s.parts ∙ append-nil (all_lines s.frames)) };
       appended = s.appended;
     }
 all_read text (b ∷ rest) number old new s short none = absurd (omega arith)
 
-last_read : (text rest : List ℕ) (number : ℕ) (old mid new : List ℕ) → SoFar text rest number old mid → length text ≤ MOST_CAPTURE → WroteFrame rest mid new → WroteFrames text old new
+pub last_read : (text rest : List ℕ) (number : ℕ) (old mid new : List ℕ) → SoFar text rest number old mid → length text ≤ MOST_CAPTURE → WroteFrame rest mid new → WroteFrames text old new
 last_read text rest number old mid new s short w =
     let is : ended text ≡ all_lines (s.frames ++ w.frame ∷ []) =
-    ap ended (sym (whole_text text short) ∙ s.parts) ∙ append_assoc (all_lines s.frames) rest (10 ∷ []) ∙ more_lines s.frames w.frame rest w.line_is
+    ap ended (sym (take_all MOST_CAPTURE text short) ∙ s.parts) ∙ append_assoc (all_lines s.frames) rest (10 ∷ []) ∙ more_lines s.frames w.frame rest w.line_is
     in record {
       frames = s.frames ++ w.frame ∷ [];
-      is_text = record { short = short; are_frames = snoc s.frames w.frame s.are_frames w.is_frame; lines = inr is };
+      is_text = record { short = short; are_frames = All-append IsFrame s.frames (w.frame ∷ []) s.are_frames (w.is_frame, tt); lines = inr is };
       appended = more_bytes s.frames w.frame old mid new s.appended w.appended;
     }
-
-pub last_line : {E : Type 0} (text rest : List ℕ) (number : ℕ) (old mid new : List ℕ) (r : Result Unit E) → SoFar text rest number old mid → length text ≤ MOST_CAPTURE → OnOk r (WroteFrame rest mid new) → OnOk r (WroteFrames text old new)
-last_line text rest number old mid new (Ok u) s short w = last_read text rest number old mid new s short w
-last_line text rest number old mid new (Err e) s short w = tt
-
-pub last_fault : (text rest : List ℕ) (number : ℕ) (old new : List ℕ) (r : Result Unit LineFault) → SoFar text rest number old new → 0 < length rest → HasNoFeed rest → IfErr r (IsFaultOfLine rest number) → IfErr r (IsLineFault text)
-last_fault text rest number old new (Ok u) s some clean fault = tt
-last_fault text rest number old new (Err e) s some clean fault = wrong_last text rest number old new e s some clean fault

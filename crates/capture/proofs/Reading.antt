@@ -1,20 +1,16 @@
 -- How far a capture was read, and the lines that were written.
 use Rattle.std.proofs.Common.{◌≡◌, ℕ, ◌+◌, ◌<◌, ◌≤◌, List, [], ◌∷◌, ◌++◌, length, take, drop, Some, inl, inr, refl, sym, ap, subst, ◌∙◌, arith}
+use Rattle.std.proofs.lemmas.Grind.{common_steps}
 use Rattle.std.proofs.lemmas.List.{append-nil, flat_map_more, length-drop, length-take, take_all}
 use Rattle.rs_frame.specs.declared.frame.Frame.{Frame}
 use Rattle.rs_frame.specs.declared.fault.FrameFault.{FrameFault}
-use Rattle.rs_frame.specs.declared.fault.FrameFault.TheVariants as faults
 use Rattle.rs_frame.specs.Rules.{IsLeastBroken, broken, number_of_rule}
 use Rattle.rs_frame.specs.Spelling.{Spells}
 use Rattle.rs_chunk.specs.Stream.{HasFrame, IsCut, after_frame, first_frame, first_length}
 use Rattle.frame_text.specs.Lines.{line_of}
 use Rattle.plain_text.specs.Lines.{ended}
 use Rattle.capture.specs.declared.TheConstants.{MOST_CAPTURE}
-use Rattle.capture.specs.Captured.{AreSpelled, Holds, IsBadAt, IsCapture, IsWrong, WroteLines, all_lines}
-
-spelled_nil : AreSpelled [] []
-unfolding AreSpelled
-spelled_nil = tt
+use Rattle.capture.specs.Captured.{AreSpelled, Holds, IsBadAt, IsWrong, WroteLines, all_lines}
 
 spelled_snoc : (fs : List Frame) (bs : List (List ℕ)) (f : Frame) (b : List ℕ) → AreSpelled fs bs → Spells f b → AreSpelled (fs ++ f ∷ []) (bs ++ b ∷ [])
 unfolding AreSpelled
@@ -24,10 +20,11 @@ spelled_snoc [] (c ∷ bs) f b all one = absurd all
 spelled_snoc (g ∷ fs) [] f b all one = absurd all
 
 pub at_start : (bytes old : List ℕ) → WroteLines bytes bytes old old
+unfolding AreSpelled
 at_start bytes old =
     record {
       frames = [];
-      holds = record { spellings = []; spelled = spelled_nil; cut = record { whole = refl; fit = tt } };
+      holds = record { spellings = []; spelled = tt; cut = record { whole = refl; fit = tt } };
       lines = sym (append-nil old);
     }
 
@@ -45,16 +42,7 @@ one_more all old out new rest frame after f w passes spells wrote =
     }
 
 least : (fault : FrameFault) (bytes : List ℕ) (rule : ℕ) → IsLeastBroken fault bytes → number_of_rule fault ≡ Some rule → broken bytes ≡ Some fault
-least faults.OutOfMemory bytes rule is number = absurd cc
-least faults.ShortHeader bytes rule is number = is
-least faults.LeadingBit bytes rule is number = is
-least faults.WrongStream bytes rule is number = is
-least faults.ShortBody bytes rule is number = is
-least faults.LongBody bytes rule is number = is
-least faults.ZeroNumber bytes rule is number = is
-least faults.NameLength bytes rule is number = is
-least faults.MetadataLength bytes rule is number = is
-least faults.HighBit bytes rule is number = is
+least fault bytes rule is number = grind (arith, common_steps)
 
 -- the frame at the front breaks a rule
 pub breaks : (bytes frame : List ℕ) (fault : FrameFault) (rule : ℕ) → HasFrame bytes → frame ≡ first_frame bytes → IsLeastBroken fault frame → number_of_rule fault ≡ Some rule → IsWrong bytes rule
@@ -88,10 +76,6 @@ within bytes place rule before bad =
       there = omega (arith, bad.there, length-take MOST_CAPTURE bytes);
       wrong = bad.wrong;
     }
-
-pub whole : (bytes old new : List ℕ) → length bytes ≤ MOST_CAPTURE → WroteLines (take MOST_CAPTURE bytes) [] old new → (frames : List Frame) × IsCapture bytes frames × (new ≡ old ++ all_lines frames)
-whole bytes old new short w =
-    (w.frames, record { short = short; holds = subst (λ (t : List ℕ). Holds t w.frames []) (take_all MOST_CAPTURE bytes short) w.holds }, w.lines)
 
 -- the bytes pass the limit behind a frame
 pub passes_limit : (bytes old new : List ℕ) (place rule : ℕ) → MOST_CAPTURE < length bytes → place ≡ MOST_CAPTURE → rule ≡ 0 → WroteLines (take MOST_CAPTURE bytes) [] old new → (before : List Frame) × IsBadAt bytes place rule before × (new ≡ old ++ all_lines before)

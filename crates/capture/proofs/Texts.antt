@@ -1,7 +1,8 @@
 -- A text is that of one list of frames, or has one first wrong line.
-use Rattle.std.proofs.Common.{◌≡◌, ℕ, ◌<◌, ◌≤◌, ◌⊎◌, List, [], ◌∷◌, ◌++◌, length, refl, sym, ap, ◌∙◌, inl, inr, append_assoc, arith}
+use Rattle.std.proofs.Common.{◌≡◌, ℕ, ◌<◌, ◌≤◌, ◌⊎◌, List, [], ◌∷◌, ◌++◌, length, refl, sym, ap, ap₂, ◌≢◌, ◌∙◌, inl, inr, ⊎_elim, append_assoc, arith}
 use Rattle.std.specs.List.{AllByRecursion}
-use Rattle.std.proofs.lemmas.List.{append-nil, length-append, take_all}
+use Rattle.std.proofs.lemmas.Grind.{common_steps}
+use Rattle.std.proofs.lemmas.List.{append-nil, length-append, nil_from_length, take_all}
 use Rattle.rs_frame.specs.declared.frame.Frame.{Frame}
 use Rattle.frame_text.specs.Lines.{line_of}
 use Rattle.frame_text.specs.Reading.{other_row, named_row, words_of}
@@ -13,7 +14,6 @@ use Rattle.capture.specs.Captured.{all_lines}
 use Rattle.capture.specs.Text.{BeginsWith, IsFrame, IsTextOf, IsWrongLine}
 use Rattle.capture.proofs.CleanLines.{line_clean}
 use Rattle.plain_text.proofs.Feeds.{one_cut}
-use Rattle.capture.proofs.Wrong.{not_ok}
 
 pub lines : (frames : List Frame) → AllByRecursion IsFrame frames → length (all_lines frames) ≤ MOST_CAPTURE → IsTextOf (all_lines frames) frames
 lines frames are short = record { short = short; are_frames = are; lines = inl refl }
@@ -47,122 +47,61 @@ aligned (f ∷ fs) (g ∷ gs) r s are_fs are_gs same =
 
 empty_line : (f : Frame) → IsFrame f → ¬ (line_of f ≡ [])
 unfolding named_row other_row
-empty_line f is none = not_ok _ (words_of []) refl (ap words_of (sym none) ∙ line_reads f is.0.fields is.1)
-
-some : (w : List ℕ) → ¬ (w ≡ []) → 0 < length w
-some [] h = absurd (h refl)
-some (b ∷ w) h = omega arith
+empty_line f is none = absurd (cc (ap words_of none, line_reads f is.0.fields is.1))
 
 long : (bytes : List ℕ) → Begins bytes → 1 < length bytes
 long bytes b =
-    let len : length bytes ≡ length (ended (line_of b.frame) ++ b.after) = ap (λ (t : List ℕ). length t) b.parts in
-    omega (arith, len, length-append (ended (line_of b.frame)) b.after, length-append (line_of b.frame) (10 ∷ []), some (line_of b.frame) (empty_line b.frame b.is_frame))
-
-nothing : ¬ (Begins [])
-nothing b = let l : 1 < 0 = long [] b in absurd (omega arith)
-
-feed_alone : ¬ (Begins (10 ∷ []))
-feed_alone b = let l : 1 < 1 = long (10 ∷ []) b in absurd (omega arith)
-
-no_end : (line : List ℕ) → ¬ (ended line ≡ [])
-no_end line e = let len : length (ended line) ≡ 0 = ap (λ (t : List ℕ). length t) e in absurd (omega (arith, len, length-append line (10 ∷ [])))
+    let some : length (line_of b.frame) ≢ 0 = λ none. empty_line b.frame b.is_frame (nil_from_length (line_of b.frame) none) in
+    omega (arith, ap length b.parts, length-append (ended (line_of b.frame)) b.after, length-append (line_of b.frame) (10 ∷ []))
 
 -- ---- one list of frames
 
-the_same : (fs gs : List Frame) → Aligned fs gs [] [] → fs ≡ gs
-the_same fs gs (inl both) = both.0
-the_same fs gs (inr (inl b)) = absurd (nothing b)
-the_same fs gs (inr (inr b)) = absurd (nothing b)
-
 same_lines : (fs gs : List Frame) → AllByRecursion IsFrame fs → AllByRecursion IsFrame gs → all_lines fs ≡ all_lines gs → fs ≡ gs
-same_lines fs gs are_fs are_gs same = the_same fs gs (aligned fs gs [] [] are_fs are_gs (ap (λ t. t ++ []) same))
-
-not_aligned : (fs gs : List Frame) → ¬ (Aligned fs gs (10 ∷ []) [])
-not_aligned fs gs (inl both) = no_end [] both.1
-not_aligned fs gs (inr (inl b)) = feed_alone b
-not_aligned fs gs (inr (inr b)) = nothing b
+same_lines fs gs are_fs are_gs same = grind (arith, long [], aligned fs gs [] [] are_fs are_gs (ap (λ t. t ++ []) same))
 
 not_ended : (fs gs : List Frame) → AllByRecursion IsFrame fs → AllByRecursion IsFrame gs → ¬ (ended (all_lines fs) ≡ all_lines gs)
-not_ended fs gs are_fs are_gs same = not_aligned fs gs (aligned fs gs (10 ∷ []) [] are_fs are_gs (same ∙ sym (append-nil (all_lines gs))))
-
-abbrev HasLines : List ℕ → List Frame → Type 0
-HasLines text fs = (text ≡ all_lines fs) ⊎ (ended text ≡ all_lines fs)
-
-one_by : (text : List ℕ) (fs gs : List Frame) → AllByRecursion IsFrame fs → AllByRecursion IsFrame gs → HasLines text fs → HasLines text gs → fs ≡ gs
-one_by text fs gs are_fs are_gs (inl p) (inl q) = same_lines fs gs are_fs are_gs (sym p ∙ q)
-one_by text fs gs are_fs are_gs (inr p) (inr q) = same_lines fs gs are_fs are_gs (sym p ∙ q)
-one_by text fs gs are_fs are_gs (inl p) (inr q) = absurd (not_ended fs gs are_fs are_gs (ap ended (sym p) ∙ q))
-one_by text fs gs are_fs are_gs (inr p) (inl q) = absurd (not_ended gs fs are_gs are_fs (ap ended (sym q) ∙ p))
+not_ended fs gs are_fs are_gs same = grind (arith, long [], long (10 ∷ []), aligned fs gs (10 ∷ []) [] are_fs are_gs (same ∙ sym (append-nil (all_lines gs))))
 
 pub one_text : (text : List ℕ) (fs gs : List Frame) → IsTextOf text fs → IsTextOf text gs → fs ≡ gs
-one_text text fs gs a b = one_by text fs gs a.are_frames b.are_frames a.lines b.lines
+one_text text fs gs a b =
+    grind (arith, a.lines, b.lines, same_lines fs gs a.are_frames b.are_frames, not_ended fs gs a.are_frames b.are_frames, not_ended gs fs b.are_frames a.are_frames)
 
 -- ---- no wrong line
-
-cons_is : (a b : ℕ) (v w : List ℕ) → a ≡ b → v ≡ w → (a ∷ v) ≡ (b ∷ w)
-cons_is a b v w p q = cc
-
-some_ended : (line after : List ℕ) → ¬ (ended line ++ after ≡ [])
-some_ended line after e =
-    let len : length (ended line ++ after) ≡ 0 = ap (λ (t : List ℕ). length t) e in
-    absurd (omega (arith, len, length-append (ended line) after, length-append line (10 ∷ [])))
 
 abbrev IsCutAt : List ℕ → List ℕ → Type 0
 IsCutAt rest line = ((x : List ℕ) × (rest ≡ ended line ++ x)) ⊎ (rest ≡ line)
 
-longer : (a b : ℕ) (rest line : List ℕ) → a ≡ b → IsCutAt rest line → IsCutAt (a ∷ rest) (b ∷ line)
-longer a b rest line first (inl c) = inl (c.0, cons_is a b rest (ended line ++ c.0) first c.1)
-longer a b rest line first (inr e) = inr (cons_is a b rest line first e)
-
 -- where bytes with a line feed behind them begin with a line, so do the bytes, but for the line feed
 last_cut : (rest line after : List ℕ) → ended rest ≡ ended line ++ after → IsCutAt rest line
 last_cut [] [] after e = inr refl
-last_cut [] (b ∷ line) after e = let tails : [] ≡ ended line ++ after = cc in absurd (some_ended line after (sym tails))
-last_cut (a ∷ rest) [] after e = let first : a ≡ 10 = cc in inl (rest, cons_is a 10 rest rest first refl)
+last_cut [] (b ∷ line) after e = absurd (grind (arith, common_steps, ap length e))
+last_cut (a ∷ rest) [] after e = let first : a ≡ 10 = cc in inl (rest, ap (λ x. x ∷ rest) first)
 last_cut (a ∷ rest) (b ∷ line) after e =
     let first : a ≡ b = cc in
     let tails : ended rest ≡ ended line ++ after = cc in
-    longer a b rest line first (last_cut rest line after tails)
+    ⊎_elim (λ c. inl (c.0, ap₂ (λ x xs. x ∷ xs) first c.1)) (λ is. inr (ap₂ (λ x xs. x ∷ xs) first is)) (last_cut rest line after tails)
 
-with_limit : (text rest : List ℕ) (f : Frame) → length text ≤ MOST_CAPTURE → IsCutAt rest (line_of f) → BeginsWith text rest f
-with_limit text rest f short (inl c) = inl c
-with_limit text rest f short (inr e) = inr (short, e)
-
--- the line that is wrong is that of a frame
-begins : (text rest : List ℕ) → length text ≤ MOST_CAPTURE → (b : Begins (ended rest)) → BeginsWith text rest b.frame
-begins text rest short b = with_limit text rest b.frame short (last_cut rest (line_of b.frame) b.after b.parts)
-
-not_whole : (text : List ℕ) (fs before : List Frame) (rest : List ℕ) → length (all_lines before) < length text → text ≡ all_lines before ++ rest → ((f : Frame) → IsFrame f → ¬ (BeginsWith text rest f)) → ¬ (Aligned before fs rest [])
-not_whole text fs before rest there parts wrong (inl both) =
-    let len : length text ≡ length (all_lines before ++ rest) = ap (λ (t : List ℕ). length t) parts in
-    let none : length rest ≡ 0 = ap (λ (t : List ℕ). length t) both.1 in
-    absurd (omega (arith, len, none, length-append (all_lines before) rest))
-not_whole text fs before rest there parts wrong (inr (inl b)) = wrong b.frame b.is_frame (inl (b.after, b.parts))
-not_whole text fs before rest there parts wrong (inr (inr b)) = nothing b
-
-not_last : (text : List ℕ) (fs before : List Frame) (rest : List ℕ) → length text ≤ MOST_CAPTURE → ((f : Frame) → IsFrame f → ¬ (BeginsWith text rest f)) → ¬ (Aligned before fs (ended rest) [])
-not_last text fs before rest short wrong (inl both) = no_end rest both.1
-not_last text fs before rest short wrong (inr (inl b)) = wrong b.frame b.is_frame (begins text rest short b)
-not_last text fs before rest short wrong (inr (inr b)) = nothing b
-
-not_wrong : (text : List ℕ) (fs before : List Frame) (number : ℕ) → length text ≤ MOST_CAPTURE → AllByRecursion IsFrame fs → HasLines text fs → ¬ (IsWrongLine text number before)
-not_wrong text fs before number short are (inl p) w =
+-- the text with these bytes behind it is no lines of frames, where the first frame that begins what is left begins the wrong line
+stops : (text tail : List ℕ) (fs before : List Frame) (number : ℕ) → length text ≤ MOST_CAPTURE → AllByRecursion IsFrame fs → (w : IsWrongLine text number before)
+    → ((b : Begins (w.rest ++ tail)) → BeginsWith text w.rest b.frame) → text ++ tail ≡ all_lines fs → ⊥
+stops text tail fs before number short are w begins same =
     let parts : text ≡ all_lines before ++ w.rest = sym (take_all MOST_CAPTURE text short) ∙ w.parts in
-    not_whole text fs before w.rest w.there parts w.wrong (aligned before fs w.rest [] w.are_frames are (sym parts ∙ p ∙ sym (append-nil (all_lines fs))))
-not_wrong text fs before number short are (inr p) w =
-    let parts : text ≡ all_lines before ++ w.rest = sym (take_all MOST_CAPTURE text short) ∙ w.parts in
-    let same : all_lines before ++ ended w.rest ≡ all_lines fs ++ [] = sym (append_assoc (all_lines before) w.rest (10 ∷ [])) ∙ ap ended (sym parts) ∙ p ∙ sym (append-nil (all_lines fs)) in
-    not_last text fs before w.rest short w.wrong (aligned before fs (ended w.rest) [] w.are_frames are same)
+    let whole = sym (append_assoc (all_lines before) w.rest tail) ∙ ap (λ t. t ++ tail) (sym parts) ∙ same ∙ sym (append-nil (all_lines fs)) in
+    ⊎_elim
+    (λ both. absurd (omega (arith, w.there, ap length parts, ap length both.1, length-append (all_lines before) w.rest, length-append w.rest tail)))
+    (⊎_elim (λ b. w.wrong b.frame b.is_frame (begins b)) (λ b. absurd (omega (arith, long [] b))))
+    (aligned before fs (w.rest ++ tail) [] w.are_frames are whole)
 
 pub either_text : (text : List ℕ) (fs : List Frame) (number : ℕ) (before : List Frame) → IsTextOf text fs → ¬ (IsWrongLine text number before)
-either_text text fs number before t w = not_wrong text fs before number t.short t.are_frames t.lines w
+either_text text fs number before t w = ⊎_elim
+    (λ is. stops text [] fs before number t.short t.are_frames w (λ b. inl (b.after, sym (append-nil w.rest) ∙ b.parts)) (append-nil text ∙ is))
+    (stops text (10 ∷ []) fs before number t.short t.are_frames w (λ b. ⊎_elim (λ c. inl c) (λ is. inr (t.short, is)) (last_cut w.rest (line_of b.frame) b.after b.parts)))
+    t.lines
 
 -- ---- one wrong line
 
 one_wrong : (text : List ℕ) (p q : ℕ) (fs gs : List Frame) → (a : IsWrongLine text p fs) → (b : IsWrongLine text q gs) → Aligned fs gs a.rest b.rest → (p ≡ q) × (fs ≡ gs)
-one_wrong text p q fs gs a b (inl both) =
-    let len : length fs ≡ length gs = ap (λ (t : List Frame). length t) both.0 in
-    (omega (arith, a.number_is, b.number_is, len), both.0)
+one_wrong text p q fs gs a b (inl both) = (omega (arith, a.number_is, b.number_is, ap length both.0), both.0)
 one_wrong text p q fs gs a b (inr (inl n)) = absurd (a.wrong n.frame n.is_frame (inl (n.after, n.parts)))
 one_wrong text p q fs gs a b (inr (inr n)) = absurd (b.wrong n.frame n.is_frame (inl (n.after, n.parts)))
 

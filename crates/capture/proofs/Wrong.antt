@@ -1,5 +1,5 @@
 -- A line that is not read is that of no frame.
-use Rattle.std.proofs.Common.{◌≡◌, ℕ, List, Result, Ok, Err, refl, sym, ap, ◌∙◌, arith}
+use Rattle.std.proofs.Common.{◌≡◌, ℕ, List, Ok, Err, refl, sym, ap, ◌∙◌, arith}
 use Rattle.rs_frame.specs.declared.frame.Frame.{Frame}
 use Rattle.rs_frame.specs.Spelling.{length_of}
 use Rattle.frame_text.specs.declared.fault.TextFault.{TextFault}
@@ -14,9 +14,6 @@ use Rattle.capture.specs.Text.{IsFaultOfLine, IsFrame, line_fault}
 bad_word : (line : List ℕ) (f : Frame) → ¬ (words_of line ≡ Ok tt) → IsFrame f → ¬ (line ≡ line_of f)
 bad_word line f wrong is same = wrong (ap words_of same ∙ line_reads f is.0.fields is.1)
 
-pub not_ok : {E : Type 0} (e : E) (r : Result Unit E) → r ≡ Err e → ¬ (r ≡ Ok tt)
-not_ok e r wrong right = cc
-
 -- the line of a frame that is too long
 too_long : (line : List ℕ) (n : ℕ) (f : Frame) → IsRightLine line (texts.TooLong n) → IsFrame f → ¬ (line ≡ line_of f)
 too_long line n f r is same =
@@ -25,8 +22,8 @@ too_long line n f r is same =
     absurd (omega (arith, len, r.fault_is.0, r.fault_is.1, is.0.short))
 
 pub not_read : (line : List ℕ) (number : ℕ) (fault : TextFault) → Tells line (Err fault) → IsFaultOfLine line number (line_fault fault number)
-not_read line number (texts.BadWord place) told = (refl, λ f is. bad_word line f (not_ok _ _ told) is)
-not_read line number (texts.BadNumber place) told = (refl, λ f is. bad_word line f (not_ok _ _ told) is)
-not_read line number (texts.BadHex place) told = (refl, λ f is. bad_word line f (not_ok _ _ told) is)
+not_read line number (texts.BadWord place) told = (refl, λ f. bad_word line f (λ right. absurd cc))
+not_read line number (texts.BadNumber place) told = (refl, λ f. bad_word line f (λ right. absurd cc))
+not_read line number (texts.BadHex place) told = (refl, λ f. bad_word line f (λ right. absurd cc))
 not_read line number (texts.TooLong n) told = (refl, λ f is. too_long line n f told is)
 not_read line number texts.OutOfMemory told = tt

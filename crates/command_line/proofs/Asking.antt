@@ -1,5 +1,5 @@
 -- The words that ask for each task.
-use Rattle.std.proofs.Common.{◌≡◌, ◌∙◌, ◌↔◌, ◌++◌, Bool, true, false, List, [], ◌∷◌, Option, Some, sym, ap, drop, subst, refl, inl, inr}
+use Rattle.std.proofs.Common.{◌≡◌, ◌∙◌, ◌↔◌, ◌++◌, Bool, true, false, true≢false, List, [], ◌∷◌, Option, Some, sym, ap, drop, subst, refl, inl, inr}
 use Rattle.std.specs.Prelude.{codes, slice_get}
 use Rattle.std.specs.Option.{option_map_or}
 use Rattle.std.specs.Str.{IsUtf8, bytes_eq, is_utf8}
@@ -11,17 +11,15 @@ use Rattle.clap.specs.Walk.{Text}
 use Rattle.clap.proofs.OnLiterals.{clap_on_literals}
 use Rattle.command_line.specs.declared.task.Task.{Task}
 use Rattle.command_line.specs.declared.task.Task.TheVariants.{Cable, Frames}
-use Rattle.command_line.specs.Words.{AreJust, Asks}
+use Rattle.clap.specs.Words.{App, fault_of}
+use Rattle.command_line.specs.Words.{AreJust, Asks, Takes, cable_app, frames_app}
 use Rattle.command_line.proofs.OneWord.{IsEnd}
 use Rattle.command_line.proofs.Closed.{back_reads, cable_words, forth_reads, frames_words}
 
 -- the first word, and then the others
-first_and_rest : (words : List Text) (first : Text) → slice_get words 0 ≡ Some first → words ≡ first ∷ drop 1 words
-first_and_rest [] first e = cc
-first_and_rest (word ∷ rest) first e = let same : word ≡ first = cc in ap (λ w. w ∷ rest) same
-
 named : (words rest : List Text) (first : Text) → slice_get words 0 ≡ Some first → drop 1 words ≡ rest → words ≡ first ∷ rest
-named words rest first is e = first_and_rest words first is ∙ ap (λ ws. first ∷ ws) e
+named [] rest first is e = cc
+named (word ∷ words) rest first is e = cc
 
 pub one : (words : List Text) (a b : Task) → Asks words a → Asks words b → a ≡ b
 one words Cable Cable p q = refl
@@ -37,29 +35,8 @@ are_texts (word ∷ rest) e =
     let each = both _ _ e in
     All-cons IsUtf8 word rest (IsUtf8-from_is_utf8 word each.0) (are_texts rest each.1)
 
-cable_asks : Asks (codes "cable" ∷ []) Cable
-unfolding clap_on_literals is_utf8
-cable_asks = record { named = refl; texts = are_texts (codes "cable" ∷ []) refl; taken = refl }
-
-cable_asks_to_end : Asks (codes "cable" ∷ codes "--" ∷ []) Cable
-unfolding clap_on_literals is_utf8
-cable_asks_to_end = record { named = refl; texts = are_texts (codes "cable" ∷ codes "--" ∷ []) refl; taken = refl }
-
-frames_asks : Asks (codes "frames" ∷ []) (Frames false)
-unfolding clap_on_literals is_utf8
-frames_asks = (record { named = refl; texts = are_texts (codes "frames" ∷ []) refl; taken = refl }, refl)
-
-frames_asks_to_end : Asks (codes "frames" ∷ codes "--" ∷ []) (Frames false)
-unfolding clap_on_literals is_utf8
-frames_asks_to_end = (record { named = refl; texts = are_texts (codes "frames" ∷ codes "--" ∷ []) refl; taken = refl }, refl)
-
-back_asks : Asks (codes "frames" ∷ codes "--back" ∷ []) (Frames true)
-unfolding clap_on_literals is_utf8
-back_asks = (record { named = refl; texts = are_texts (codes "frames" ∷ codes "--back" ∷ []) refl; taken = refl }, refl)
-
-back_asks_to_end : Asks (codes "frames" ∷ codes "--back" ∷ codes "--" ∷ []) (Frames true)
-unfolding clap_on_literals is_utf8
-back_asks_to_end = (record { named = refl; texts = are_texts (codes "frames" ∷ codes "--back" ∷ codes "--" ∷ []) refl; taken = refl }, refl)
+takes : (app : App) (words : List Text) → slice_get words 0 ≡ Some app.top.name → list_all is_utf8 words ≡ true → fault_of app words ≡ [] → Takes app words
+takes app words is texts taken = record { named = is; texts = are_texts words texts; taken = taken }
 
 just_asks : (task : Task) (words these : List Text) → Asks these task → Asks (these ++ codes "--" ∷ []) task → AreJust words these → Asks words task
 just_asks task words these asks to_end (inl is) = subst (λ ws. Asks ws task) (sym is) asks
@@ -79,31 +56,31 @@ just_second words rest first second is next (inr end) = inr (named words (second
 abbrev set_by : Option Text → Bool
 set_by text = option_map_or (bytes_eq (codes "true")) text false
 
-not_both : (value : Bool) → value ≡ true → value ≡ false → ⊥
-not_both value on off = cc
-
 -- ---- task by task
 
 pub cable_row : (words : List Text) → Asks words Cable ↔ AreJust words (codes "cable" ∷ [])
+unfolding clap_on_literals is_utf8
 cable_row words = (
   λ asks. just_first words (codes "cable") asks.named (cable_words words asks.taken),
-  just_asks Cable words (codes "cable" ∷ []) cable_asks cable_asks_to_end,
+  just_asks Cable words (codes "cable" ∷ []) (takes cable_app _ refl refl refl) (takes cable_app _ refl refl refl),
 )
 
 pub frames_row : (words : List Text) → Asks words (Frames false) ↔ AreJust words (codes "frames" ∷ [])
+unfolding clap_on_literals is_utf8
 frames_row words = (
   λ asks. elim (frames_words words asks.0.taken) [
     | inl end ↦ just_first words (codes "frames") asks.0.named end
-    | inr back ↦ absurd (not_both _ (ap set_by (back_reads (drop 1 words) back.0 back.1 back.2)) asks.1)
+    | inr back ↦ absurd (true≢false (sym (ap set_by (back_reads (drop 1 words) back.0 back.1 back.2)) ∙ asks.1))
   ],
-  just_asks (Frames false) words (codes "frames" ∷ []) frames_asks frames_asks_to_end,
+  just_asks (Frames false) words (codes "frames" ∷ []) (takes frames_app _ refl refl refl, refl) (takes frames_app _ refl refl refl, refl),
 )
 
 pub frames_back_row : (words : List Text) → Asks words (Frames true) ↔ AreJust words (codes "frames" ∷ codes "--back" ∷ [])
+unfolding clap_on_literals is_utf8
 frames_back_row words = (
   λ asks. elim (frames_words words asks.0.taken) [
-    | inl end ↦ absurd (not_both _ asks.1 (ap set_by (forth_reads (drop 1 words) end)))
+    | inl end ↦ absurd (true≢false (sym asks.1 ∙ ap set_by (forth_reads (drop 1 words) end)))
     | inr back ↦ just_second words back.0 (codes "frames") (codes "--back") asks.0.named back.1 back.2
   ],
-  just_asks (Frames true) words (codes "frames" ∷ codes "--back" ∷ []) back_asks back_asks_to_end,
+  just_asks (Frames true) words (codes "frames" ∷ codes "--back" ∷ []) (takes frames_app _ refl refl refl, refl) (takes frames_app _ refl refl refl, refl),
 )

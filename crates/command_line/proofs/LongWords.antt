@@ -1,37 +1,22 @@
 -- The words that are a long flag with no value.
-use Rattle.std.proofs.Common.{◌≡◌, ◌∙◌, ◌==◌, ◌+◌, ◌||◌, ℕ, Bool, suc, true, false, cond, [], ◌∷◌, Option, Some, None, take, sym, ap, refl, arith}
+use Rattle.std.proofs.Common.{◌≡◌, ◌∙◌, ◌==◌, ◌+◌, ◌||◌, ℕ, Bool, suc, true, false, [], ◌∷◌, Option, Some, None, take, ap, refl, arith}
 use Rattle.std.specs.Prelude.{option_and_then}
-use Rattle.std.specs.List.{after_first, before_first, list_any}
+use Rattle.std.specs.List.{before_first, list_any}
 use Rattle.std.proofs.lemmas.Bool.Decides.{nat_tests}
+use Rattle.std.proofs.lemmas.List.Folds.{list_any_at}
 use Rattle.clap.specs.Lexer.{has_byte, long_of, long_of_rest, name_and_value, strip_byte}
 use Rattle.clap.specs.Walk.{Text}
+use Rattle.clap.proofs.CutLemmas.{before_first-Lacks}
 
 byte_stripped : (c : ℕ) (text rest : Text) → strip_byte c text ≡ Some rest → text ≡ c ∷ rest
 byte_stripped c [] rest e = cc
-byte_stripped c (x ∷ xs) rest e = go (x == c) refl e
-  where
-    go : (t : Bool) → (x == c) ≡ t → cond t (Some xs) None ≡ Some rest → x ∷ xs ≡ c ∷ rest
-    go true is f = let same : x ≡ c = grind (arith, nat_tests) in cc
-    go false is f = cc
-
-one_more : (n : ℕ) → 1 + n ≡ suc n
-one_more n = omega arith
+byte_stripped c (x ∷ xs) rest e = grind (arith, nat_tests)
 
 all_before : (text : Text) → has_byte 61 text ≡ false → before_first (λ x. x == 61) text ≡ text
-all_before [] e = refl
-all_before (x ∷ xs) e = go (x == 61) refl e (all_before xs)
-  where
-    go : (t : Bool) → (x == 61) ≡ t → (t || list_any (λ y. y == 61) xs) ≡ false
-        → (has_byte 61 xs ≡ false → before_first (λ y. y == 61) xs ≡ xs) → before_first (λ y. y == 61) (x ∷ xs) ≡ x ∷ xs
-    go true is f rest = cc
-    go false is f rest = rw is (ap (λ n. take n (x ∷ xs)) (one_more _) ∙ ap (λ t. x ∷ t) (rest f))
+all_before text e = before_first-Lacks 61 text (λ i lt is. absurd (grind (arith, nat_tests, list_any_at (λ x. x == 61) text i 0 lt)))
 
 no_value : (text name : Text) → name_and_value text ≡ (name, None) → text ≡ name
-no_value text name e = go (has_byte 61 text) refl (ap (λ p. p.1) e)
-  where
-    go : (t : Bool) → has_byte 61 text ≡ t → cond t (Some (after_first (λ x. x == 61) text)) None ≡ None → text ≡ name
-    go true is f = cc
-    go false is f = sym (all_before text is) ∙ ap (λ p. p.0) e
+no_value text name e = grind (arith, all_before text, ap (λ p. p.0) e, ap (λ p. p.1) e)
 
 -- a word that reads as a flag with no value is two hyphens and its name
 pub flag_word : (word name : Text) → long_of word ≡ Some (name, None) → word ≡ 45 ∷ 45 ∷ name

@@ -1,5 +1,5 @@
 -- What clap makes of one more word of a command that has no positional and no short flag, and of which nothing waits.
-use Rattle.std.proofs.Common.{◌≡◌, ◌⊎◌, ℕ, Bool, zero, suc, true, false, cond, List, [], ◌∷◌, Option, Some, None, length, ap₂, subst, refl, inl, inr}
+use Rattle.std.proofs.Common.{◌≡◌, ◌⊎◌, ℕ, arith, Bool, zero, suc, true, false, cond, List, [], ◌∷◌, Option, Some, None, length, ap₂, subst, refl, inl, inr}
 use Rattle.std.specs.Prelude.{codes, slice_get}
 use Rattle.std.specs.Option.{option_map_or}
 use Rattle.std.specs.Str.{bytes_eq, chars}
@@ -44,8 +44,7 @@ module _ (s : Shape) (bare : IsBare s) where
   stray h e = let refused : step_fault s 1 h value ≡ kind.UnknownArgument ∷ [] = rw (bare.no_positional 1, bare.is_leaf) refl in cc
 
   short_refused : (found : Option Rule) (rest : Text) (h : Held) (next : Held → Kinds) → found ≡ None → short_fault s.rules s.args_override_self found rest h next ≡ [] → ⊥
-  short_refused None rest h next none e = cc
-  short_refused (Some a) rest h next none e = cc
+  short_refused found rest h next none e = grind arith
 
   -- the flags of a bundle
   bundle_refused : (k : ℕ) (word flags : Text) (rows : List Row)

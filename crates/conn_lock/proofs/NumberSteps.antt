@@ -1,49 +1,35 @@
 -- The steps on numbers and parts keep the rule.
-use Rattle.std.proofs.Common.{◌≡◌, ◌≢◌, ℕ, ◌+◌, ◌-◌, ◌<◌, List, [], ◌∷◌, length, set, Bool, true, false, true≢false, refl, sym, ap, ◌∙◌, subst, inl, inr, ⊎_elim, arith, eqb, append-nil, lt_of_not-le, cond, nat_lt}
+use Rattle.std.proofs.Common.{◌≡◌, ◌≢◌, ℕ, ◌+◌, ◌-◌, ◌<◌, List, [], ◌∷◌, length, set, Bool, true, false, true≢false, refl, sym, ap, ◌∙◌, subst, inl, inr, ⊎_elim, arith, eqb, append-nil, cond, nat_lt}
 use Rattle.std.specs.Prelude.{slice_index}
 use mathlib.Core.List.{IsPrefix}
-use mathlib.Core.Option.{Option, none, some}
-use mathlib.Core.Logic.{dite}
-use native.Mathlib.Decide.{ℕ_discrete, dec_le}
+use mathlib.Core.Option.{none, some}
 use prog.Atomic.{either}
 use lib.ListN.{get_elem?}
 use Rattle.std.proofs.lemmas.Bool.Decides.{nat_tests}
-use Rattle.atomic_table.specs.Table.{State, Me, keeps, Allows, Splits, Joins, step}
+use Rattle.atomic_table.specs.Table.{Me, keeps, Allows, Splits, Joins, step}
 use Rattle.atomic_table.proofs.Lists.{at_set, at_snoc, at_longer, exchanged}
 use Rattle.conn_lock.specs.declared.view.View.{View}
-use Rattle.conn_lock.specs.Callers.{once, times, calls, share, most_numbers}
-use Rattle.conn_lock.specs.Rule.{below, IsSound, Kept, counted, named, told, left, right, both, spent}
-use Rattle.conn_lock.proofs.Totals.{total_set, total_at, total_snoc, once_other, below_out, below_most, below_more, times_append, calls_prefix, begins_longer}
-use Rattle.conn_lock.proofs.Changes.{moved, stays, kept_place, refreshed, Goes}
+use Rattle.conn_lock.specs.Callers.{times, calls, share, most_numbers}
+use Rattle.conn_lock.specs.Rule.{IsSound, Kept, counted, named, told, left, right, both, spent}
+use Rattle.conn_lock.proofs.Totals.{total_split, total_two, total_at, times_append, calls_prefix, begins_longer}
+use Rattle.conn_lock.proofs.Changes.{moved, sound_set, stays, kept_place, refreshed, Goes}
 
 module _ {S E : Type 0} (list_of : S → List E) (IsThere : S → Type 0) (number : E → ℕ) where
-  abbrev V : Type 0
-  V = View E
-
-  abbrev St : Type 0
-  St = State S V
-
-  abbrev Ok : List E → ℕ → ℕ → List (Option S) → V → Type 0
-  Ok = IsSound number
-
-  pub counts : (slots id : ℕ) (me : Me S V) → me.0.turn ≡ false → Allows (Kept list_of IsThere number) slots id me 2 (λ n. n) (counted (step slots 2 0 0 none) me)
+  pub counts : (slots id : ℕ) (me : Me S (View E)) → me.0.turn ≡ false → Allows (Kept list_of IsThere number) slots id me 2 (λ n. n) (counted (step slots 2 0 0 none) me)
   counts slots id me out s k _ at _ =
       let v = me.0 in
       let n : ℕ = slice_index s.words 2 in
       let n_is : n ≡ k.drawn = ap (λ l. slice_index l 2) k.words in
-      let few = k.few in
       let ok = k.sound id v at in
-      let before = ok.found in
       (record v { found = n }, keeps, tt, refreshed list_of IsThere number s k id v at out n v.note v.misses (omega (arith, n_is)) ok.noted (set s.words 2 n) (rw k.words refl), (refl, omega (arith, n_is), omega (arith, n_is)))
 
-  pub names : (slots id : ℕ) (me : Me S V) (old new : ℕ) → new ≡ old + 1 → old < most_numbers → me.0.turn ≡ false → 0 < me.0.parts
+  pub names : (slots id : ℕ) (me : Me S (View E)) (old new : ℕ) → new ≡ old + 1 → old < most_numbers → me.0.turn ≡ false → 0 < me.0.parts
       → Allows (Kept list_of IsThere number) slots id me 2 (λ n. either (eqb n old) new n) (named number (step slots 2 old new none) me)
   names slots id me old new next room out some_part s k _ at _ =
       let v = me.0 in
       let n : ℕ = slice_index s.words 2 in
       let n_is : n ≡ k.drawn = ap (λ l. slice_index l 2) k.words in
       let ok = k.sound id v at in
-      let before = ok.found in
       let unused : calls number n v.front ≡ 0 = let a = k.known n (omega (arith, n_is)) in let b = calls_prefix number n v.front k.list ok.fits.0 in omega arith in
       exchanged n old new (Goes list_of IsThere number s 2 id me (named number (step slots 2 old new none) me))
       (λ hit.
@@ -53,7 +39,7 @@ module _ {S E : Type 0} (list_of : S → List E) (IsThere : S → Type 0) (numbe
         keeps,
         tt,
         moved list_of IsThere number s k id v w at k.ticket k.serving new k.list (set s.words 2 new) s.homes (ap (λ l. set l 2 new) k.words) (λ x. refl)
-            (λ x. let a = below_more x n in let b : below x k.drawn ≡ below x n = ap (below x) (sym n_is) in let c : below x new ≡ below x (n + 1) = ap (below x) new_is in omega arith)
+            (λ x. grind (arith, nat_tests))
             refl
             (omega (arith, next, room))
             (λ x le. k.known x (omega (arith, le, new_is, n_is)))
@@ -61,9 +47,7 @@ module _ {S E : Type 0} (list_of : S → List E) (IsThere : S → Type 0) (numbe
             record {
               fits = (
                 ok.fits.0,
-                λ y has. dite (ℕ_discrete y n)
-                    (λ same. let a : calls number y k.list ≡ 0 = k.known y (omega (arith, same, n_is)) in let b = calls_prefix number y v.front k.list ok.fits.0 in omega arith)
-                    (λ other. let a = once_other n y (λ same. other (sym same)) in ok.fits.1 y (omega arith)),
+                λ y has. grind (arith, nat_tests, k.known y, calls_prefix number y v.front k.list ok.fits.0, ok.fits.1 y),
               );
               spent = λ z. absurd (omega (arith, some_part, z));
               inside = ok.inside;
@@ -72,9 +56,9 @@ module _ {S E : Type 0} (list_of : S → List E) (IsThere : S → Type 0) (numbe
               begun = ok.begun;
             }
             (kept_place list_of IsThere number k.list s.homes s.views id v w at out k.place),
-        ((λ _. (refl, omega (arith, n_is), (let a = total_at (λ (u : V). times n u.names) s.views id v at in let b = k.names n in let c = below_out n k.drawn (omega (arith, n_is)) in omega arith), unused)), (λ miss. absurd (miss hit))),
+        ((λ _. (refl, omega (arith, n_is), (let a = total_at (λ (u : View E). times n u.names) s.views id v at in let b = k.names n in grind (arith, nat_tests)), unused)), (λ miss. absurd (miss hit))),
       ))
-      (λ miss. let few = k.few in (
+      (λ miss. (
         record v { found = n },
         keeps,
         tt,
@@ -82,7 +66,7 @@ module _ {S E : Type 0} (list_of : S → List E) (IsThere : S → Type 0) (numbe
         ((λ hit. absurd (miss hit)), (λ _. (refl, omega (arith, n_is), omega (arith, n_is)))),
       ))
 
-  pub tells : (slots id : ℕ) (me : Me S V) → Allows (Kept list_of IsThere number) slots id me 2 (λ n. n) (told (step slots 2 0 0 none) me)
+  pub tells : (slots id : ℕ) (me : Me S (View E)) → Allows (Kept list_of IsThere number) slots id me 2 (λ n. n) (told (step slots 2 0 0 none) me)
   tells slots id me s k _ at _ = (
     me.0,
     keeps,
@@ -91,23 +75,23 @@ module _ {S E : Type 0} (list_of : S → List E) (IsThere : S → Type 0) (numbe
     (
       refl,
       (k.sound id me.0 at).begun,
-      (λ x. let a = total_at (λ (u : V). times x u.names) s.views id me.0 at in let b = k.names x in let c = below_most x k.drawn in omega arith),
-      (let a = total_at (λ (u : V). u.parts) s.views id me.0 at in let b = k.parts in omega arith),
+      (λ x. let a = total_at (λ (u : View E). times x u.names) s.views id me.0 at in let b = k.names x in grind (arith, nat_tests)),
+      (let a = total_at (λ (u : View E). u.parts) s.views id me.0 at in let b = k.parts in omega arith),
     ),
   )
 
   -- the parts are shared out, and the number drawn last goes to a new seat
-  pub splits : (id : ℕ) (v : V) (n : ℕ) (ns : List ℕ) → v.names ≡ n ∷ ns → v.turn ≡ false → v.tickets ≡ [] → 1 < v.parts → Splits (Kept list_of IsThere number) id v (left v) (right v)
+  pub splits : (id : ℕ) (v : View E) (n : ℕ) (ns : List ℕ) → v.names ≡ n ∷ ns → v.turn ≡ false → v.tickets ≡ [] → 1 < v.parts → Splits (Kept list_of IsThere number) id v (left v) (right v)
   splits id v n ns has out no_ticket parts s k at =
       let ok = k.sound id v at in
       let p : ℕ = v.parts in
       let q : ℕ = share p in
       let l = left v in
       let r = right v in
-      let small = share_le p parts in
+      let small : (0 < q) × (q < p) = (omega arith, omega arith) in
       let names_l : l.names ≡ ns = rw has refl in
       let names_r : r.names ≡ n ∷ [] = rw has refl in
-      let left_ok : Ok k.list k.serving k.drawn s.homes l = record {
+      let left_ok : IsSound number k.list k.serving k.drawn s.homes l = record {
         fits = (ok.fits.0, λ y some_name. ok.fits.1 y (rw has (let a : 0 < times y ns = subst (λ xs. 0 < times y xs) names_l some_name in omega arith)));
         spent = λ z. absurd (let e : p - q ≡ 0 = z in omega (arith, small));
         inside = λ t. absurd (true≢false (sym t ∙ out));
@@ -115,7 +99,7 @@ module _ {S E : Type 0} (list_of : S → List E) (IsThere : S → Type 0) (numbe
         noted = ok.noted;
         begun = ok.begun;
       } in
-      let right_ok : Ok k.list k.serving k.drawn s.homes r = record {
+      let right_ok : IsSound number k.list k.serving k.drawn s.homes r = record {
         fits = (ok.fits.0, λ y some_name. ok.fits.1 y (rw has (let a : 0 < times y (n ∷ []) = subst (λ xs. 0 < times y xs) names_r some_name in omega arith)));
         spent = λ z. absurd (let e : q ≡ 0 = z in omega (arith, small));
         inside = λ t. absurd (true≢false (sym t));
@@ -129,49 +113,33 @@ module _ {S E : Type 0} (list_of : S → List E) (IsThere : S → Type 0) (numbe
         drawn = k.drawn;
         list = k.list;
         words = k.words;
-        tickets = λ x.
-            let f : V → ℕ = λ u. times x u.tickets in
-            let a = total_set f s.views id v l at in let b = total_snoc f (set s.views id l) r in let c = k.tickets x in omega arith;
-        names = λ x.
-            let f : V → ℕ = λ u. times x u.names in
-            let a = total_set f s.views id v l at in let b = total_snoc f (set s.views id l) r in let c = k.names x in
-            let d : f l ≡ times x ns = ap (times x) names_l in let e : f r ≡ once n x + 0 = ap (times x) names_r in let g : f v ≡ once n x + times x ns = ap (times x) has in omega arith;
-        parts =
-            let f : V → ℕ = λ u. u.parts in
-            let a = total_set f s.views id v l at in let b = total_snoc f (set s.views id l) r in let c = k.parts in
-            let d : f l ≡ p - q = refl in let e : f r ≡ q = refl in omega (arith, small);
+        tickets = λ x. omega (arith, total_split (λ (u : View E). times x u.tickets) s.views id v l r at, k.tickets x);
+        names = λ x. omega (arith, total_split (λ (u : View E). times x u.names) s.views id v l r at, k.names x, ap (times x) names_l, ap (times x) names_r, ap (times x) has);
+        parts = let e : r.parts ≡ q = refl in omega (arith, total_split (λ (u : View E). u.parts) s.views id v l r at, k.parts, small);
         few = k.few;
         known = k.known;
         sound = λ i u e. ⊎_elim
-            (λ (was : get_elem? (set s.views id l) i ≡ some u). ⊎_elim
-            (λ (x : (i ≡ id) × (l ≡ u)). subst (Ok k.list k.serving k.drawn s.homes) x.1 left_ok)
-            (λ (x : (i ≢ id) × (get_elem? s.views i ≡ some u)). k.sound i u x.1)
-            (at_set s.views id i l u was))
-            (λ (same : r ≡ u). subst (Ok k.list k.serving k.drawn s.homes) same right_ok)
+            (sound_set s.views id l (IsSound number k.list k.serving k.drawn s.homes) (λ j x _. k.sound j x) left_ok i u)
+            (λ (same : r ≡ u). subst (IsSound number k.list k.serving k.drawn s.homes) same right_ok)
             (at_snoc (set s.views id l) r u i e);
         place = ⊎_elim (λ home. inl home) (λ away. inr (away.0, away.1, away.2, at_longer (set s.views id l) (r ∷ []) away.0 away.1 away.3, away.4)) (kept_place list_of IsThere number k.list s.homes s.views id v l at out k.place);
       }
-    where
-      share_le : (p : ℕ) → 1 < p → (0 < share p) × (share p < p)
-      share_le p some_parts = (omega arith, omega arith)
 
   -- the first takes in the second's names and parts, and has the longer front
-  pub joins : (id : ℕ) (v : V) (other : ℕ) (w : V) → v.turn ≡ false → v.tickets ≡ [] → 0 < v.parts → w.turn ≡ false → w.tickets ≡ [] → Joins (Kept list_of IsThere number) id v other w (both v w) spent
+  pub joins : (id : ℕ) (v : View E) (other : ℕ) (w : View E) → v.turn ≡ false → v.tickets ≡ [] → 0 < v.parts → w.turn ≡ false → w.tickets ≡ [] → Joins (Kept list_of IsThere number) id v other w (both v w) spent
   joins id v other w out no_ticket some_part out_w no_ticket_w s k at apart there =
       let b = both v w in
       let ok = k.sound id v at in
       let there_before : get_elem? s.views other ≡ some w = ⊎_elim (λ (t : (other ≡ id) × (b ≡ w)). absurd (apart t.0)) (λ (t : (other ≢ id) × (get_elem? s.views other ≡ some w)). t.1) (at_set s.views id other b w there) in
       let ok_w = k.sound other w there_before in
       let fronts = two k.list v.front w.front ok.fits.0 ok_w.fits.0 (nat_lt (length v.front) (length w.front)) refl in
-      let both_ok : Ok k.list k.serving k.drawn s.homes b = record {
+      let both_ok : IsSound number k.list k.serving k.drawn s.homes b = record {
         fits = (
           fronts.0,
           λ y some_name.
-              let a = times_append y v.names w.names in
-              let m = calls_prefix number y b.front k.list fronts.0 in
-              dite (dec_le (times y v.names) 0)
-              (λ none. let c = ok_w.fits.1 y (omega (arith, some_name)) in let d = calls_prefix number y w.front b.front fronts.2 in omega arith)
-              (λ some. let l = lt_of_not-le some in let c = ok.fits.1 y l in let d = calls_prefix number y v.front b.front fronts.1 in omega arith),
+              let theirs = calls_prefix number y w.front b.front fronts.2 in
+              let ours = calls_prefix number y v.front b.front fronts.1 in
+              grind (arith, times_append y v.names w.names, calls_prefix number y b.front k.list fronts.0, ok.fits.1 y, ok_w.fits.1 y),
         );
         spent = λ z. absurd (let e : v.parts + w.parts ≡ 0 = z in omega (arith, some_part));
         inside = λ t. absurd (true≢false (sym t ∙ out));
@@ -179,7 +147,7 @@ module _ {S E : Type 0} (list_of : S → List E) (IsThere : S → Type 0) (numbe
         noted = ok.noted;
         begun = fronts.3;
       } in
-      let spent_ok : Ok k.list k.serving k.drawn s.homes spent = record {
+      let spent_ok : IsSound number k.list k.serving k.drawn s.homes spent = record {
         fits = ((k.list, refl), λ y some_name. absurd (omega (arith, some_name)));
         spent = λ _. (refl, refl);
         inside = λ t. absurd (true≢false (sym t));
@@ -187,33 +155,20 @@ module _ {S E : Type 0} (list_of : S → List E) (IsThere : S → Type 0) (numbe
         noted = λ m h. absurd (cc);
         begun = ([], refl);
       } in
-      let first : List V = set s.views id b in
+      let first : List (View E) = set s.views id b in
       record {
         ticket = k.ticket;
         serving = k.serving;
         drawn = k.drawn;
         list = k.list;
         words = k.words;
-        tickets = λ x.
-            let f : V → ℕ = λ u. times x u.tickets in
-            let a = total_set f s.views id v b at in let c = total_set f first other w spent there in let d = k.tickets x in
-            let e : f w ≡ 0 = ap (times x) no_ticket_w in omega arith;
-        names = λ x.
-            let f : V → ℕ = λ u. times x u.names in
-            let a = total_set f s.views id v b at in let c = total_set f first other w spent there in let d = k.names x in
-            let e = times_append x v.names w.names in omega arith;
-        parts =
-            let f : V → ℕ = λ u. u.parts in
-            let a = total_set f s.views id v b at in let c = total_set f first other w spent there in let d = k.parts in omega arith;
+        tickets = λ x. omega (arith, total_two (λ (u : View E). times x u.tickets) s.views id other v w b spent at there, k.tickets x, ap (times x) no_ticket_w);
+        names = λ x. omega (arith, total_two (λ (u : View E). times x u.names) s.views id other v w b spent at there, k.names x, times_append x v.names w.names);
+        parts = omega (arith, total_two (λ (u : View E). u.parts) s.views id other v w b spent at there, k.parts);
         few = k.few;
         known = k.known;
-        sound = λ i u e. ⊎_elim
-            (λ (x : (i ≡ other) × (spent ≡ u)). subst (Ok k.list k.serving k.drawn s.homes) x.1 spent_ok)
-            (λ (x : (i ≢ other) × (get_elem? first i ≡ some u)). ⊎_elim
-            (λ (y : (i ≡ id) × (b ≡ u)). subst (Ok k.list k.serving k.drawn s.homes) y.1 both_ok)
-            (λ (y : (i ≢ id) × (get_elem? s.views i ≡ some u)). k.sound i u y.1)
-            (at_set s.views id i b u x.1))
-            (at_set first other i spent u e);
+        sound = sound_set first other spent (IsSound number k.list k.serving k.drawn s.homes)
+            (λ j x _. sound_set s.views id b (IsSound number k.list k.serving k.drawn s.homes) (λ i u _. k.sound i u) both_ok j x) spent_ok;
         place = kept_place list_of IsThere number k.list s.homes first other w spent there out_w (kept_place list_of IsThere number k.list s.homes s.views id v b at out k.place);
       }
     where

@@ -1,11 +1,11 @@
 -- Totals over the views, counts in lists, and beginnings of lists.
-use Rattle.std.proofs.Common.{◌≡◌, ◌≢◌, ℕ, zero, suc, ◌+◌, ◌<◌, ◌≤◌, List, [], ◌∷◌, ◌++◌, length, drop, set, sym, refl, ap, ◌∙◌, arith}
+use Rattle.std.proofs.Common.{◌≡◌, ◌≢◌, ℕ, zero, suc, ◌+◌, ◌≤◌, List, [], ◌∷◌, ◌++◌, length, drop, set, sym, refl, ap, ◌∙◌, arith}
 use mathlib.Core.List.{IsPrefix}
 use mathlib.Core.Option.{some, some-injective, some-ne-none}
 use lib.ListN.{get_elem?}
 use Rattle.std.proofs.lemmas.Bool.Decides.{nat_tests}
-use Rattle.conn_lock.specs.Callers.{once, times, calls}
-use Rattle.conn_lock.specs.Rule.{below, total}
+use Rattle.conn_lock.specs.Callers.{times, calls}
+use Rattle.conn_lock.specs.Rule.{total}
 
 module _ {A : Type 0} (f : A → ℕ) where
   pub total_set : (vs : List A) (i : ℕ) (v w : A) → get_elem? vs i ≡ some v → total f (set vs i w) + f v ≡ total f vs + f w
@@ -29,30 +29,17 @@ module _ {A : Type 0} (f : A → ℕ) where
   total_snoc [] w = omega arith
   total_snoc (x ∷ xs) w = let h = total_snoc xs w in omega arith
 
+  -- one is parted in two
+  pub total_split : (vs : List A) (i : ℕ) (v w x : A) → get_elem? vs i ≡ some v → total f (set vs i w ++ x ∷ []) + f v ≡ total f vs + f w + f x
+  total_split vs i v w x e = omega (arith, total_set vs i v w e, total_snoc (set vs i w) x)
+
+  -- two are changed, one after the other
+  pub total_two : (vs : List A) (i j : ℕ) (v w x y : A) → get_elem? vs i ≡ some v → get_elem? (set vs i x) j ≡ some w → total f (set (set vs i x) j y) + f v + f w ≡ total f vs + f x + f y
+  total_two vs i j v w x y e d = omega (arith, total_set vs i v x e, total_set (set vs i x) j w y d)
+
   pub total_zero : (vs : List A) → ((i : ℕ) (v : A) → get_elem? vs i ≡ some v → f v ≡ 0) → total f vs ≡ 0
   total_zero [] h = refl
   total_zero (x ∷ xs) h = let a = h 0 x refl in let b = total_zero xs (λ i v e. h (suc i) v e) in omega arith
-
-pub once_same : (x : ℕ) → once x x ≡ 1
-once_same x = grind (arith, nat_tests)
-
-pub once_other : (a x : ℕ) → a ≢ x → once a x ≡ 0
-once_other a x n = grind (arith, nat_tests)
-
-pub once_apart : (a x y : ℕ) → x ≢ y → once a x + once a y ≤ 1
-once_apart a x y n = grind (arith, nat_tests)
-
-pub below_in : (x n : ℕ) → x < n → below x n ≡ 1
-below_in x n h = grind (arith, nat_tests)
-
-pub below_out : (x n : ℕ) → n ≤ x → below x n ≡ 0
-below_out x n h = grind (arith, nat_tests)
-
-pub below_most : (x n : ℕ) → below x n ≤ 1
-below_most x n = grind (arith, nat_tests)
-
-pub below_more : (x n : ℕ) → below x (n + 1) ≡ below x n + once n x
-below_more x n = grind (arith, nat_tests)
 
 pub times_append : (x : ℕ) (xs ys : List ℕ) → times x (xs ++ ys) ≡ times x xs + times x ys
 times_append x [] ys = omega arith
@@ -69,12 +56,12 @@ module _ {E : Type 0} (number : E → ℕ) where
   -- entries of the number x alone are of no other number
   pub calls_other : (x y : ℕ) → x ≢ y → (es : List E) → calls number x es + calls number y es ≤ length es
   calls_other x y n [] = omega arith
-  calls_other x y n (e ∷ es) = let h = calls_other x y n es in let o = once_apart (number e) x y n in omega arith
+  calls_other x y n (e ∷ es) = let h = calls_other x y n es in grind (arith, nat_tests)
 
   -- a list without calls of any number is empty
   pub no_calls : (es : List E) → ((x : ℕ) → calls number x es ≡ 0) → es ≡ []
   no_calls [] h = refl
-  no_calls (e ∷ es) h = let a = h (number e) in let b = once_same (number e) in absurd (omega arith)
+  no_calls (e ∷ es) h = let a = h (number e) in absurd (grind (arith, nat_tests))
 
 -- of two beginnings of one list the shorter begins the longer
 pub begins_longer : {E : Type 0} (a b list : List E) → IsPrefix a list → IsPrefix b list → length a ≤ length b → IsPrefix a b

@@ -1,30 +1,22 @@
 -- The steps of a turn keep the rule.
-use Rattle.std.proofs.Common.{◌≡◌, ◌≢◌, ℕ, zero, suc, ◌+◌, ◌<◌, ◌≤◌, List, [], ◌∷◌, ◌++◌, length, set, true, false, true≢false, refl, sym, ap, ◌∙◌, subst, inl, inr, ⊎_elim, arith, eqb, le_refl, append-nil, append_assoc, lt_of_not-le, Some, None, unwrap_or}
+use Rattle.std.proofs.Common.{◌≡◌, ◌≢◌, ℕ, zero, suc, ◌+◌, ◌<◌, ◌≤◌, List, [], ◌∷◌, ◌++◌, length, set, true, false, true≢false, refl, sym, ap, ◌∙◌, subst, inl, inr, ⊎_elim, arith, eqb, append-nil, append_assoc, Some, None, unwrap_or}
+use Rattle.std.specs.Prelude as std
 use Rattle.std.specs.Prelude.{slice_index}
-use mathlib.Core.List.{IsPrefix}
-use mathlib.Core.Option.{Option, none, some, some-injective, some-ne-none}
+use mathlib.Core.Option.{none, some, some-injective, some-ne-none}
 use mathlib.Core.Logic.{dite}
-use native.Mathlib.Decide.{ℕ_discrete, dec_le}
+use native.Mathlib.Decide.{ℕ_discrete}
 use prog.Atomic.{either}
 use lib.ListN.{get_elem?}
+use Rattle.std.proofs.lemmas.Bool.Decides.{nat_tests}
 use Rattle.atomic_table.specs.Table.{State, Me, keeps, takes, gives, opening, Allows, step}
 use Rattle.atomic_table.proofs.Lists.{set_here, exchanged}
 use Rattle.conn_lock.specs.declared.view.View.{View}
-use Rattle.conn_lock.specs.Callers.{once, times, calls}
+use Rattle.conn_lock.specs.Callers.{Follows, once, times, calls}
 use Rattle.conn_lock.specs.Rule.{below, IsSound, Kept, first_view, drew, looked, passed, noted, grabbed}
-use Rattle.conn_lock.proofs.Totals.{total_at, once_same, below_in, below_out, below_more, calls_append, calls_other}
+use Rattle.conn_lock.proofs.Totals.{total_at, calls_append, calls_other}
 use Rattle.conn_lock.proofs.Changes.{within, follows, moved, stays, kept_place, refreshed, alone, other_turn, own_name, was_drawn, Goes}
 
 module _ {S E : Type 0} (list_of : S → List E) (IsThere : S → Type 0) (number : E → ℕ) where
-  abbrev V : Type 0
-  V = View E
-
-  abbrev St : Type 0
-  St = State S V
-
-  abbrev Ok : List E → ℕ → ℕ → List (Option S) → V → Type 0
-  Ok = IsSound number
-
   -- the table at the start
   pub opened : (x : S) → IsThere x → list_of x ≡ [] → Kept list_of IsThere number (opening (0 ∷ 0 ∷ 1 ∷ []) (x ∷ []) first_view)
   opened x is_there empty = record {
@@ -33,8 +25,8 @@ module _ {S E : Type 0} (list_of : S → List E) (IsThere : S → Type 0) (numbe
     drawn = 1;
     list = [];
     words = refl;
-    tickets = λ y. omega (arith, below_out y 0);
-    names = λ y. omega (arith, below_more y 0, below_out y 0);
+    tickets = λ y. grind (arith, nat_tests);
+    names = λ y. grind (arith, nat_tests);
     parts = refl;
     few = omega arith;
     known = λ y _. refl;
@@ -42,8 +34,8 @@ module _ {S E : Type 0} (list_of : S → List E) (IsThere : S → Type 0) (numbe
     place = inl (x, refl, empty, is_there);
   }
     where
-      one : (i : ℕ) (v : V) → get_elem? (first_view ∷ []) i ≡ some v → Ok [] 0 1 (some x ∷ []) v
-      one zero v e = subst (Ok [] 0 1 (some x ∷ [])) (some-injective _ _ e) record {
+      one : (i : ℕ) (v : View E) → get_elem? (first_view ∷ []) i ≡ some v → IsSound number [] 0 1 (some x ∷ []) v
+      one zero v e = subst (IsSound number [] 0 1 (some x ∷ [])) (some-injective _ _ e) record {
         fits = (([], refl), λ y _. refl);
         spent = λ z. absurd (omega (arith, z));
         inside = λ t. absurd (true≢false (sym t));
@@ -53,7 +45,7 @@ module _ {S E : Type 0} (list_of : S → List E) (IsThere : S → Type 0) (numbe
       }
       one (suc i) v e = absurd (some-ne-none v (sym e))
 
-  pub draws : (slots id : ℕ) (me : Me S V) (old new : ℕ) → new ≡ old + 1 → me.0.tickets ≡ [] → me.0.turn ≡ false → 0 < me.0.parts
+  pub draws : (slots id : ℕ) (me : Me S (View E)) (old new : ℕ) → new ≡ old + 1 → me.0.tickets ≡ [] → me.0.turn ≡ false → 0 < me.0.parts
       → Allows (Kept list_of IsThere number) slots id me 0 (λ n. either (eqb n old) new n) (drew (step slots 0 old new none) me)
   draws slots id me old new next none_yet out some_part s k _ at _ =
       let v = me.0 in
@@ -67,7 +59,7 @@ module _ {S E : Type 0} (list_of : S → List E) (IsThere : S → Type 0) (numbe
         tt,
         moved list_of IsThere number s k id v w at new k.serving k.drawn k.list (set s.words 0 new) s.homes
             (ap (λ l. set l 0 new) k.words)
-            (λ x. let a = below_more x old in let b : k.ticket ≡ old = sym n_is ∙ hit in rw (next, b, hit, none_yet) (omega arith))
+            (λ x. let b : k.ticket ≡ old = sym n_is ∙ hit in rw (next, b, hit, none_yet) (grind (arith, nat_tests)))
             (λ x. refl)
             refl
             k.few
@@ -79,59 +71,64 @@ module _ {S E : Type 0} (list_of : S → List E) (IsThere : S → Type 0) (numbe
       ))
       (λ miss. (v, keeps, tt, stays list_of IsThere number s k id v at (set s.words 0 n) (rw k.words refl), ((λ hit. absurd (miss hit)), (λ _. refl))))
 
-  -- the turn begins
-  looks : (slots id : ℕ) (v : V) (t : ℕ) → v.tickets ≡ t ∷ [] → v.turn ≡ false → 0 < v.parts
-      → Allows (Kept list_of IsThere number) slots id (v, []) 1 (λ n. n) (looked list_of IsThere number (step slots 1 0 0 none) (v, []))
-  looks slots id v t mine out some_part s k _ at _ =
-      let n : ℕ = slice_index s.words 1 in
-      let n_is : n ≡ k.serving = ap (λ l. slice_index l 1) k.words in
-      let same_words : set s.words 1 n ≡ s.words = rw k.words refl in
-      let ok = k.sound id v at in
-      dite (ℕ_discrete t k.serving)
-      (λ yes.
-      let served : v.tickets ≡ k.serving ∷ [] = mine ∙ ap (λ z. z ∷ []) yes in
-      ⊎_elim
+  -- the seat that has the ticket that is served takes the value out and is in its turn, as this view
+  begins : (s : State S (View E)) (k : Kept list_of IsThere number s) (id : ℕ) (v : View E) → get_elem? s.views id ≡ some v → v.turn ≡ false → 0 < v.parts
+      → (t : ℕ) (words tickets : List ℕ) (note : std.Option ℕ) → words ≡ t ∷ k.serving ∷ k.drawn ∷ [] → tickets ≡ k.serving ∷ []
+      → ((x : ℕ) → times x tickets + below x k.serving + below x k.ticket ≡ times x v.tickets + below x k.serving + below x t)
+      → ((n : ℕ) → note ≡ Some n → n ≤ k.serving) → ((i : ℕ) (u : View E) → i ≢ id → get_elem? s.views i ≡ some u → u.tickets ≡ k.serving ∷ [] → ⊥)
+      → (x : S) × (get_elem? s.homes 0 ≡ some (some x)) × Follows number v.names v.front (list_of x) × IsThere x
+      × Kept list_of IsThere number record { words = words; homes = set s.homes 0 none; views = set s.views id (record v { tickets = tickets; turn = true; front = list_of x; note = note; shorter = [] }) }
+  begins s k id v at out some_part t words tickets note is served counted noted alone_has = ⊎_elim
       (λ (home : (x : S) × (s.homes ≡ some x ∷ []) × (list_of x ≡ k.list) × IsThere x).
       let x = home.0 in
-      let w = record v { turn = true; front = list_of x; shorter = [] } in (
-        w,
-        takes 0 x,
+      let ok = k.sound id v at in
+      let w = record v { tickets = tickets; turn = true; front = list_of x; note = note; shorter = [] } in (
+        x,
         ap (λ l. get_elem? l 0) home.1,
-        moved list_of IsThere number s k id v w at k.ticket k.serving k.drawn k.list (set s.words 1 n) (set s.homes 0 none) (same_words ∙ k.words) (λ y. refl) (λ y. refl) refl k.few k.known
-            (λ i u other e. let o = k.sound i u e in record {
-              fits = o.fits;
-              spent = o.spent;
-              inside = λ turn. absurd (alone list_of IsThere number s k id v at served i u other e (o.inside turn).2);
-              found = o.found;
-              noted = o.noted;
-              begun = o.begun;
-            })
+        follows number k.list v.names v.front (list_of x) home.2 ok.fits,
+        home.3,
+        moved list_of IsThere number s k id v w at t k.serving k.drawn k.list words (set s.homes 0 none) is counted (λ y. refl) refl k.few k.known
+            (λ i u other e. let o = k.sound i u e in record { fits = o.fits; spent = o.spent; inside = λ turn. absurd (alone_has i u other e (o.inside turn).2); found = o.found; noted = o.noted; begun = o.begun })
             record {
               fits = (([], append-nil (list_of x) ∙ home.2), λ y _. ap (calls number y) (sym home.2));
               spent = λ z. absurd (omega (arith, some_part, z));
               inside = λ _. (ap (λ l. set l 0 none) home.1, home.2, served);
               found = ok.found;
-              noted = ok.noted;
+              noted = noted;
               begun = (list_of x, refl);
             }
             (inr (id, w, ap (λ l. set l 0 none) home.1, set_here s.views id w (within s.views id v at), refl)),
-        (
-          (λ _. (x, refl, follows number k.list v.names v.front (list_of x) home.2 ok.fits, home.3)),
-          (λ miss. absurd (miss (served ∙ ap (λ z. z ∷ []) (sym n_is)))),
-        ),
       ))
-      (λ (away : (i : ℕ) × (u : V) × (s.homes ≡ none ∷ []) × (get_elem? s.views i ≡ some u) × (u.turn ≡ true)).
-      absurd (alone list_of IsThere number s k id v at served away.0 away.1 (other_turn s.views id away.0 v away.1 at out away.3 away.4) away.3 ((k.sound away.0 away.1 away.3).inside away.4).2))
-      k.place)
-      (λ no. (v, keeps, tt, stays list_of IsThere number s k id v at (set s.words 1 n) same_words, ((λ hit. absurd (no (head (sym mine ∙ hit) ∙ n_is))), (λ _. refl))))
-    where
-      head : {a b : ℕ} → a ∷ [] ≡ b ∷ [] → a ≡ b
-      head e = ap (λ l. slice_index l 0) e
+      (λ (away : (i : ℕ) × (u : View E) × (s.homes ≡ none ∷ []) × (get_elem? s.views i ≡ some u) × (u.turn ≡ true)).
+      absurd (alone_has away.0 away.1 (other_turn s.views id away.0 v away.1 at out away.3 away.4) away.3 ((k.sound away.0 away.1 away.3).inside away.4).2))
+      k.place
+
+  -- the turn begins
+  pub looks : (slots id : ℕ) (me : Me S (View E)) (t : ℕ) → me.0.tickets ≡ t ∷ [] → me.0.turn ≡ false → 0 < me.0.parts
+      → Allows (Kept list_of IsThere number) slots id me 1 (λ n. n) (looked list_of IsThere number (step slots 1 0 0 none) me)
+  looks slots id me t mine out some_part s k _ at _ =
+      let v = me.0 in
+      let n : ℕ = slice_index s.words 1 in
+      let n_is : n ≡ k.serving = ap (λ l. slice_index l 1) k.words in
+      let same_words : set s.words 1 n ≡ s.words = rw k.words refl in
+      dite (ℕ_discrete t k.serving)
+      (λ yes.
+      let served : v.tickets ≡ k.serving ∷ [] = mine ∙ ap (λ z. z ∷ []) yes in
+      let b = begins s k id v at out some_part k.ticket (set s.words 1 n) v.tickets v.note (same_words ∙ k.words) served (λ y. refl) (k.sound id v at).noted (alone list_of IsThere number s k id v at served) in (
+        record v { turn = true; front = list_of b.0; shorter = [] },
+        takes 0 b.0,
+        b.1,
+        b.4,
+        ((λ _. (b.0, refl, b.2, b.3)), (λ miss. absurd (miss (served ∙ ap (λ z. z ∷ []) (sym n_is))))),
+      ))
+      (λ no. (v, keeps, tt, stays list_of IsThere number s k id v at (set s.words 1 n) same_words, ((λ hit. absurd (no (ap (λ l. slice_index l 0) (sym mine ∙ hit) ∙ n_is))), (λ _. refl))))
 
   -- the turn ends
-  passes : (slots id : ℕ) (v : V) (x : S) → IsThere x → (t n : ℕ) (own : List E) → v.tickets ≡ t ∷ [] → v.turn ≡ true → 0 < v.parts → 0 < times n v.names → list_of x ≡ v.front ++ own → calls number n own ≡ length own
-      → Allows (Kept list_of IsThere number) slots id (v, (0, x) ∷ []) 1 (λ _. t + 1) (λ _ m. passed list_of (step slots 1 (t + 1) 0 none) (v, (0, x) ∷ []) (t + 1) m)
-  passes slots id v x is_there t n own mine inside some_part named added counted s k _ at _ =
+  pub passes : (slots id : ℕ) (me : Me S (View E)) (x : S) → IsThere x → (t n : ℕ) (own : List E) → me.1 ≡ (0, x) ∷ [] → me.0.tickets ≡ t ∷ [] → me.0.turn ≡ true → 0 < me.0.parts → 0 < times n me.0.names → list_of x ≡ me.0.front ++ own → calls number n own ≡ length own
+      → Allows (Kept list_of IsThere number) slots id me 1 (λ _. t + 1) (λ _ m. passed list_of (step slots 1 (t + 1) 0 none) me (t + 1) m)
+  passes slots id me x is_there t n own has mine inside some_part named added counted =
+      subst (λ (m : List (ℕ × S)). Allows (Kept list_of IsThere number) slots id (me.0, m) 1 (λ _. t + 1) (λ _ m'. passed list_of (step slots 1 (t + 1) 0 none) (me.0, m) (t + 1) m')) (sym has) (λ s k _ at _.
+      let v = me.0 in
       let ok = k.sound id v at in
       let in_turn = ok.inside inside in
       let list_is : k.list ≡ v.front = sym in_turn.1 in
@@ -145,19 +142,15 @@ module _ {S E : Type 0} (list_of : S → List E) (IsThere : S → Type 0) (numbe
         gives,
         tt,
         moved list_of IsThere number s k id v w at k.ticket (t + 1) k.drawn (list_of x) (set s.words 1 (t + 1)) (set s.homes 0 (some x)) (ap (λ l. set l 1 (t + 1)) k.words)
-            (λ y. let a = below_more y t in let b : times y v.tickets ≡ once t y + 0 = ap (times y) mine in let c : below y t ≡ below y k.serving = ap (below y) served in omega arith)
+            (λ y. let b : times y v.tickets ≡ once t y + 0 = ap (times y) mine in grind (arith, nat_tests))
             (λ y. refl)
             refl
             k.few
             (λ y le. let a = counts y in let b = k.known y le in let c = none_of y (λ same. absurd (omega (arith, same, drawn, le))) in omega arith)
             (λ i u other e. let o = k.sound i u e in record {
               fits = (
-                longer_prefix u.front k.list own (list_of x) (added ∙ ap (λ l. l ++ own) (sym list_is)) o.fits.0,
-                λ y some_name.
-                    let a = counts y in
-                    let b = none_of y (λ same. absurd (let c : times n u.names ≡ 0 = own_name list_of IsThere number s k id v at n named i u other e in let d : 0 < times n u.names = rw same some_name in omega arith)) in
-                    let c = o.fits.1 y some_name in
-                    omega arith,
+                (o.fits.0.0 ++ own, sym (append_assoc u.front o.fits.0.0 own) ∙ ap (λ l. l ++ own) (o.fits.0.1 ∙ list_is) ∙ sym added),
+                λ y some_name. grind (arith, counts y, none_of y, own_name list_of IsThere number s k id v at n named i u other e, o.fits.1 y),
               );
               spent = o.spent;
               inside = λ turn. absurd (alone list_of IsThere number s k id v at in_turn.2 i u other e (o.inside turn).2);
@@ -175,12 +168,9 @@ module _ {S E : Type 0} (list_of : S → List E) (IsThere : S → Type 0) (numbe
             }
             (inl (x, homes_are, refl, is_there)),
         refl,
-      )
-    where
-      longer_prefix : (front list own new : List E) → new ≡ list ++ own → IsPrefix front list → IsPrefix front new
-      longer_prefix front list own new is p = (p.0 ++ own, sym (append_assoc front p.0 own) ∙ (ap (λ l. l ++ own) p.1 ∙ sym is))
+      ))
 
-  pub notes : (slots id : ℕ) (me : Me S V) → me.0.turn ≡ false → Allows (Kept list_of IsThere number) slots id me 1 (λ n. n) (noted (step slots 1 0 0 none) me)
+  pub notes : (slots id : ℕ) (me : Me S (View E)) → me.0.turn ≡ false → Allows (Kept list_of IsThere number) slots id me 1 (λ n. n) (noted (step slots 1 0 0 none) me)
   notes slots id me out s k _ at _ =
       let v = me.0 in
       let n : ℕ = slice_index s.words 1 in
@@ -189,53 +179,28 @@ module _ {S E : Type 0} (list_of : S → List E) (IsThere : S → Type 0) (numbe
       (record v { note = Some n }, keeps, tt, refreshed list_of IsThere number s k id v at out v.found (Some n) v.misses ok.found (λ m h. let same : n ≡ m = ap (λ o. unwrap_or o 0) h in omega (arith, n_is, same)) (set s.words 1 n) (rw k.words refl), refl)
 
   -- a turn that one exchange begins
-  grabs : (slots id : ℕ) (v : V) (old new : ℕ) → new ≡ old + 1 → v.note ≡ Some old → v.tickets ≡ [] → v.turn ≡ false → 0 < v.parts
-      → Allows (Kept list_of IsThere number) slots id (v, []) 0 (λ n. either (eqb n old) new n) (grabbed list_of IsThere number (step slots 0 old new none) (v, []))
-  grabs slots id v old new next was none_yet out some_part s k _ at _ =
+  pub grabs : (slots id : ℕ) (me : Me S (View E)) (old new : ℕ) → new ≡ old + 1 → me.0.note ≡ Some old → me.0.tickets ≡ [] → me.0.turn ≡ false → 0 < me.0.parts
+      → Allows (Kept list_of IsThere number) slots id me 0 (λ n. either (eqb n old) new n) (grabbed list_of IsThere number (step slots 0 old new none) me)
+  grabs slots id me old new next was none_yet out some_part s k _ at _ =
+      let v = me.0 in
       let n : ℕ = slice_index s.words 0 in
       let n_is : n ≡ k.ticket = ap (λ l. slice_index l 0) k.words in
       let ok = k.sound id v at in
-      exchanged n old new (Goes list_of IsThere number s 0 id (v, []) (grabbed list_of IsThere number (step slots 0 old new none) (v, [])))
+      exchanged n old new (Goes list_of IsThere number s 0 id me (grabbed list_of IsThere number (step slots 0 old new none) me))
       (λ hit.
-      let ahead : k.serving ≤ k.ticket = dite (dec_le k.serving k.ticket) (λ le. le) (λ no.
-      let top = k.tickets k.ticket in
-      let self = below_out k.ticket k.ticket (le_refl k.ticket) in
-      let a = below_in k.ticket k.serving (lt_of_not-le no) in
-      absurd (omega arith)) in
+      let ahead : k.serving ≤ k.ticket = grind (arith, nat_tests, k.tickets k.ticket) in
       let same : k.serving ≡ n = let a = ok.noted old was in omega (arith, hit, n_is, ahead) in
-      let nobody : (i : ℕ) (u : V) → get_elem? s.views i ≡ some u → u.tickets ≡ k.serving ∷ [] → ⊥ = λ i u e theirs.
+      let nobody : (i : ℕ) (u : View E) → i ≢ id → get_elem? s.views i ≡ some u → u.tickets ≡ k.serving ∷ [] → ⊥ = λ i u _ e theirs.
       let q : ℕ = k.serving in
-      let f : V → ℕ = λ w. times q w.tickets in
-      let a = total_at f s.views i u e in let b : f u ≡ once q q + 0 = ap (times q) theirs in let c = once_same q in let d = k.tickets q in
-      let g : below q k.ticket ≡ 0 = below_out q k.ticket (omega (arith, same, n_is)) in absurd (omega arith) in
-      ⊎_elim
-      (λ (home : (x : S) × (s.homes ≡ some x ∷ []) × (list_of x ≡ k.list) × IsThere x).
-      let x = home.0 in
-      let w = record v { tickets = n ∷ []; turn = true; front = list_of x; note = None; shorter = [] } in (
-        w,
-        takes 0 x,
-        ap (λ l. get_elem? l 0) home.1,
-        moved list_of IsThere number s k id v w at new k.serving k.drawn k.list (set s.words 0 new) (set s.homes 0 none) (ap (λ l. set l 0 new) k.words)
-            (λ y. let a = below_more y old in let b : k.ticket ≡ old = sym n_is ∙ hit in rw (next, b, hit, none_yet) (omega arith))
-            (λ y. refl)
-            refl
-            k.few
-            k.known
-            (λ i u other e. let o = k.sound i u e in record { fits = o.fits; spent = o.spent; inside = λ turn. absurd (nobody i u e (o.inside turn).2); found = o.found; noted = o.noted; begun = o.begun })
-            record {
-              fits = (([], append-nil (list_of x) ∙ home.2), λ y _. ap (calls number y) (sym home.2));
-              spent = λ z. absurd (omega (arith, some_part, z));
-              inside = λ _. (ap (λ l. set l 0 none) home.1, home.2, ap (λ z. z ∷ []) (sym same));
-              found = ok.found;
-              noted = λ m h. absurd (cc);
-              begun = (list_of x, refl);
-            }
-            (inr (id, w, ap (λ l. set l 0 none) home.1, set_here s.views id w (within s.views id v at), refl)),
-        ((λ _. (x, refl, follows number k.list v.names v.front (list_of x) home.2 ok.fits, home.3)), (λ miss. absurd (miss hit))),
+      absurd (grind (arith, nat_tests, total_at (λ (w : View E). times q w.tickets) s.views i u e, ap (times q) theirs, k.tickets q)) in
+      let b = begins s k id v at out some_part new (set s.words 0 new) (n ∷ []) None (ap (λ l. set l 0 new) k.words) (ap (λ z. z ∷ []) (sym same))
+      (λ y. let b : k.ticket ≡ old = sym n_is ∙ hit in rw (next, b, hit, none_yet) (grind (arith, nat_tests))) (λ m h. absurd (cc)) nobody in (
+        record v { tickets = n ∷ []; turn = true; front = list_of b.0; note = None; shorter = [] },
+        takes 0 b.0,
+        b.1,
+        b.4,
+        ((λ _. (b.0, refl, b.2, b.3)), (λ miss. absurd (miss hit))),
       ))
-      (λ (away : (i : ℕ) × (u : V) × (s.homes ≡ none ∷ []) × (get_elem? s.views i ≡ some u) × (u.turn ≡ true)).
-      absurd (nobody away.0 away.1 away.3 ((k.sound away.0 away.1 away.3).inside away.4).2))
-      k.place)
       (λ miss. (
         record v { misses = v.misses + 1; note = None },
         keeps,
@@ -243,19 +208,3 @@ module _ {S E : Type 0} (list_of : S → List E) (IsThere : S → Type 0) (numbe
         refreshed list_of IsThere number s k id v at out v.found None (v.misses + 1) ok.found (λ m h. absurd (cc)) (set s.words 0 n) (rw k.words refl),
         ((λ hit. absurd (miss hit)), (λ _. refl)),
       ))
-
-  -- the same of a seat of which it is known what it holds
-  pub looks_at : (slots id : ℕ) (me : Me S V) (t : ℕ) → me.1 ≡ [] → me.0.tickets ≡ t ∷ [] → me.0.turn ≡ false → 0 < me.0.parts
-      → Allows (Kept list_of IsThere number) slots id me 1 (λ n. n) (looked list_of IsThere number (step slots 1 0 0 none) me)
-  looks_at slots id me t empty mine out some_part =
-      subst (λ (m : List (ℕ × S)). Allows (Kept list_of IsThere number) slots id (me.0, m) 1 (λ n. n) (looked list_of IsThere number (step slots 1 0 0 none) (me.0, m))) (sym empty) (looks slots id me.0 t mine out some_part)
-
-  pub passes_at : (slots id : ℕ) (me : Me S V) (x : S) → IsThere x → (t n : ℕ) (own : List E) → me.1 ≡ (0, x) ∷ [] → me.0.tickets ≡ t ∷ [] → me.0.turn ≡ true → 0 < me.0.parts → 0 < times n me.0.names → list_of x ≡ me.0.front ++ own → calls number n own ≡ length own
-      → Allows (Kept list_of IsThere number) slots id me 1 (λ _. t + 1) (λ _ m. passed list_of (step slots 1 (t + 1) 0 none) me (t + 1) m)
-  passes_at slots id me x is_there t n own has mine inside some_part named added counted =
-      subst (λ (m : List (ℕ × S)). Allows (Kept list_of IsThere number) slots id (me.0, m) 1 (λ _. t + 1) (λ _ m'. passed list_of (step slots 1 (t + 1) 0 none) (me.0, m) (t + 1) m')) (sym has) (passes slots id me.0 x is_there t n own mine inside some_part named added counted)
-
-  pub grabs_at : (slots id : ℕ) (me : Me S V) (old new : ℕ) → new ≡ old + 1 → me.1 ≡ [] → me.0.note ≡ Some old → me.0.tickets ≡ [] → me.0.turn ≡ false → 0 < me.0.parts
-      → Allows (Kept list_of IsThere number) slots id me 0 (λ n. either (eqb n old) new n) (grabbed list_of IsThere number (step slots 0 old new none) me)
-  grabs_at slots id me old new next empty was none_yet out some_part =
-      subst (λ (m : List (ℕ × S)). Allows (Kept list_of IsThere number) slots id (me.0, m) 0 (λ n. either (eqb n old) new n) (grabbed list_of IsThere number (step slots 0 old new none) (me.0, m))) (sym empty) (grabs slots id me.0 old new next was none_yet out some_part)

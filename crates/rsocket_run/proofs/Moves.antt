@@ -1,5 +1,6 @@
 -- Bytes that moved, piece by piece.
-use Rattle.std.proofs.Common.{◌≡◌, ℕ, ◌≤◌, ◌+◌, ◌⊎◌, List, [], ◌++◌, length, take, drop, Option, Some, None, refl, sym, ap, ◌∙◌, append_assoc, append-nil, inl, inr, take-append-drop}
+use Rattle.std.proofs.Common.{◌≡◌, ℕ, ◌≤◌, ◌+◌, ◌⊎◌, List, [], ◌++◌, length, take, drop, Option, Some, None, refl, sym, ap, ◌∙◌, append_assoc, append-nil, inl, inr, ⊎_elim, take-append-drop, arith}
+use Rattle.std.proofs.lemmas.Grind.{common_steps}
 use Rattle.std.proofs.lemmas.List.{length-append}
 use Rattle.std.specs.Io.KnownBytes.{append_known, prepend_known}
 use Rattle.outside.specs.Causes.{one_more}
@@ -7,17 +8,12 @@ use Rattle.outside.specs.Streams.{ByteStream}
 use Rattle.rsocket_run.specs.Streams.{CutOff, HasRead, IsReadTo, Writes}
 
 pub read_more : (text now next : Option (List ℕ)) (bytes piece : List ℕ) → text ≡ prepend_known bytes now → now ≡ prepend_known piece next → text ≡ prepend_known (bytes ++ piece) next
-read_more text now (Some rest) bytes piece e f = e ∙ ap (prepend_known bytes) f ∙ ap Some (sym (append_assoc bytes piece rest))
-read_more text now None bytes piece e f = e ∙ ap (prepend_known bytes) f
-
-at_end : (rest : List ℕ) (n most : ℕ) → (Some rest ≡ Some []) ⊎ (n ≡ most) → (rest ≡ []) ⊎ (n ≡ most)
-at_end rest n most (inl none) = let e : rest ≡ [] = cc in inl e
-at_end rest n most (inr full) = inr full
+read_more text now next bytes piece e f = grind (arith, common_steps)
 
 pub read_all : (most : ℕ) (told now : Option (List ℕ)) (bytes : List ℕ) → told ≡ prepend_known bytes now → (now ≡ Some []) ⊎ (length bytes ≡ most) → (text : List ℕ) → told ≡ Some text → IsReadTo most text bytes now
 read_all most told (Some rest) bytes e end text is =
     let same : text ≡ bytes ++ rest = cc in
-    record { rest = rest; text_is = same; left_is = refl; to_the_end = at_end rest (length bytes) most end }
+    record { rest = rest; text_is = same; left_is = refl; to_the_end = ⊎_elim (λ none. inl (let h = none in cc)) (λ full. inr full) end }
 read_all most told None bytes e end text is = cc
 
 -- a front of the bytes is written, and these are left
@@ -27,12 +23,10 @@ pub record Written (old now : Option (List ℕ)) (bytes rest : List ℕ) : Type 
   pub wrote : now ≡ append_known old front
 
 append_known-append : (old : Option (List ℕ)) (a b : List ℕ) → append_known (append_known old a) b ≡ append_known old (a ++ b)
-append_known-append None a b = refl
-append_known-append (Some x) a b = ap Some (append_assoc x a b)
+append_known-append old a b = grind (arith, common_steps)
 
 append_known-nil : (old : Option (List ℕ)) → old ≡ append_known old []
-append_known-nil None = refl
-append_known-nil (Some x) = ap Some (sym (append-nil x))
+append_known-nil old = grind (arith, common_steps)
 
 pub nothing_written : (old : Option (List ℕ)) (bytes : List ℕ) → Written old old bytes bytes
 nothing_written old bytes = record { front = []; split = refl; wrote = append_known-nil old }
@@ -64,5 +58,4 @@ has_read most old now bytes read within = record { bytes = bytes; read = read; w
 
 pub has_more : (most : ℕ) (text now next : Option (List ℕ)) (bytes piece : List ℕ) → text ≡ prepend_known bytes now → now ≡ prepend_known piece next → length bytes + length piece ≤ most → HasRead most text next
 has_more most text now next bytes piece e f within =
-    let all : length (bytes ++ piece) ≤ most = rw length-append within in
-    has_read most text next (bytes ++ piece) (read_more text now next bytes piece e f) all
+    has_read most text next (bytes ++ piece) (read_more text now next bytes piece e f) (rw length-append within)

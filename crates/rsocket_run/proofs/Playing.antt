@@ -1,5 +1,5 @@
 -- A run that went to its end, and what was read for it.
-use Rattle.std.proofs.Common.{◌≡◌, ℕ, ◌≤◌, ◌+◌, ◌⊎◌, List, [], ◌∷◌, ◌++◌, length, Option, Some, is_some, refl, sym, ap, subst, ◌∙◌, append_assoc, append-nil, inl, inr, arith, Result, Ok, Err, IfOk, OnOk}
+use Rattle.std.proofs.Common.{◌≡◌, ℕ, ◌≤◌, ◌+◌, ◌⊎◌, List, [], ◌∷◌, ◌++◌, length, Option, Some, is_some, refl, sym, ap, subst, ◌∙◌, append_assoc, append-nil, inl, inr, ⊎_elim, arith, Result, Ok, Err, IfOk, OnOk}
 use Rattle.outside.specs.Streams.{ByteStream}
 use Rattle.rs_wire.specs.declared.words.Side.{Side}
 use Rattle.rs_wire.specs.declared.words.Side.TheVariants.{Client, Server}
@@ -41,22 +41,19 @@ report_is fresh client server text c s is =
 -- the shelf got both tapes back
 pub got_both : (b b' b'' b3 : List (Option (List Entry))) (t u t' u' : Option (List Entry)) → b' ≡ b → b'' ≡ b' ++ t ∷ [] → b3 ≡ b'' ++ u ∷ [] → t ≡ t' → u ≡ u' → b3 ≡ b ++ t' ∷ u' ∷ []
 got_both b b' b'' b3 t u t' u' same one two t_is u_is =
-    let back = both_back b' b'' b3 t u one two in
-    cc
-
-ended : (most : ℕ) (text bytes : List ℕ) (left : Option (List ℕ)) (rest : List ℕ) → (rest ≡ []) ⊎ (length bytes ≡ most) → text ≡ bytes ++ rest → left ≡ Some rest → length bytes + 1 ≤ most → (text ≡ bytes) × (left ≡ Some [])
-ended most text bytes left rest (inl none) t l short = (t ∙ ap (λ (x : List ℕ). bytes ++ x) none ∙ append-nil bytes, l ∙ ap Some none)
-ended most text bytes left rest (inr full) t l short = absurd (omega (arith, full, short))
+    cc (both_back b' b'' b3 t u one two)
 
 -- what was read is the whole text, where it is below the limit
 pub whole_text : (most : ℕ) (text bytes : List ℕ) (left : Option (List ℕ)) → IsReadTo most text bytes left → length bytes + 1 ≤ most → (text ≡ bytes) × (left ≡ Some [])
-whole_text most text bytes left r short = ended most text bytes left r.rest r.to_the_end r.text_is r.left_is short
+whole_text most text bytes left r short = ⊎_elim
+    (λ none. (r.text_is ∙ ap (λ (x : List ℕ). bytes ++ x) none ∙ append-nil bytes, r.left_is ∙ ap Some none))
+    (λ full. absurd (omega (arith, full, short)))
+    r.to_the_end
 
 pub script_read : (text bytes given : List ℕ) (left : Option (List ℕ)) (script : List Line) → IsReadTo 16777217 text bytes left → given ≡ bytes → IsScript given script → (IsScript text script) × (left ≡ Some [])
 script_read text bytes given left script r same is =
     let here : IsScript bytes script = subst (λ (t : List ℕ). IsScript t script) same is in
-    let short : length bytes + 1 ≤ 16777217 = omega (arith, here.short) in
-    let whole = whole_text 16777217 text bytes left r short in
+    let whole = whole_text 16777217 text bytes left r (omega (arith, here.short)) in
     (subst (λ (t : List ℕ). IsScript t script) (sym whole.0) here, whole.1)
 
 pub was_script : (input : ByteStream) (bytes given : List ℕ) (left : Option (List ℕ)) (script : List Line) → ((text : List ℕ) → input.told ≡ Some text → IsReadTo 16777217 text bytes left) → given ≡ bytes → IsScript given script → WasScript input left
@@ -69,9 +66,7 @@ at_ok {X} {E} (Ok x) P f = f x refl
 at_ok {X} {E} (Err e) P f = tt
 
 pub on_ok : {X E : Type 0} (r : Result X E) (x : X) (P : Type 0) → r ≡ Ok x → OnOk r P → P
-on_ok {X} {E} (Ok y) x P is h = h
-on_ok {X} {E} (Err e) x P is h = cc
+on_ok r x P is h = subst (λ s. OnOk s P) is h
 
 pub if_ok : {X E : Type 0} (r : Result X E) (x : X) (P : X → Type 0) → r ≡ Ok x → IfOk r P → P x
-if_ok {X} {E} (Ok y) x P is h = let same : y ≡ x = cc in subst P same h
-if_ok {X} {E} (Err e) x P is h = cc
+if_ok r x P is h = subst (λ s. IfOk s P) is h

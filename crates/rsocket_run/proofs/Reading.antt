@@ -22,8 +22,7 @@ from_empty old new more none is = subst (λ (x : List ℕ). new ≡ x ++ more) n
 pub frames_ran : (input bytes given : List ℕ) (left : Option (List ℕ)) (old new : List ℕ) → IsReadTo 67108865 input bytes left → given ≡ bytes → old ≡ [] → ((frames : List Frame) × IsCapture given frames × (new ≡ old ++ all_lines frames)) → RanFrames input left new
 frames_ran input bytes given left old new r same none (frames, capture, appended) =
     let here : IsCapture bytes frames = subst (λ (b : List ℕ). IsCapture b frames) same capture in
-    let short : length bytes + 1 ≤ 67108865 = omega (arith, here.short) in
-    let whole = whole_text 67108865 input bytes left r short in
+    let whole = whole_text 67108865 input bytes left r (omega (arith, here.short)) in
     record {
       to_its_end = whole.1;
       frames = frames;
@@ -43,8 +42,7 @@ frames_bad input bytes given left old new place rule r same none (before, bad, a
 pub back_ran : (input bytes given : List ℕ) (left : Option (List ℕ)) (old new : List ℕ) → IsReadTo 67108865 input bytes left → given ≡ bytes → old ≡ [] → (frames : List Frame) → IsTextOf given frames → new ≡ old ++ framed_all frames → RanBack input left new
 back_ran input bytes given left old new r same none frames is_text appended =
     let here : IsTextOf bytes frames = subst (λ (b : List ℕ). IsTextOf b frames) same is_text in
-    let short : length bytes + 1 ≤ 67108865 = omega (arith, here.short) in
-    let whole = whole_text 67108865 input bytes left r short in
+    let whole = whole_text 67108865 input bytes left r (omega (arith, here.short)) in
     record {
       to_its_end = whole.1;
       frames = frames;
@@ -60,17 +58,13 @@ back_wrong input bytes given left number r same (before, wrong) = record {
   wrong = subst (λ (b : List ℕ). IsWrongLine b number before) same wrong;
 }
 
-pub frames_stopped : (r : Result Unit Stop) (e : CaptureFault) (input bytes given : List ℕ) (left : Option (List ℕ)) (old new : List ℕ) → r ≡ Err (of_capture e) → IsReadTo 67108865 input bytes left → given ≡ bytes → old ≡ []
+pub frames_stopped : (e : CaptureFault) (input bytes given : List ℕ) (left : Option (List ℕ)) (old new : List ℕ) → IsReadTo 67108865 input bytes left → given ≡ bytes → old ≡ []
     → ((place rule : ℕ) → e ≡ captures.Frame place rule → (before : List Frame) × IsBadAt given place rule before × (new ≡ old ++ all_lines before))
-    → IfErr r (λ stop. StoppedBy (tasks.Frames false) input left stop new)
-frames_stopped r (captures.Frame place rule) input bytes given left old new is read same none bad =
-    subst (λ (x : Result Unit Stop). IfErr x (λ stop. StoppedBy (tasks.Frames false) input left stop new)) (sym is) (frames_bad input bytes given left old new place rule read same none (bad place rule refl))
-frames_stopped r captures.OutOfMemory input bytes given left old new is read same none bad =
-    subst (λ (x : Result Unit Stop). IfErr x (λ stop. StoppedBy (tasks.Frames false) input left stop new)) (sym is) tt
+    → StoppedBy (tasks.Frames false) input left (of_capture e) new
+frames_stopped (captures.Frame place rule) input bytes given left old new read same none bad = frames_bad input bytes given left old new place rule read same none (bad place rule refl)
+frames_stopped captures.OutOfMemory input bytes given left old new read same none bad = tt
 
-pub back_stopped : (r : Result Unit Stop) (e : LineFault) (input bytes given : List ℕ) (left : Option (List ℕ)) (old new : List ℕ) → r ≡ Err (of_text e) → IsReadTo 67108865 input bytes left → given ≡ bytes → old ≡ [] → IsLineFault given e → new ≡ old
-    → IfErr r (λ stop. StoppedBy (tasks.Frames true) input left stop new)
-back_stopped r (texts.Line number) input bytes given left old new is read same none wrong kept =
-    subst (λ (x : Result Unit Stop). IfErr x (λ stop. StoppedBy (tasks.Frames true) input left stop new)) (sym is) (back_wrong input bytes given left number read same wrong, kept ∙ none)
-back_stopped r texts.OutOfMemory input bytes given left old new is read same none wrong kept =
-    subst (λ (x : Result Unit Stop). IfErr x (λ stop. StoppedBy (tasks.Frames true) input left stop new)) (sym is) tt
+pub back_stopped : (e : LineFault) (input bytes given : List ℕ) (left : Option (List ℕ)) (old new : List ℕ) → IsReadTo 67108865 input bytes left → given ≡ bytes → old ≡ [] → IsLineFault given e → new ≡ old
+    → StoppedBy (tasks.Frames true) input left (of_text e) new
+back_stopped (texts.Line number) input bytes given left old new read same none wrong kept = (back_wrong input bytes given left number read same wrong, kept ∙ none)
+back_stopped texts.OutOfMemory input bytes given left old new read same none wrong kept = tt

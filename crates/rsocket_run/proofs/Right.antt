@@ -14,16 +14,11 @@ use Rattle.command_line.specs.declared.task.Task.{Task}
 use Rattle.command_line.specs.declared.task.Task.TheVariants as tasks
 use Rattle.rsocket_run.specs.Run.{HasBadFrame, HasWrongLine, IsRightInput}
 use Rattle.rsocket_run.specs.Streams.{IsReadTo}
-
-to_the_end : (most : ℕ) (input read rest : List ℕ) → (rest ≡ []) ⊎ (length read ≡ most) → input ≡ read ++ rest → length input + 1 ≤ most → read ≡ input
-to_the_end most input read rest (inl none) is short = sym (is ∙ ap (λ (r : List ℕ). read ++ r) none ∙ append-nil read)
-to_the_end most input read rest (inr full) is short =
-    let both : length input ≡ length read + length rest = ap length is ∙ length-append read rest in
-    absurd (omega (arith, full, short, both))
+use Rattle.rsocket_run.proofs.Playing.{whole_text}
 
 -- an input below the limit is read to its end
 all_read : (most : ℕ) (input read : List ℕ) (left : Option (List ℕ)) → IsReadTo most input read left → length input + 1 ≤ most → read ≡ input
-all_read most input read left r short = to_the_end most input read r.rest r.to_the_end r.text_is short
+all_read most input read left r short = sym (whole_text most input read left r (omega (arith, short, ap length r.text_is, length-append read r.rest))).0
 
 -- each line of a script is the text of one
 is_text : (script : List Line) (before after : List (List ℕ)) (line : List ℕ) → map text_of script ≡ before ++ line ∷ after → AllByRecursion IsLine script → IsLineText line
@@ -34,26 +29,21 @@ is_text (s ∷ script) (b ∷ before) after line is all = let rest : map text_of
 
 no_fault : (input : List ℕ) (number : ℕ) (script : List Line) → IsScript input script → IsFault input (WrongLine number) → ⊥
 no_fault input number script s (inl long) =
-    let short = s.short in
-    let above = long.1 in
-    omega (arith, short, above)
+    omega (arith, s.short, long.1)
 no_fault input number script s (inr wrong) = wrong.1.wrong (is_text script wrong.1.before wrong.1.after wrong.1.line (sym s.lines_are ∙ wrong.1.parts) s.are_lines)
 
 pub no_wrong_line : (task : Task) (input : List ℕ) (left : Option (List ℕ)) (number : ℕ) → IsRightInput task input → HasWrongLine task input left number → ⊥
 no_wrong_line tasks.Cable input left number (script, s) wrong =
-    let short : length input + 1 ≤ 16777217 = omega (arith, s.short) in
-    let same = all_read 16777217 input wrong.read left wrong.is_read short in
+    let same = all_read 16777217 input wrong.read left wrong.is_read (omega (arith, s.short)) in
     no_fault input number script s (subst (λ (t : List ℕ). IsFault t (WrongLine number)) same wrong.wrong)
 no_wrong_line (tasks.Frames false) input left number right wrong = wrong
 no_wrong_line (tasks.Frames true) input left number (frames, t) wrong =
-    let short : length input + 1 ≤ 67108865 = omega (arith, t.short) in
-    let same = all_read 67108865 input wrong.read left wrong.is_read short in
+    let same = all_read 67108865 input wrong.read left wrong.is_read (omega (arith, t.short)) in
     either_text input frames number wrong.before t (subst (λ (x : List ℕ). IsWrongLine x number wrong.before) same wrong.wrong)
 
 pub no_bad_frame : (task : Task) (input : List ℕ) (left : Option (List ℕ)) (place rule : ℕ) (lines : List ℕ) → IsRightInput task input → HasBadFrame task input left place rule lines → ⊥
 no_bad_frame tasks.Cable input left place rule lines right bad = bad
 no_bad_frame (tasks.Frames false) input left place rule lines (frames, c) bad =
-    let short : length input + 1 ≤ 67108865 = omega (arith, c.short) in
-    let same = all_read 67108865 input bad.read left bad.is_read short in
+    let same = all_read 67108865 input bad.read left bad.is_read (omega (arith, c.short)) in
     either input place rule frames bad.before c (subst (λ (x : List ℕ). IsBadAt x place rule bad.before) same bad.bad)
 no_bad_frame (tasks.Frames true) input left place rule lines right bad = bad

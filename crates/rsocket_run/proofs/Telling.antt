@@ -1,6 +1,7 @@
 -- What a run that stopped has written, by its status.
-use Rattle.std.proofs.Common.{◌⊎◌, ◌≡◌, ◌≢◌, ℕ, ◌^◌, ◌-◌, List, [], ◌++◌, Option, Err, inl, inr, refl, ap, arith}
+use Rattle.std.proofs.Common.{◌⊎◌, ◌≡◌, ◌≢◌, ℕ, ◌^◌, ◌-◌, List, [], ◌++◌, Option, Err, inl, inr, ⊎_elim, refl, ap, arith}
 use Rattle.std.proofs.lemmas.Bool.{cases_lt}
+use Rattle.std.proofs.lemmas.Grind.{common_steps}
 use Rattle.outside.specs.Causes.{Rose, one_more}
 use Rattle.outside.specs.Streams.{ByteStream}
 use Rattle.tape.specs.declared.entry.Entry.{Entry}
@@ -12,48 +13,29 @@ use Rattle.rsocket_run.specs.Stops.{IsTold, StoppedBy, TellsStop, faults_after_w
 use Rattle.rsocket_run.specs.Streams.{CutOff, CutsOffSome, Writes, WritesSome}
 use Rattle.rsocket_run.proofs.Right.{no_bad_frame, no_wrong_line}
 
--- the text in front of the line of a wrong one is empty
-alone : (text line : List ℕ) → text ≡ [] → text ++ line ≡ line
-alone text line none = ap (λ (t : List ℕ). t ++ line) none
-
--- a text that is told has its status, 5 or 6
-other : (known due : ℕ) (text : List ℕ) (old new : ByteStream) (status : ℕ) → known ≢ due → due ≢ 5 → due ≢ 6 → IsTold known text old new status → status ≡ due → ⊥
-other known due text old new status a b c (inl told) is = let e : known ≡ due = cc in a e
-other known due text old new status a b c (inr (inl cut)) is = let e : due ≡ 5 = cc in b e
-other known due text old new status a b c (inr (inr want)) is = let e : due ≡ 6 = cc in c e
-
-whole : (known : ℕ) (text : List ℕ) (old new : ByteStream) (status : ℕ) → known ≢ 5 → known ≢ 6 → IsTold known text old new status → status ≡ known → Writes text old new
-whole known text old new status a b (inl told) is = told.1
-whole known text old new status a b (inr (inl cut)) is = let e : known ≡ 5 = cc in absurd (a e)
-whole known text old new status a b (inr (inr want)) is = let e : known ≡ 6 = cc in absurd (b e)
-
 cut : (known : ℕ) (text : List ℕ) (old new : ByteStream) (status : ℕ) → known ≢ 5 → IsTold known text old new status → status ≡ 5 → CutOff text old new
-cut known text old new status a (inl told) is = let e : known ≡ 5 = cc in absurd (a e)
-cut known text old new status a (inr (inl cut_off)) is = cut_off.1
-cut known text old new status a (inr (inr want)) is = cc
+cut known text old new status a told is = grind (arith, common_steps)
 
 pub stop_wrong_line : (task : Task) (input : List ℕ) (left : Option (List ℕ)) (stop : Stop) (text : List ℕ) (old new : ByteStream) (status : ℕ) → StoppedBy task input left stop text → TellsStop stop text old new status → status ≡ 3 → WritesSome (TellsWrongLine task input left) old new
 stop_wrong_line task input left stops.Usage text old new status by t is = absurd by
 stop_wrong_line task input left (stops.WrongLine number) text old new status by t is =
-    (text ++ wrong_line number, (number, by.0, alone text (wrong_line number) by.1), whole 3 _ old new status (λ e. cc) (λ e. cc) t is)
-stop_wrong_line task input left stops.ReadFault text old new status by (inl told) is = let f = told.0 in cc
-stop_wrong_line task input left stops.ReadFault text old new status by (inr cut_off) is = let f = cut_off.0 in cc
-stop_wrong_line task input left stops.OutOfMemory text old new status by t is = let f = t.0 in cc
-stop_wrong_line task input left (stops.BadFrame place rule) text old new status by t is = absurd (other 11 3 _ old new status (λ e. cc) (λ e. cc) (λ e. cc) t is)
+    (text ++ wrong_line number, (number, by.0, ap (λ (t : List ℕ). t ++ wrong_line number) by.1), grind (arith, common_steps))
+stop_wrong_line task input left stops.ReadFault text old new status by t is = absurd (grind arith)
+stop_wrong_line task input left stops.OutOfMemory text old new status by t is = absurd (omega arith)
+stop_wrong_line task input left (stops.BadFrame place rule) text old new status by t is = absurd (grind arith)
 
 pub stop_bad_frame : (task : Task) (input : List ℕ) (left : Option (List ℕ)) (stop : Stop) (text : List ℕ) (old new : ByteStream) (status : ℕ) → StoppedBy task input left stop text → TellsStop stop text old new status → status ≡ 11 → WritesSome (TellsBadFrame task input left) old new
 stop_bad_frame task input left stops.Usage text old new status by t is = absurd by
-stop_bad_frame task input left (stops.WrongLine number) text old new status by t is = absurd (other 3 11 _ old new status (λ e. cc) (λ e. cc) (λ e. cc) t is)
-stop_bad_frame task input left stops.ReadFault text old new status by (inl told) is = let f = told.0 in cc
-stop_bad_frame task input left stops.ReadFault text old new status by (inr cut_off) is = let f = cut_off.0 in cc
-stop_bad_frame task input left stops.OutOfMemory text old new status by t is = let f = t.0 in cc
+stop_bad_frame task input left (stops.WrongLine number) text old new status by t is = absurd (grind arith)
+stop_bad_frame task input left stops.ReadFault text old new status by t is = absurd (grind arith)
+stop_bad_frame task input left stops.OutOfMemory text old new status by t is = absurd (omega arith)
 stop_bad_frame task input left (stops.BadFrame place rule) text old new status by t is =
-    (text ++ bad_frame_line place rule, (place, rule, text, by, refl), whole 11 _ old new status (λ e. cc) (λ e. cc) t is)
+    (text ++ bad_frame_line place rule, (place, rule, text, by, refl), grind (arith, common_steps))
 
 pub stop_cut_off : (task : Task) (text : List ℕ) (input input' : ByteStream) (fresh : Option (List Entry)) (shelf shelf' : List (Option (List Entry))) (stop : Stop) (out : List ℕ) (old new : ByteStream) (status : ℕ) → input'.faults ≡ faults_after_work (Err stop) input.faults → StoppedBy task text input'.told stop out → TellsStop stop out old new status → status ≡ 5 → CutsOffSome (IsDue task text input input' fresh shelf shelf') old new
 stop_cut_off task text input input' fresh shelf shelf' stops.Usage out old new status faults by t is = absurd by
 stop_cut_off task text input input' fresh shelf shelf' (stops.WrongLine number) out old new status faults by t is =
-    (out ++ wrong_line number, inr (inr (inl (number, by.0, alone out (wrong_line number) by.1))), cut 3 _ old new status (λ e. cc) t is)
+    (out ++ wrong_line number, inr (inr (inl (number, by.0, ap (λ (t : List ℕ). t ++ wrong_line number) by.1))), cut 3 _ old new status (λ e. cc) t is)
 stop_cut_off task text input input' fresh shelf shelf' stops.ReadFault out old new status faults by (inl told) is = let f = told.0 in cc
 stop_cut_off task text input input' fresh shelf shelf' stops.ReadFault out old new status faults by (inr cut_off) is = (read_fault_line, inr (inr (inr (faults, refl))), cut_off.1)
 stop_cut_off task text input input' fresh shelf shelf' stops.OutOfMemory out old new status faults by t is = let f = t.0 in cc
@@ -61,10 +43,7 @@ stop_cut_off task text input input' fresh shelf shelf' (stops.BadFrame place rul
     (out ++ bad_frame_line place rule, inr (inl (place, rule, out, by, refl)), cut 11 _ old new status (λ e. cc) t is)
 
 rose_once : (old new : ℕ) → new ≡ one_more old → Rose old new
-rose_once old new is = elim (cases_lt old (2 ^ 64 - 1)) [
-  | inl below ↦ inl (omega (arith, below, is))
-  | inr above ↦ inr (omega (arith, above, is))
-]
+rose_once old new is = ⊎_elim (λ below. inl (omega (arith, below, is))) (λ above. inr (omega (arith, above, is))) (cases_lt old (2 ^ 64 - 1))
 
 -- a run stops with nothing wrong and no fault only where memory runs out
 pub stop_right : (task : Task) (input : List ℕ) (left : Option (List ℕ)) (stop : Stop) (before after : ℕ) (text : List ℕ) (old new : ByteStream) (status : ℕ) → StoppedBy task input left stop text → after ≡ faults_after_work (Err stop) before → TellsStop stop text old new status → IsRightInput task input → ¬ (Rose before after) → (status ≡ 0) ⊎ (status ≡ 6)

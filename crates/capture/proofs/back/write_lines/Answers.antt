@@ -1,8 +1,9 @@
 use Rattle.std.proofs.Common.{◌<◌, length, sym, ◌∙◌, arith, rules}
 use Rattle.std.proofs.lemmas.Bool.{eqb-true}
 use Rattle.std.proofs.lemmas.Bool.Decides.{nat_tests}
+use Rattle.std.proofs.lemmas.Result.{IfErr-weaker, on_ok_weaker}
 use Rattle.capture.specs.Text.{IsLineFault}
-use Rattle.capture.proofs.Progress.{all_read, at_limit, at_start, last_fault, last_line, one_more, one_more_counted, too_long, wrong_line}
+use Rattle.capture.proofs.Progress.{all_read, at_limit, at_start, last_read, one_more, one_more_counted, too_long, wrong_last, wrong_line}
 use Rattle.capture.proofs.back.write_lines.Goals as goal
 
 pub loop-line-init : goal.loop-line-init
@@ -31,9 +32,9 @@ pub returns-then-is_empty-clause-whole : goal.returns-then-is_empty-clause-whole
 returns-then-is_empty-clause-whole c = all_read c.args.text.now c.loop-line.rest.now c.loop-line.number c.args.out.now.items c.loop-line.out.items c.loop-line.invariant.far c.if-text-gt-MOST_CAPTURE.false (eqb-true _ _ (sym c.is_empty.ensures ∙ c.if-is_empty.true))
 
 pub returns-clause-whole : goal.returns-clause-whole
-returns-clause-whole c = last_line c.args.text.now c.loop-line.rest.now c.loop-line.number c.args.out.now.items c.loop-line.out.items c.write_frame-2.new.out.items c.write_frame-2.result c.loop-line.invariant.far (omega arith) c.write_frame-2.ensures.ok
+returns-clause-whole c = on_ok_weaker c.write_frame-2.result (last_read c.args.text.now c.loop-line.rest.now c.loop-line.number c.args.out.now.items c.loop-line.out.items c.write_frame-2.new.out.items c.loop-line.invariant.far (omega arith)) c.write_frame-2.ensures.ok
 
 pub returns-clause-line : goal.returns-clause-line
 returns-clause-line c =
     let some : 0 < length c.loop-line.rest.now = grind (arith, nat_tests, c.is_empty.ensures, c.if-is_empty.false) in
-    last_fault c.args.text.now c.loop-line.rest.now c.loop-line.number c.args.out.now.items c.loop-line.out.items c.write_frame-2.result c.loop-line.invariant.far some c.in_default.ensures.last c.write_frame-2.ensures.fault
+    IfErr-weaker c.write_frame-2.result _ _ (λ e. wrong_last c.args.text.now c.loop-line.rest.now c.loop-line.number c.args.out.now.items c.loop-line.out.items e c.loop-line.invariant.far some c.in_default.ensures.last) c.write_frame-2.ensures.fault

@@ -1,21 +1,17 @@
-use Rattle.std.proofs.Common.{◌≡◌, ℕ, ◌≢◌, List, length, Result, Ok, Err, sym, ap, subst, ◌∙◌, arith}
-use Rattle.std.specs.Prelude.{IsErrAnd}
+use Rattle.std.proofs.Common.{◌≡◌, ℕ, ◌≢◌, List, length, Err, sym, ap, subst, ◌∙◌, arith}
+use Rattle.std.proofs.lemmas.Grind.{common_steps}
 use Rattle.std.proofs.lemmas.Bool.{eqb-false}
 use Rattle.capture.specs.Captured.{WroteLines}
 use Rattle.capture.specs.declared.lines.CaptureFault.TheVariants as faults
 use Rattle.capture.proofs.Reading.{at_start, bad_at}
 use Rattle.capture.proofs.lines.write_lines.Goals as goal
 
-passed_on : {T E : Type 0} (r : Result T E) (x y : E) → IsErrAnd r (λ e. e ≡ x) → r ≡ Err y → x ≡ y
-passed_on (Ok t) x y is e = absurd is
-passed_on (Err z) x y is e = cc
-
 pub loop-rest-init : goal.loop-rest-init
 loop-rest-init c = record { so_far = at_start c.args.bytes.now c.args.out.now.items; within = omega arith }
 
 pub returns-in_err-rest-clause-frame : goal.returns-in_err-rest-clause-frame
 returns-in_err-rest-clause-frame c place rule e =
-    let fault : c.in_err-rest.field-0.0 ≡ faults.Frame place rule = passed_on c.from_residual.result c.in_err-rest.field-0.0 (faults.Frame place rule) c.from_residual.ensures.1 e in
+    let fault : c.in_err-rest.field-0.0 ≡ faults.Frame place rule = grind (arith, common_steps, e, c.from_residual.ensures.1) in
     let at = c.in_err-rest.ensures.frame place rule (ap Err fault) in
     let same : c.write_first.new.out.items ≡ c.loop-rest.out.items = c.in_err-rest.ensures.err in
     let some : length c.loop-rest.rest.now ≢ 0 = eqb-false _ _ (sym c.is_empty.ensures ∙ c.loop-rest-test.true) in

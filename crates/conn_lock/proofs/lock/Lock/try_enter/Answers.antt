@@ -1,6 +1,6 @@
 use Rattle.std.proofs.Common.{rules, IsSome, ◌+◌, ◌∙◌, refl, ap, sym}
 use Rattle.conn_lock.specs.Rule.{slot_list}
-use Rattle.conn_lock.proofs.TurnSteps.{notes, grabs_at}
+use Rattle.conn_lock.proofs.TurnSteps.{notes, grabs}
 use Rattle.conn_lock.proofs.lock.Lock.try_enter.Goals as goal
 
 pub load-serving-requires : goal.load-serving-requires
@@ -16,7 +16,7 @@ compare_exchange-found-requires g c =
     let n = c.load-serving.result in (
       search rules,
       search rules,
-      grabs_at (slot_list g.S.Stands.list) IsSome g.S.Stands.number c.self.inside.table.shared.table_id.slots t.id t.me n (n + 1) refl
-          (ap (λ m. m.1) e.2 ∙ v.nothing_out) (ap (λ m. m.0.note) e.2) (ap (λ m. m.0.tickets) e.2 ∙ v.no_ticket) (ap (λ m. m.0.turn) e.2 ∙ v.no_turn)
+      grabs (slot_list g.S.Stands.list) IsSome g.S.Stands.number c.self.inside.table.shared.table_id.slots t.id t.me n (n + 1) refl
+          (ap (λ m. m.0.note) e.2) (ap (λ m. m.0.tickets) e.2 ∙ v.no_ticket) (ap (λ m. m.0.turn) e.2 ∙ v.no_turn)
           (rw e.2 (rw (sym v.parts_are) v.some_part)),
     )
