@@ -2,6 +2,8 @@
 use Rattle.std.proofs.Common.{◌≡◌, ◌≤◌, ℕ, suc, ◌+◌, ◌-◌, Bool, true, false, List, [], ◌∷◌, ◌++◌, length, take, drop, Option, Ok, refl, ap, sym, subst, ◌∙◌, arith, append_assoc, length-append, leb}
 use Rattle.std.specs.Prelude.{Some, None, map, replicate, ◌||◌}
 use Rattle.std.specs.Option.{option_map}
+use Rattle.std.proofs.lemmas.Grind.{common_steps}
+use Rattle.std.proofs.lemmas.Bool.Decides.{nat_tests}
 use Rattle.std.proofs.Math.Bool.{or_assoc, or_self, or-false}
 use Rattle.std.proofs.lemmas.Bool.{lt-leb, leb-true}
 use Rattle.std.proofs.lemmas.List.{take-append-drop, take_all, append-nil}
@@ -18,21 +20,14 @@ use Rattle.fragment.proofs.Splits.{by_mtu}
 -- ---- joining has a unit, is associative, and adds the sizes
 
 same_message : (a b : Message) → a.metadata ≡ b.metadata → a.content ≡ b.content → a ≡ b
-same_message a b p q =
-    let by_metadata : Option (List ℕ) → Message = λ md. record { metadata = md; content = a.content } in
-    let by_content : List ℕ → Message = λ content. record { metadata = b.metadata; content = content } in
-    ap by_metadata p ∙ ap by_content q
+same_message a b p q = ap (λ md. record a { metadata = md }) p ∙ ap (λ content. record b { content = content }) q
 
 same_gathered : (a b : Gathered) → a.message ≡ b.message → a.complete ≡ b.complete → a.next ≡ b.next → a ≡ b
 same_gathered a b p q r =
-    let by_message : Message → Gathered = λ m. record { message = m; complete = a.complete; next = a.next } in
-    let by_complete : Bool → Gathered = λ c. record { message = b.message; complete = c; next = a.next } in
-    let by_next : Bool → Gathered = λ n. record { message = b.message; complete = b.complete; next = n } in
-    ap by_message p ∙ (ap by_complete q ∙ ap by_next r)
+    ap (λ m. record a { message = m }) p ∙ ap (λ c. record a { message = b.message; complete = c }) q ∙ ap (λ n. record b { next = n }) r
 
 join_none : (md : Option (List ℕ)) → join_metadata md None ≡ md
-join_none None = refl
-join_none (Some bytes) = refl
+join_none md = grind (arith, common_steps)
 
 join-nothing : (held : Gathered) → join held nothing ≡ held
 join-nothing held =
@@ -41,10 +36,7 @@ join-nothing held =
     (or-false held.complete) (or-false held.next)
 
 metadata_assoc : (a b c : Option (List ℕ)) → join_metadata (join_metadata a b) c ≡ join_metadata a (join_metadata b c)
-metadata_assoc None b c = refl
-metadata_assoc (Some x) None c = refl
-metadata_assoc (Some x) (Some y) None = refl
-metadata_assoc (Some x) (Some y) (Some z) = ap (λ bytes. Some bytes) (append_assoc x y z)
+metadata_assoc a b c = grind (arith, common_steps)
 
 messages_assoc : (a b c : Message) → join_messages (join_messages a b) c ≡ join_messages a (join_messages b c)
 messages_assoc a b c =
@@ -61,9 +53,7 @@ joined-push [] part = join-nothing part
 joined-push (first ∷ parts) part = ap (join first) (joined-push parts part) ∙ sym (join-assoc first (joined parts) part)
 
 metadata_size : (a b : Option (List ℕ)) → option_length (join_metadata a b) ≡ option_length a + option_length b
-metadata_size None b = omega arith
-metadata_size (Some x) None = omega arith
-metadata_size (Some x) (Some y) = omega (arith, length-append x y)
+metadata_size a b = grind (arith, common_steps, length-append)
 
 pub size-join : (a b : Message) → size_of (join_messages a b) ≡ size_of a + size_of b
 size-join a b = omega (arith, metadata_size a.metadata b.metadata, length-append a.content b.content)
@@ -73,10 +63,7 @@ size-join a b = omega (arith, metadata_size a.metadata b.metadata, length-append
 cut_metadata : (n : ℕ) (md : Option (List ℕ)) → join_metadata (option_map (take n) md) (left_metadata n md) ≡ md
 cut_metadata n None = refl
 cut_metadata n (Some bytes) =
-    elim (leb (length bytes) n) as (λ v. leb (length bytes) n ≡ v → join_metadata (Some (take n bytes)) (Rattle.std.specs.Bool.if◌then◌else◌ v None (Some (drop n bytes))) ≡ Some bytes) [
-      | true ↦ λ e. ap (λ x. Some x) (take_all n bytes (leb-true (length bytes) n e))
-      | false ↦ λ e. ap (λ x. Some x) (take-append-drop n bytes)
-    ] refl
+    grind (arith, common_steps, nat_tests, take_all, take-append-drop)
 
 cut_parts : (room : ℕ) (m : Message) → join_messages (first_part room m) (left_part room m) ≡ m
 cut_parts room m =
@@ -84,9 +71,7 @@ cut_parts room m =
     (cut_metadata (room - 3) m.metadata) (take-append-drop (room - field_length m.metadata) m.content)
 
 cut_message : (mtu : ℕ) (f : Frame) → IsSplittable f → join_messages (carried_by (first_fragment mtu f)) (carried_by (rest_after mtu f)) ≡ carried_by f
-cut_message mtu (frames.Request r) whole = cut_parts (room_of mtu (frames.Request r)) r.message
-cut_message mtu (frames.Payload stream follows complete next m) whole = cut_parts (mtu - 6) m
-cut_message mtu _ whole = absurd whole
+cut_message mtu f whole = grind (arith, common_steps, cut_parts (room_of mtu f) (carried_by f))
 
 -- ---- the fragments, joined
 
@@ -107,9 +92,7 @@ joined_message f mtu whole limit =
     f whole
 
 rest_complete : (mtu : ℕ) (f : Frame) → IsSplittable f → complete_of (first_fragment mtu f) || complete_of (rest_after mtu f) ≡ complete_of f
-rest_complete mtu (frames.Request r) whole = refl
-rest_complete mtu (frames.Payload stream follows complete next m) whole = refl
-rest_complete mtu _ whole = absurd whole
+rest_complete mtu f whole = grind (arith, common_steps)
 
 pub joined_complete : (f : Frame) (mtu : ℕ) → IsSplittable f → IsMtu mtu → (joined_of (split_of f mtu)).complete ≡ complete_of f
 joined_complete f mtu whole limit =
@@ -119,14 +102,10 @@ joined_complete f mtu whole limit =
     f whole
 
 one_next : (f : Frame) → IsSplittable f → IsNextKept f (joined_of (f ∷ [])).next
-one_next (frames.Request r) whole = tt
-one_next (frames.Payload stream follows complete next m) whole = or-false next
-one_next _ whole = absurd whole
+one_next f whole = grind (arith, common_steps, or-false)
 
 rest_next : (mtu : ℕ) (f : Frame) (joined_next : Bool) → IsSplittable f → IsNextKept (rest_after mtu f) joined_next → IsNextKept f (next_of (first_fragment mtu f) || joined_next)
-rest_next mtu (frames.Request r) joined_next whole kept = tt
-rest_next mtu (frames.Payload stream follows complete next m) joined_next whole kept = ap (λ n. next || n) kept ∙ or_self next
-rest_next mtu _ joined_next whole kept = absurd whole
+rest_next mtu f joined_next whole kept = grind (arith, common_steps, or_self)
 
 pub joined_next : (f : Frame) (mtu : ℕ) → IsSplittable f → IsMtu mtu → IsNextKept f (joined_of (split_of f mtu)).next
 joined_next f mtu whole limit =
@@ -156,14 +135,10 @@ answer_whole max_payload held f follows fits =
     ∙ ap (λ v. Ok (glued_of v (join held (part_of f))) ∷ []) follows
 
 whole_follows : (f : Frame) → IsSplittable f → follows_of f ≡ false
-whole_follows (frames.Request r) whole = whole
-whole_follows (frames.Payload stream follows complete next m) whole = whole
-whole_follows _ whole = absurd whole
+whole_follows f whole = grind (arith, common_steps)
 
 first_follows : (mtu : ℕ) (f : Frame) → IsSplittable f → follows_of (first_fragment mtu f) ≡ true
-first_follows mtu (frames.Request r) whole = refl
-first_follows mtu (frames.Payload stream follows complete next m) whole = refl
-first_follows mtu _ whole = absurd whole
+first_follows mtu f whole = grind (arith, common_steps)
 
 -- each but the last gives Part, and the last gives what was held and all of them, joined
 abbrev Gives : ℕ → Gathered → List Frame → Type 0

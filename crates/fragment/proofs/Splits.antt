@@ -1,6 +1,7 @@
 -- The fragments of a frame: one cut after another, until the rest fits.
 use Rattle.std.proofs.Common.{◌≡◌, ◌<◌, ◌≤◌, ◌⊎◌, inl, inr, ℕ, zero, suc, true, false, List, [], ◌∷◌, ◌++◌, refl, ap, sym, subst, ◌∙◌, arith, append_assoc}
 use Rattle.std.specs.Prelude.{All, ◌==◌}
+use Rattle.std.proofs.lemmas.Grind.{common_steps}
 use Rattle.std.proofs.lemmas.Bool.{le-leb, lt-leb, cases_lt}
 use Rattle.std.proofs.lemmas.Bool.Decides.{nat_tests}
 use Rattle.std.proofs.lemmas.List.Elements.{All-cons, All-nil}
@@ -104,14 +105,10 @@ all_short f mtu whole least =
     f whole
 
 first_stream : (mtu : ℕ) (f : Frame) → stream_of (first_fragment mtu f) ≡ stream_of f
-first_stream mtu (frames.Request r) = refl
-first_stream mtu (frames.Payload stream follows complete next m) = refl
-first_stream mtu _ = refl
+first_stream mtu f = grind (arith, common_steps)
 
 rest_stream : (mtu : ℕ) (f : Frame) → stream_of (rest_after mtu f) ≡ stream_of f
-rest_stream mtu (frames.Request r) = refl
-rest_stream mtu (frames.Payload stream follows complete next m) = refl
-rest_stream mtu _ = refl
+rest_stream mtu f = grind (arith, common_steps)
 
 pub all_on_stream : (f : Frame) (mtu : ℕ) → IsSplittable f → IsMtu mtu → All (λ g. stream_of g ≡ stream_of f) (split_of f mtu)
 all_on_stream f mtu whole limit =
@@ -126,9 +123,7 @@ EachButLast-cons P f [] here there = tt
 EachButLast-cons P f (g ∷ gs) here there = (here, there)
 
 first_flags : (mtu : ℕ) (f : Frame) → IsSplittable f → (follows_of (first_fragment mtu f) ≡ true) × (complete_of (first_fragment mtu f) ≡ false)
-first_flags mtu (frames.Request r) whole = (refl, refl)
-first_flags mtu (frames.Payload stream follows complete next m) whole = (refl, refl)
-first_flags mtu _ whole = absurd whole
+first_flags mtu f whole = grind (arith, common_steps)
 
 pub each_full : (f : Frame) (mtu : ℕ) → IsSplittable f → 64 ≤ mtu → EachButLast (λ g. (length_of g ≡ mtu) × (follows_of g ≡ true) × (complete_of g ≡ false)) (split_of f mtu)
 each_full f mtu whole least =
