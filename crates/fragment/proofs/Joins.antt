@@ -81,38 +81,33 @@ glue_with max_payload held = record { max_payload = max_payload; held = held }
 abbrev pub joined_of : List Frame → Gathered
 joined_of fs = joined (map part_of fs)
 
-joined_one : (f : Frame) → joined_of (f ∷ []) ≡ part_of f
-joined_one f = join-nothing (part_of f)
+-- the fragments of a frame are joined to what it carried, with its C and, for a payload, its N
+pub record IsJoined (f : Frame) (gs : List Frame) : Type 0 where
+  pub message : (joined_of gs).message ≡ carried_by f
+  pub complete : (joined_of gs).complete ≡ complete_of f
+  pub next : IsNextKept f (joined_of gs).next
 
-pub joined_message : (f : Frame) (mtu : ℕ) → IsSplittable f → IsMtu mtu → (joined_of (split_of f mtu)).message ≡ carried_by f
-joined_message f mtu whole limit =
-    by_mtu (λ g gs. (joined_of gs).message ≡ carried_by g) mtu limit
-    (λ g g_whole. ap (λ (h : Gathered). h.message) (joined_one g))
-    (λ g gs long rest. ap (λ m. join_messages (carried_by (first_fragment mtu g)) m) rest ∙ cut_message mtu g long.whole)
+pub split_joined : (f : Frame) (mtu : ℕ) → IsSplittable f → IsMtu mtu → IsJoined f (split_of f mtu)
+split_joined f mtu whole limit =
+    by_mtu IsJoined mtu limit
+    (λ g g_whole. record {
+      message = ap (λ (h : Gathered). h.message) (join-nothing (part_of g));
+      complete = or-false (complete_of g);
+      next = one_next g g_whole;
+    })
+    (λ g gs long rest. record {
+      message = ap (join_messages (carried_by (first_fragment mtu g))) rest.message ∙ cut_message mtu g long.whole;
+      complete = ap (λ c. complete_of (first_fragment mtu g) || c) rest.complete ∙ rest_complete mtu g long.whole;
+      next = rest_next mtu g (joined_of gs).next long.whole rest.next;
+    })
     f whole
-
-rest_complete : (mtu : ℕ) (f : Frame) → IsSplittable f → complete_of (first_fragment mtu f) || complete_of (rest_after mtu f) ≡ complete_of f
-rest_complete mtu f whole = grind (arith, common_steps)
-
-pub joined_complete : (f : Frame) (mtu : ℕ) → IsSplittable f → IsMtu mtu → (joined_of (split_of f mtu)).complete ≡ complete_of f
-joined_complete f mtu whole limit =
-    by_mtu (λ g gs. (joined_of gs).complete ≡ complete_of g) mtu limit
-    (λ g g_whole. ap (λ (h : Gathered). h.complete) (joined_one g))
-    (λ g gs long rest. ap (λ c. complete_of (first_fragment mtu g) || c) rest ∙ rest_complete mtu g long.whole)
-    f whole
-
-one_next : (f : Frame) → IsSplittable f → IsNextKept f (joined_of (f ∷ [])).next
-one_next f whole = grind (arith, common_steps, or-false)
-
-rest_next : (mtu : ℕ) (f : Frame) (joined_next : Bool) → IsSplittable f → IsNextKept (rest_after mtu f) joined_next → IsNextKept f (next_of (first_fragment mtu f) || joined_next)
-rest_next mtu f joined_next whole kept = grind (arith, common_steps, or_self)
-
-pub joined_next : (f : Frame) (mtu : ℕ) → IsSplittable f → IsMtu mtu → IsNextKept f (joined_of (split_of f mtu)).next
-joined_next f mtu whole limit =
-    by_mtu (λ g gs. IsNextKept g (joined_of gs).next) mtu limit
-    one_next
-    (λ g gs long rest. rest_next mtu g (joined_of gs).next long.whole rest)
-    f whole
+  where
+    one_next : (f : Frame) → IsSplittable f → IsNextKept f (joined_of (f ∷ [])).next
+    one_next f whole = grind (arith, common_steps, or-false)
+    rest_complete : (mtu : ℕ) (f : Frame) → IsSplittable f → complete_of (first_fragment mtu f) || complete_of (rest_after mtu f) ≡ complete_of f
+    rest_complete mtu f whole = grind (arith, common_steps)
+    rest_next : (mtu : ℕ) (f : Frame) (joined_next : Bool) → IsSplittable f → IsNextKept (rest_after mtu f) joined_next → IsNextKept f (next_of (first_fragment mtu f) || joined_next)
+    rest_next mtu f joined_next whole kept = grind (arith, common_steps, or_self)
 
 -- ---- the fragments, pushed
 
@@ -120,19 +115,6 @@ answer_fits : (max_payload : ℕ) (held : Gathered) (f : Frame) (fs : List Frame
     → answers (glue_with max_payload held) (f ∷ fs) ≡ Ok (glued_of (follows_of f) (join held (part_of f))) ∷ answers (glue_with max_payload (left_held (follows_of f) (join held (part_of f)))) fs
 answer_fits max_payload held f fs fits =
     rw (lt-leb (suc max_payload) (size_of (join held (part_of f)).message) (omega arith))
-
--- the answers to a first frame that has F, and to a last one that has not
-answer_part : (max_payload : ℕ) (held : Gathered) (f : Frame) (fs : List Frame) → follows_of f ≡ true → size_of (join held (part_of f)).message ≤ max_payload
-    → answers (glue_with max_payload held) (f ∷ fs) ≡ Ok Part ∷ answers (glue_with max_payload (join held (part_of f))) fs
-answer_part max_payload held f fs follows fits =
-    answer_fits max_payload held f fs fits
-    ∙ ap (λ v. Ok (glued_of v (join held (part_of f))) ∷ answers (glue_with max_payload (left_held v (join held (part_of f)))) fs) follows
-
-answer_whole : (max_payload : ℕ) (held : Gathered) (f : Frame) → follows_of f ≡ false → size_of (join held (part_of f)).message ≤ max_payload
-    → answers (glue_with max_payload held) (f ∷ []) ≡ Ok (glued_of false (join held (part_of f))) ∷ []
-answer_whole max_payload held f follows fits =
-    answer_fits max_payload held f [] fits
-    ∙ ap (λ v. Ok (glued_of v (join held (part_of f))) ∷ []) follows
 
 whole_follows : (f : Frame) → IsSplittable f → follows_of f ≡ false
 whole_follows f whole = grind (arith, common_steps)
@@ -149,12 +131,8 @@ gives_one : (max_payload : ℕ) (held : Gathered) (f : Frame) → IsSplittable f
 gives_one max_payload held f whole fits = (
   0,
   refl,
-  answer_whole max_payload held f (whole_follows f whole) fits
-      ∙ ap (λ (h : Gathered). Ok (glued_of false (join held h)) ∷ []) (sym (joined_one f)),
+  grind (arith, common_steps, nat_tests, join-nothing, whole_follows f whole),
 )
-
-one_more : (k : ℕ) (f : Frame) (fs : List Frame) → length fs ≡ k + 1 → length (f ∷ fs) ≡ suc k + 1
-one_more k f fs count = omega arith
 
 gives_more : (max_payload mtu : ℕ) (f : Frame) (fs : List Frame) → IsLong mtu f
     → ((held : Gathered) → size_of (join_messages held.message (carried_by (rest_after mtu f))) ≤ max_payload → Gives max_payload held fs)
@@ -170,10 +148,8 @@ gives_more max_payload mtu f fs long rest held fits =
     omega (arith, size-join (join_messages held.message first.message) left) in
     let gives = rest (join held first) all_fits in (
       suc gives.0,
-      one_more gives.0 (first_fragment mtu f) fs gives.1,
-      answer_part max_payload held (first_fragment mtu f) fs (first_follows mtu f long.whole) first_fits
-          ∙ (ap (λ rs. Ok Part ∷ rs) gives.2
-          ∙ ap (λ (h : Gathered). Ok Part ∷ (replicate gives.0 (Ok Part) ++ (Ok (glued_of false h) ∷ []))) (join-assoc held first (joined_of fs))),
+      omega (arith, gives.1),
+      grind (arith, common_steps, nat_tests, first_follows mtu f long.whole, gives.2, join-assoc held first (joined_of fs)),
     )
 
 split_gives : (f : Frame) (mtu max_payload : ℕ) → IsSplittable f → IsMtu mtu → (held : Gathered) → size_of (join_messages held.message (carried_by f)) ≤ max_payload → Gives max_payload held (split_of f mtu)
@@ -187,15 +163,8 @@ pub split_glued : (f : Frame) (mtu max_payload : ℕ) → IsSplittable f → IsM
     → (k : ℕ) × (next : Bool) × (length (split_of f mtu) ≡ k + 1) × IsNextKept f next × (answers (empty_glue max_payload) (split_of f mtu) ≡ replicate k (Ok Part) ++ (Ok (Whole (carried_by f) (complete_of f) next) ∷ []))
 split_glued f mtu max_payload whole limit fits =
     let gives = split_gives f mtu max_payload whole limit nothing fits in
-    let all = joined_of (split_of f mtu) in (
-      gives.0,
-      all.next,
-      gives.1,
-      joined_next f mtu whole limit,
-      gives.2
-          ∙ (ap (λ m. replicate gives.0 (Ok Part) ++ (Ok (Whole m all.complete all.next) ∷ [])) (joined_message f mtu whole limit)
-          ∙ ap (λ c. replicate gives.0 (Ok Part) ++ (Ok (Whole (carried_by f) c all.next) ∷ [])) (joined_complete f mtu whole limit)),
-    )
+    let all = split_joined f mtu whole limit in
+    (gives.0, (joined_of (split_of f mtu)).next, gives.1, all.next, cc (gives.2, all.message, all.complete))
 
 -- ---- one push, where it is taken
 

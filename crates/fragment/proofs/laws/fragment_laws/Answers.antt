@@ -1,4 +1,4 @@
-use Rattle.fragment.proofs.Joins.{joined_message, joined_complete, joined_next, joined-push, split_glued}
+use Rattle.fragment.proofs.Joins.{split_joined, joined-push, split_glued}
 use Rattle.fragment.proofs.Splits.{split_fits, split_cut, all_spellable, all_on_stream, all_short, each_full}
 use Rattle.fragment.proofs.laws.fragment_laws.Goals as goal
 
@@ -10,9 +10,9 @@ returns c = record {
   stream = all_on_stream;
   short = all_short;
   full = each_full;
-  message = joined_message;
-  complete = joined_complete;
-  next = joined_next;
+  message = λ f mtu whole limit. (split_joined f mtu whole limit).message;
+  complete = λ f mtu whole limit. (split_joined f mtu whole limit).complete;
+  next = λ f mtu whole limit. (split_joined f mtu whole limit).next;
   glued = split_glued;
   grows = joined-push;
 }
