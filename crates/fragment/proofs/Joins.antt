@@ -26,22 +26,16 @@ same_gathered : (a b : Gathered) → a.message ≡ b.message → a.complete ≡ 
 same_gathered a b p q r =
     ap (λ m. record a { message = m }) p ∙ ap (λ c. record a { message = b.message; complete = c }) q ∙ ap (λ n. record b { next = n }) r
 
-join_none : (md : Option (List ℕ)) → join_metadata md None ≡ md
-join_none md = grind (arith, common_steps)
-
 join-nothing : (held : Gathered) → join held nothing ≡ held
 join-nothing held =
     same_gathered (join held nothing) held
-    (same_message (join held nothing).message held.message (join_none held.message.metadata) (append-nil held.message.content))
+    (same_message (join held nothing).message held.message (grind (arith, common_steps)) (append-nil held.message.content))
     (or-false held.complete) (or-false held.next)
-
-metadata_assoc : (a b c : Option (List ℕ)) → join_metadata (join_metadata a b) c ≡ join_metadata a (join_metadata b c)
-metadata_assoc a b c = grind (arith, common_steps)
 
 messages_assoc : (a b c : Message) → join_messages (join_messages a b) c ≡ join_messages a (join_messages b c)
 messages_assoc a b c =
     same_message (join_messages (join_messages a b) c) (join_messages a (join_messages b c))
-    (metadata_assoc a.metadata b.metadata c.metadata) (append_assoc a.content b.content c.content)
+    (grind (arith, common_steps)) (append_assoc a.content b.content c.content)
 
 join-assoc : (a b c : Gathered) → join (join a b) c ≡ join a (join b c)
 join-assoc a b c =
@@ -52,23 +46,15 @@ pub joined-push : (parts : List Gathered) (part : Gathered) → joined (parts ++
 joined-push [] part = join-nothing part
 joined-push (first ∷ parts) part = ap (join first) (joined-push parts part) ∙ sym (join-assoc first (joined parts) part)
 
-metadata_size : (a b : Option (List ℕ)) → option_length (join_metadata a b) ≡ option_length a + option_length b
-metadata_size a b = grind (arith, common_steps, length-append)
-
 pub size-join : (a b : Message) → size_of (join_messages a b) ≡ size_of a + size_of b
-size-join a b = omega (arith, metadata_size a.metadata b.metadata, length-append a.content b.content)
+size-join a b = grind (arith, common_steps, length-append)
 
 -- ---- one cut
-
-cut_metadata : (n : ℕ) (md : Option (List ℕ)) → join_metadata (option_map (take n) md) (left_metadata n md) ≡ md
-cut_metadata n None = refl
-cut_metadata n (Some bytes) =
-    grind (arith, common_steps, nat_tests, take_all, take-append-drop)
 
 cut_parts : (room : ℕ) (m : Message) → join_messages (first_part room m) (left_part room m) ≡ m
 cut_parts room m =
     same_message (join_messages (first_part room m) (left_part room m)) m
-    (cut_metadata (room - 3) m.metadata) (take-append-drop (room - field_length m.metadata) m.content)
+    (grind (arith, common_steps, nat_tests, take_all, take-append-drop)) (take-append-drop (room - field_length m.metadata) m.content)
 
 cut_message : (mtu : ℕ) (f : Frame) → IsSplittable f → join_messages (carried_by (first_fragment mtu f)) (carried_by (rest_after mtu f)) ≡ carried_by f
 cut_message mtu f whole = grind (arith, common_steps, cut_parts (room_of mtu f) (carried_by f))
@@ -93,28 +79,15 @@ split_joined f mtu whole limit =
     (λ g g_whole. record {
       message = ap (λ (h : Gathered). h.message) (join-nothing (part_of g));
       complete = or-false (complete_of g);
-      next = one_next g g_whole;
+      next = grind (arith, common_steps, or-false);
     })
     (λ g gs long rest. record {
       message = ap (join_messages (carried_by (first_fragment mtu g))) rest.message ∙ cut_message mtu g long.whole;
-      complete = ap (λ c. complete_of (first_fragment mtu g) || c) rest.complete ∙ rest_complete mtu g long.whole;
-      next = rest_next mtu g (joined_of gs).next long.whole rest.next;
+      complete = ap (λ c. complete_of (first_fragment mtu g) || c) rest.complete ∙ grind (arith, common_steps, long.whole);
+      next = grind (arith, common_steps, or_self, long.whole, rest.next);
     })
     f whole
-  where
-    one_next : (f : Frame) → IsSplittable f → IsNextKept f (joined_of (f ∷ [])).next
-    one_next f whole = grind (arith, common_steps, or-false)
-    rest_complete : (mtu : ℕ) (f : Frame) → IsSplittable f → complete_of (first_fragment mtu f) || complete_of (rest_after mtu f) ≡ complete_of f
-    rest_complete mtu f whole = grind (arith, common_steps)
-    rest_next : (mtu : ℕ) (f : Frame) (joined_next : Bool) → IsSplittable f → IsNextKept (rest_after mtu f) joined_next → IsNextKept f (next_of (first_fragment mtu f) || joined_next)
-    rest_next mtu f joined_next whole kept = grind (arith, common_steps, or_self)
-
 -- ---- the fragments, pushed
-
-answer_fits : (max_payload : ℕ) (held : Gathered) (f : Frame) (fs : List Frame) → size_of (join held (part_of f)).message ≤ max_payload
-    → answers (glue_with max_payload held) (f ∷ fs) ≡ Ok (glued_of (follows_of f) (join held (part_of f))) ∷ answers (glue_with max_payload (left_held (follows_of f) (join held (part_of f)))) fs
-answer_fits max_payload held f fs fits =
-    rw (lt-leb (suc max_payload) (size_of (join held (part_of f)).message) (omega arith))
 
 whole_follows : (f : Frame) → IsSplittable f → follows_of f ≡ false
 whole_follows f whole = grind (arith, common_steps)
@@ -127,36 +100,20 @@ abbrev Gives : ℕ → Gathered → List Frame → Type 0
 Gives max_payload held fs =
     (k : ℕ) × (length fs ≡ k + 1) × (answers (glue_with max_payload held) fs ≡ replicate k (Ok Part) ++ (Ok (glued_of false (join held (joined_of fs))) ∷ []))
 
-gives_one : (max_payload : ℕ) (held : Gathered) (f : Frame) → IsSplittable f → size_of (join_messages held.message (carried_by f)) ≤ max_payload → Gives max_payload held (f ∷ [])
-gives_one max_payload held f whole fits = (
-  0,
-  refl,
-  grind (arith, common_steps, nat_tests, join-nothing, whole_follows f whole),
-)
-
-gives_more : (max_payload mtu : ℕ) (f : Frame) (fs : List Frame) → IsLong mtu f
-    → ((held : Gathered) → size_of (join_messages held.message (carried_by (rest_after mtu f))) ≤ max_payload → Gives max_payload held fs)
-    → (held : Gathered) → size_of (join_messages held.message (carried_by f)) ≤ max_payload → Gives max_payload held (first_fragment mtu f ∷ fs)
-gives_more max_payload mtu f fs long rest held fits =
-    let first = part_of (first_fragment mtu f) in
-    let left = carried_by (rest_after mtu f) in
-    let whole : join_messages (join_messages held.message first.message) left ≡ join_messages held.message (carried_by f) =
-    messages_assoc held.message first.message left ∙ ap (λ m. join_messages held.message m) (cut_message mtu f long.whole) in
-    let all_fits : size_of (join_messages (join_messages held.message first.message) left) ≤ max_payload =
-    subst (λ m. size_of m ≤ max_payload) (sym whole) fits in
-    let first_fits : size_of (join held first).message ≤ max_payload =
-    omega (arith, size-join (join_messages held.message first.message) left) in
-    let gives = rest (join held first) all_fits in (
-      suc gives.0,
-      omega (arith, gives.1),
-      grind (arith, common_steps, nat_tests, first_follows mtu f long.whole, gives.2, join-assoc held first (joined_of fs)),
-    )
-
 split_gives : (f : Frame) (mtu max_payload : ℕ) → IsSplittable f → IsMtu mtu → (held : Gathered) → size_of (join_messages held.message (carried_by f)) ≤ max_payload → Gives max_payload held (split_of f mtu)
 split_gives f mtu max_payload whole limit =
     by_mtu (λ g gs. (held : Gathered) → size_of (join_messages held.message (carried_by g)) ≤ max_payload → Gives max_payload held gs) mtu limit
-    (λ g g_whole held fits. gives_one max_payload held g g_whole fits)
-    (λ g gs long rest held fits. gives_more max_payload mtu g gs long rest held fits)
+    (λ g g_whole held fits. (0, refl, grind (arith, common_steps, nat_tests, join-nothing, whole_follows g g_whole)))
+    (λ g gs long rest held fits.
+    let first = part_of (first_fragment mtu g) in
+    let all : join_messages (join_messages held.message first.message) (carried_by (rest_after mtu g)) ≡ join_messages held.message (carried_by g) =
+    messages_assoc held.message first.message (carried_by (rest_after mtu g)) ∙ ap (join_messages held.message) (cut_message mtu g long.whole) in
+    let size = size-join (join_messages held.message first.message) (carried_by (rest_after mtu g)) in
+    let gives = rest (join held first) (omega (arith, ap size_of all)) in (
+      suc gives.0,
+      omega (arith, gives.1),
+      grind (arith, common_steps, nat_tests, first_follows mtu g long.whole, gives.2, join-assoc held first (joined_of gs), ap size_of all, size),
+    ))
     f whole
 
 pub split_glued : (f : Frame) (mtu max_payload : ℕ) → IsSplittable f → IsMtu mtu → size_of (carried_by f) ≤ max_payload
@@ -168,23 +125,10 @@ split_glued f mtu max_payload whole limit fits =
 
 -- ---- one push, where it is taken
 
-with_frame : (glue : Holding) (follows : Bool) (message : Message) (complete next : Bool) (f : Frame) → IsPushOf f follows message complete next → grown glue message complete next ≡ join glue.held (part_of f)
-with_frame glue follows message complete next f part =
-    ap (λ h. join glue.held h) (same_gathered (record { message = message; complete = complete; next = next }) (part_of f) part.message_is part.complete_is part.next_is)
-
 pub taken : (old new : Holding) (follows : Bool) (message : Message) (complete next : Bool) (f : Frame) (fs : List Frame) → IsPushOf f follows message complete next
     → size_of (grown old message complete next).message ≤ old.max_payload → new.held ≡ left_held follows (grown old message complete next) → new.max_payload ≡ old.max_payload
     → answers old (f ∷ fs) ≡ Ok (glued_of follows (grown old message complete next)) ∷ answers new fs
 taken old new follows message complete next f fs part fits held limit =
-    let sum = join old.held (part_of f) in
-    let sum_is : grown old message complete next ≡ sum = with_frame old follows message complete next f part in
-    let inside : size_of sum.message ≤ old.max_payload = subst (λ (h : Gathered). size_of h.message ≤ old.max_payload) sum_is fits in
-    let after : new ≡ glue_with old.max_payload (left_held (follows_of f) sum) =
-    same_holding new (glue_with old.max_payload (left_held (follows_of f) sum)) limit (held ∙ ap (λ v. left_held v (grown old message complete next)) part.follows_is ∙ ap (left_held (follows_of f)) sum_is) in
-    answer_fits old.max_payload old.held f fs inside
-    ∙ ap (λ h. Ok (glued_of (follows_of f) sum) ∷ answers h fs) (sym after)
-    ∙ ap (λ v. Ok (glued_of v sum) ∷ answers new fs) (sym part.follows_is)
-    ∙ ap (λ h. Ok (glued_of follows h) ∷ answers new fs) (sym sum_is)
-  where
-    same_holding : (a b : Holding) → a.max_payload ≡ b.max_payload → a.held ≡ b.held → a ≡ b
-    same_holding a b limit held = ap (λ n. record a { max_payload = n }) limit ∙ ap (λ h. record b { held = h }) held
+    let after : new ≡ glue_with old.max_payload (left_held follows (grown old message complete next)) =
+    ap (λ n. record new { max_payload = n }) limit ∙ ap (glue_with old.max_payload) held in
+    grind (arith, common_steps, nat_tests, after, part.message_is, part.complete_is, part.next_is, part.follows_is)
