@@ -1,5 +1,5 @@
 -- One cut: how long the first fragment and the rest are, and that both can be spelled.
-use Rattle.std.proofs.Common.{◌≡◌, ◌<◌, ◌≤◌, ◌^◌, ℕ, ◌+◌, ◌-◌, Bool, true, false, List, ◌++◌, length, take, drop, Option, refl, arith, length-append, length-drop, leb}
+use Rattle.std.proofs.Common.{◌≡◌, ◌<◌, ◌≤◌, ◌^◌, ℕ, ◌+◌, ◌-◌, Bool, false, List, ◌++◌, length, take, drop, Option, arith, length-append, length-drop}
 use Rattle.std.specs.Prelude.{Some, None, IfSome}
 use Rattle.std.specs.Option.{option_map}
 use Rattle.std.proofs.lemmas.Grind.{common_steps}
@@ -7,12 +7,11 @@ use Rattle.std.proofs.lemmas.List.{length-take}
 use Rattle.std.proofs.lemmas.Bool.Decides.{nat_tests}
 use Rattle.rs_wire.specs.declared.message.Message.{Message}
 use Rattle.rs_wire.specs.declared.words.Kind.{Kind}
-use Rattle.rs_wire.specs.declared.words.Kind.TheVariants as kinds
 use Rattle.rs_frame.specs.declared.frame.Frame.{Frame}
 use Rattle.rs_frame.specs.declared.frame.Frame.TheVariants as frames
 use Rattle.rs_frame.specs.declared.frame.Request.{Request}
 use Rattle.rs_frame.specs.Spelling.{length_of, if_there, number_there, payload, IsSpellable, InitialFits}
-use Rattle.fragment.specs.Splitting.{IsSplittable, carried_by, field_length, first_part, left_part, left_metadata, room_of, first_fragment, rest_after}
+use Rattle.fragment.specs.Splitting.{IsSplittable, carried_by, field_length, left_metadata, room_of, first_fragment, rest_after}
 
 -- how many bytes a message takes in a frame
 abbrev pub carried_length : Message → ℕ

@@ -1,21 +1,18 @@
 -- Joining the fragments of a frame.
-use Rattle.std.proofs.Common.{◌≡◌, ◌≤◌, ℕ, suc, ◌+◌, ◌-◌, Bool, true, false, List, [], ◌∷◌, ◌++◌, length, take, drop, Option, Ok, refl, ap, sym, subst, ◌∙◌, arith, append_assoc, length-append, leb}
-use Rattle.std.specs.Prelude.{Some, None, map, replicate, ◌||◌}
-use Rattle.std.specs.Option.{option_map}
+use Rattle.std.proofs.Common.{◌≡◌, ◌≤◌, ℕ, suc, ◌+◌, ◌-◌, Bool, false, List, [], ◌∷◌, ◌++◌, length, Ok, refl, ap, sym, ◌∙◌, arith, append_assoc, length-append}
+use Rattle.std.specs.Prelude.{map, replicate, ◌||◌}
 use Rattle.std.proofs.lemmas.Grind.{common_steps}
 use Rattle.std.proofs.lemmas.Bool.Decides.{nat_tests}
 use Rattle.std.proofs.Math.Bool.{or_assoc, or_self, or-false}
-use Rattle.std.proofs.lemmas.Bool.{lt-leb, leb-true}
 use Rattle.std.proofs.lemmas.List.{take-append-drop, take_all, append-nil}
 use Rattle.rs_wire.specs.declared.message.Message.{Message}
-use Rattle.rs_wire.specs.Message.{size_of, option_length}
+use Rattle.rs_wire.specs.Message.{size_of}
 use Rattle.rs_frame.specs.declared.frame.Frame.{Frame}
-use Rattle.rs_frame.specs.declared.frame.Frame.TheVariants as frames
+use Rattle.rs_frame.specs.Spelling.{length_of}
 use Rattle.fragment.specs.declared.glue.Glued.TheVariants.{Part, Whole}
-use Rattle.fragment.specs.Splitting.{IsSplittable, field_length, IsMtu, IsNextKept, carried_by, follows_of, complete_of, next_of, first_part, left_part, left_metadata, room_of, first_fragment, rest_after, split_of}
-use Rattle.fragment.specs.Joining.{Gathered, Holding, nothing, empty_glue, join_metadata, join_messages, join, joined, grown, part_of, glued_of, left_held, answers, IsPushOf}
-use Rattle.fragment.proofs.Cuts.{IsLong}
-use Rattle.fragment.proofs.Splits.{by_mtu}
+use Rattle.fragment.specs.Splitting.{IsSplittable, field_length, IsMtu, IsNextKept, carried_by, follows_of, complete_of, first_part, left_part, room_of, first_fragment, rest_after, split_of}
+use Rattle.fragment.specs.Joining.{Gathered, Holding, nothing, empty_glue, join_messages, join, joined, grown, part_of, glued_of, left_held, answers, IsPushOf}
+use Rattle.fragment.proofs.Splits.{by_cuts, first_flags}
 
 -- ---- joining has a unit, is associative, and adds the sizes
 
@@ -75,8 +72,8 @@ pub record IsJoined (f : Frame) (gs : List Frame) : Type 0 where
 
 pub split_joined : (f : Frame) (mtu : ℕ) → IsSplittable f → IsMtu mtu → IsJoined f (split_of f mtu)
 split_joined f mtu whole limit =
-    by_mtu IsJoined mtu limit
-    (λ g g_whole. record {
+    by_cuts IsJoined mtu limit.1
+    (λ g g_whole fits. record {
       message = ap (λ (h : Gathered). h.message) (join-nothing (part_of g));
       complete = or-false (complete_of g);
       next = grind (arith, common_steps, or-false);
@@ -86,14 +83,11 @@ split_joined f mtu whole limit =
       complete = ap (λ c. complete_of (first_fragment mtu g) || c) rest.complete ∙ grind (arith, common_steps, long.whole);
       next = grind (arith, common_steps, or_self, long.whole, rest.next);
     })
-    f whole
+    (length_of f) f (omega arith) whole
 -- ---- the fragments, pushed
 
 whole_follows : (f : Frame) → IsSplittable f → follows_of f ≡ false
 whole_follows f whole = grind (arith, common_steps)
-
-first_follows : (mtu : ℕ) (f : Frame) → IsSplittable f → follows_of (first_fragment mtu f) ≡ true
-first_follows mtu f whole = grind (arith, common_steps)
 
 -- each but the last gives Part, and the last gives what was held and all of them, joined
 abbrev Gives : ℕ → Gathered → List Frame → Type 0
@@ -102,8 +96,8 @@ Gives max_payload held fs =
 
 split_gives : (f : Frame) (mtu max_payload : ℕ) → IsSplittable f → IsMtu mtu → (held : Gathered) → size_of (join_messages held.message (carried_by f)) ≤ max_payload → Gives max_payload held (split_of f mtu)
 split_gives f mtu max_payload whole limit =
-    by_mtu (λ g gs. (held : Gathered) → size_of (join_messages held.message (carried_by g)) ≤ max_payload → Gives max_payload held gs) mtu limit
-    (λ g g_whole held fits. (0, refl, grind (arith, common_steps, nat_tests, join-nothing, whole_follows g g_whole)))
+    by_cuts (λ g gs. (held : Gathered) → size_of (join_messages held.message (carried_by g)) ≤ max_payload → Gives max_payload held gs) mtu limit.1
+    (λ g g_whole alone held fits. (0, refl, grind (arith, common_steps, nat_tests, join-nothing, whole_follows g g_whole)))
     (λ g gs long rest held fits.
     let first = part_of (first_fragment mtu g) in
     let all : join_messages (join_messages held.message first.message) (carried_by (rest_after mtu g)) ≡ join_messages held.message (carried_by g) =
@@ -112,9 +106,9 @@ split_gives f mtu max_payload whole limit =
     let gives = rest (join held first) (omega (arith, ap size_of all)) in (
       suc gives.0,
       omega (arith, gives.1),
-      grind (arith, common_steps, nat_tests, first_follows mtu g long.whole, gives.2, join-assoc held first (joined_of gs), ap size_of all, size),
+      grind (arith, common_steps, nat_tests, first_flags mtu g long.whole, gives.2, join-assoc held first (joined_of gs), ap size_of all, size),
     ))
-    f whole
+    (length_of f) f (omega arith) whole
 
 pub split_glued : (f : Frame) (mtu max_payload : ℕ) → IsSplittable f → IsMtu mtu → size_of (carried_by f) ≤ max_payload
     → (k : ℕ) × (next : Bool) × (length (split_of f mtu) ≡ k + 1) × IsNextKept f next × (answers (empty_glue max_payload) (split_of f mtu) ≡ replicate k (Ok Part) ++ (Ok (Whole (carried_by f) (complete_of f) next) ∷ []))
