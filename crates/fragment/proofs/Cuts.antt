@@ -1,16 +1,14 @@
 -- One cut: how long the first fragment and the rest are, and that both can be spelled.
-use Rattle.std.proofs.Common.{◌≡◌, ◌<◌, ◌≤◌, ◌^◌, ℕ, ◌+◌, ◌-◌, Bool, false, List, ◌++◌, length, take, drop, Option, arith, length-append, length-drop}
-use Rattle.std.specs.Prelude.{Some, None, IfSome}
+use Rattle.std.proofs.Common.{◌≡◌, ◌<◌, ◌≤◌, ℕ, ◌+◌, ◌-◌, Bool, List, ◌++◌, length, take, drop, Option, arith, length-append, length-drop}
 use Rattle.std.specs.Option.{option_map}
 use Rattle.std.proofs.lemmas.Grind.{common_steps}
 use Rattle.std.proofs.lemmas.List.{length-take}
 use Rattle.std.proofs.lemmas.Bool.Decides.{nat_tests}
 use Rattle.rs_wire.specs.declared.message.Message.{Message}
-use Rattle.rs_wire.specs.declared.words.Kind.{Kind}
 use Rattle.rs_frame.specs.declared.frame.Frame.{Frame}
 use Rattle.rs_frame.specs.declared.frame.Frame.TheVariants as frames
 use Rattle.rs_frame.specs.declared.frame.Request.{Request}
-use Rattle.rs_frame.specs.Spelling.{length_of, if_there, number_there, payload, IsSpellable, InitialFits}
+use Rattle.rs_frame.specs.Spelling.{length_of, if_there, number_there, payload, IsSpellable}
 use Rattle.fragment.specs.Splitting.{IsSplittable, carried_by, field_length, left_metadata, room_of, first_fragment, rest_after}
 
 -- how many bytes a message takes in a frame
@@ -40,16 +38,10 @@ part_full : (room : ℕ) (md : Option (List ℕ)) (content : List ℕ) → 3 ≤
     → field_length (option_map (take (room - 3)) md) + length (take (room - field_length md) content) ≡ room
 part_full room md content low over = grind (arith, length-take)
 
-left_field : (n : ℕ) (bytes : List ℕ) → field_length (left_metadata n (Some bytes)) ≤ 3 + length bytes - n
-left_field n bytes =
-    grind (arith, common_steps, nat_tests, length-drop)
-
 -- what is left is shorter by the room but for the metadata's length
 part_left : (room : ℕ) (md : Option (List ℕ)) (content : List ℕ) → 3 ≤ room → room < field_length md + length content
     → field_length (left_metadata (room - 3) md) + length (drop (room - field_length md) content) + (room - 3) ≤ field_length md + length content
-part_left room None content low over = omega (arith, length-drop (room - 0) content)
-part_left room (Some bytes) content low over =
-    omega (arith, length-drop (room - (3 + length bytes)) content, left_field (room - 3) bytes)
+part_left room md content low over = grind (arith, nat_tests, length-drop)
 
 pub first_length : (mtu : ℕ) (f : Frame) → IsLong mtu f → length_of (first_fragment mtu f) ≡ mtu
 first_length mtu f long =
@@ -62,26 +54,14 @@ rest_length mtu f long =
 pub rest_whole : (mtu : ℕ) (f : Frame) → IsSplittable f → IsSplittable (rest_after mtu f)
 rest_whole mtu f whole = grind (arith, common_steps)
 
--- a request that is not complete has the same initial number
-initial_first : (kind : Kind) (initial : Option ℕ) (complete : Bool) → InitialFits kind initial complete → InitialFits kind initial false
-initial_first kind initial complete fits = grind (arith, common_steps)
-
-metadata_first : (n : ℕ) (md : Option (List ℕ)) → IfSome md (λ bytes. length bytes < 2 ^ 24) → IfSome (option_map (take n) md) (λ bytes. length bytes < 2 ^ 24)
-metadata_first n md fits = grind (arith, common_steps, length-take)
-
-metadata_left : (n : ℕ) (md : Option (List ℕ)) → IfSome md (λ bytes. length bytes < 2 ^ 24) → IfSome (left_metadata n md) (λ bytes. length bytes < 2 ^ 24)
-metadata_left n None fits = fits
-metadata_left n (Some bytes) fits =
-    grind (arith, common_steps, nat_tests, length-drop)
-
 pub first_spellable : (mtu : ℕ) (f : Frame) → IsLong mtu f → IsSpellable f → IsSpellable (first_fragment mtu f)
 first_spellable mtu f long spellable = record {
-  fields = grind (arith, common_steps, initial_first, metadata_first, spellable.fields, long.whole);
+  fields = grind (arith, common_steps, length-take, spellable.fields, long.whole);
   short = omega (arith, first_length mtu f long, spellable.short, long.longer);
 }
 
 pub rest_spellable : (mtu : ℕ) (f : Frame) → IsLong mtu f → IsSpellable f → IsSpellable (rest_after mtu f)
 rest_spellable mtu f long spellable = record {
-  fields = grind (arith, common_steps, metadata_left, spellable.fields, long.whole);
+  fields = grind (arith, common_steps, nat_tests, length-drop, spellable.fields, long.whole);
   short = omega (arith, rest_length mtu f long, spellable.short);
 }

@@ -1,4 +1,4 @@
-use Rattle.std.proofs.Common.{◌≡◌, ◌<◌, ◌≤◌, [], ◌∷◌, sym, append_assoc, arith, subst}
+use Rattle.std.proofs.Common.{◌≡◌, ◌≤◌, [], ◌∷◌, sym, append_assoc, arith, subst}
 use Rattle.std.proofs.lemmas.Grind.{common_steps}
 use Rattle.std.specs.Prelude.{All}
 use Rattle.rs_frame.specs.Spelling.{IsSpellable, length_of}
@@ -16,7 +16,7 @@ loop-rest-smaller c =
       least = c.requires.limit.1 (omega arith);
       longer = omega arith;
     } in
-    subst (λ g. length_of g < length_of (frame_in c.loop-rest.rest)) (sym c.after-rest.ensures) (rest_length c.args.mtu (frame_in c.loop-rest.rest) long)
+    grind (arith, common_steps, c.after-rest.ensures, rest_length c.args.mtu (frame_in c.loop-rest.rest) long)
 
 pub loop-rest-preserved : goal.loop-rest-preserved
 loop-rest-preserved c =
