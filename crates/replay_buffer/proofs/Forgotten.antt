@@ -1,8 +1,9 @@
 -- Forgetting frame by frame comes to what is left in the end.
-use Rattle.std.proofs.Common.{◌≡◌, ℕ, ◌+◌, ◌-◌, ◌<◌, ◌≤◌, inl, inr, List, [], ◌∷◌, length, take, drop, refl, sym, ap, ◌∙◌, arith}
-use Rattle.std.proofs.lemmas.Bool.{cases_lt}
+use Rattle.std.proofs.Common.{◌≡◌, ℕ, ◌+◌, ◌-◌, ◌<◌, ◌≤◌, List, [], ◌∷◌, length, take, drop, refl, sym, ap, ◌∙◌, arith}
+use Rattle.std.proofs.lemmas.Grind.{common_steps}
+use Rattle.std.proofs.lemmas.Bool.Decides.{nat_tests}
 use Rattle.position.specs.Boundaries.{pos_by, acked_by, least_boundary_by, frames_from_by}
-use Rattle.position.proofs.Boundaries.{acked-in, acked-out, acked-at_most, least-zero, least-in, from-zero, from-in}
+use Rattle.position.proofs.Boundaries.{acked-in, acked-at_most, least-zero, least-in, from-zero, from-in}
 use Rattle.replay_buffer.specs.Held.{Held, Buffer, end_of, without_first, from_least, from_acked, without_oldest, OldestEndsBy}
 use Rattle.replay_buffer.proofs.Boundaries.{pos-one}
 
@@ -59,18 +60,12 @@ acked_step h position past rises =
     ∙ ap (λ l. length o.0 + acked_by length (drop 1 l) (position - (h.first + pos_by length (take 1 h.frames)))) (sym o.2))
 
 pub acked_done : (h : Held) (position : ℕ) → (OldestEndsBy h position → ⊥) → from_acked h position ≡ h
-unfolding acked_by
+unfolding acked_by pos_by
 acked_done h position done = nothing_more h (acked_by length h.frames (position - h.first)) (none h.first h.frames (λ some past. done (some, past)))
   where
     none : (at : ℕ) (fs : List (List ℕ)) → (0 < length fs → at + pos_by length (take 1 fs) ≤ position → ⊥) → acked_by length fs (position - at) ≡ 0
     none at [] stays = refl
-    none at (f ∷ fs) stays = elim (cases_lt position at) [
-      | inl below ↦ omega (arith, acked-at_most length (f ∷ fs) (position - at))
-      | inr from ↦ elim (cases_lt (position - at) (length f)) [
-        | inl short ↦ acked-out length f fs (position - at) short
-        | inr past ↦ absurd (stays (omega arith) (omega (arith, pos-one f fs)))
-      ]
-    ]
+    none at (f ∷ fs) stays = grind (arith, common_steps, nat_tests, stays, acked-at_most length fs (position - at - length f))
 
 -- what a loop that forgets frames keeps, where `left` is what it comes to
 pub record IsOnTheWay (left : Held → Held) (old now : Buffer) : Type 0 where
@@ -81,8 +76,4 @@ pub record IsOnTheWay (left : Held → Held) (old now : Buffer) : Type 0 where
 -- a frame is held where the newest one ends above the first
 pub some_held : (h : Held) → h.first < end_of h → 0 < length h.frames
 unfolding pos_by
-some_held h below = some h.frames (omega arith)
-  where
-    some : (fs : List (List ℕ)) → 0 < pos_by length fs → 0 < length fs
-    some [] above = absurd (omega arith)
-    some (f ∷ fs) above = omega arith
+some_held h below = grind (arith, common_steps)

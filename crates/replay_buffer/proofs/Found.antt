@@ -1,5 +1,5 @@
 -- Boundaries that are looked up among the ends.
-use Rattle.std.proofs.Common.{◌≡◌, ℕ, zero, suc, ◌+◌, ◌-◌, ◌*◌, ◌<◌, ◌≤◌, List, [], ◌∷◌, ◌++◌, length, take, drop, get_or, inl, inr, refl, sym, ap, subst, ◌∙◌, add-zero, arith}
+use Rattle.std.proofs.Common.{◌≡◌, ℕ, zero, suc, ◌+◌, ◌-◌, ◌*◌, ◌<◌, ◌≤◌, List, [], ◌∷◌, ◌++◌, length, take, drop, get_or, refl, sym, ap, subst, ◌∙◌, add-zero, arith}
 use Rattle.std.specs.Prelude.{Result, Ok, Err, MatchResult, IsTrue, is_ok}
 use Rattle.std.specs.Ordering.{nat_cmp}
 use Rattle.std.specs.List.{AllByRecursion, flat_map}
@@ -7,33 +7,26 @@ use Rattle.std.specs.List.Sorted.{IsNonDecreasing, IsBinarySearchResult}
 use Rattle.std.proofs.lemmas.List.{drop_at, length-take-le, take-append-drop, take_all}
 use Rattle.std.proofs.lemmas.List.Concat.{flat_map-append}
 use Rattle.std.proofs.lemmas.List.Sorted.{IsNonDecreasingBy-from_default, searched}
-use Rattle.std.proofs.lemmas.Bool.{cases_lt}
 use Rattle.rs_frame.specs.Framed.{framed}
 use Rattle.position.specs.Boundaries.{pos_by, frames_from_by}
 use Rattle.replay_buffer.specs.Held.{Held, IsHeldBoundary, framed_from}
 use Rattle.replay_buffer.specs.Storage.{ends_of, Stores}
-use Rattle.replay_buffer.proofs.Boundaries.{pos-cons, pos-one, rising, rising_more, from-taken, ends_at}
+use Rattle.replay_buffer.proofs.Boundaries.{rising, rising_more, from-taken, ends_at}
 use Rattle.replay_buffer.proofs.Stored.{length-framed_all}
 
 pub length-ends_of : (at : ℕ) (fs : List (List ℕ)) → length (ends_of at fs) ≡ length fs
 length-ends_of at [] = refl
 length-ends_of at (f ∷ fs) = omega (arith, length-ends_of (at + length f) fs)
 
-pub get_or-ends_of : (at : ℕ) (fs : List (List ℕ)) (k : ℕ) → k < length fs → get_or (ends_of at fs) k 0 ≡ at + pos_by length (take (k + 1) fs)
+get_or-ends_of : (at : ℕ) (fs : List (List ℕ)) (k : ℕ) → k < length fs → get_or (ends_of at fs) k 0 ≡ at + pos_by length (take (suc k) fs)
+unfolding pos_by
 get_or-ends_of at [] k lt = absurd (omega arith)
-get_or-ends_of at (f ∷ fs) zero lt =
-    let one : pos_by length (take (0 + 1) (f ∷ fs)) ≡ length f = omega (arith, pos-one f fs) in
-    omega (arith, one)
-get_or-ends_of at (f ∷ fs) (suc k) lt =
-    let next : suc k + 1 ≡ suc (k + 1) = omega arith in
-    let after : pos_by length (take (suc k + 1) (f ∷ fs)) ≡ length f + pos_by length (take (k + 1) fs) = ap (λ n. pos_by length (take n (f ∷ fs))) next ∙ pos-cons f (take (k + 1) fs) in
-    let others : get_or (ends_of (at + length f) fs) k 0 ≡ at + length f + pos_by length (take (k + 1) fs) = get_or-ends_of (at + length f) fs k (omega arith) in
-    omega (arith, after, others)
+get_or-ends_of at (f ∷ fs) zero lt = omega arith
+get_or-ends_of at (f ∷ fs) (suc k) lt = omega (arith, get_or-ends_of (at + length f) fs k (omega arith))
 
 pub ends_rise : (at : ℕ) (fs : List (List ℕ)) (i j : ℕ) → i ≤ j → j < length (ends_of at fs) → get_or (ends_of at fs) i 0 ≤ get_or (ends_of at fs) j 0
 ends_rise at fs i j le lt =
-    let short : j < length fs = omega (arith, length-ends_of at fs) in
-    omega (arith, get_or-ends_of at fs i (omega arith), get_or-ends_of at fs j short, rising fs (i + 1) (j + 1) (omega arith))
+    omega (arith, length-ends_of at fs, get_or-ends_of at fs i (omega (arith, length-ends_of at fs)), get_or-ends_of at fs j (omega (arith, length-ends_of at fs)), rising fs (suc i) (suc j) (omega arith))
 
 pub ends_non_decreasing : (at : ℕ) (ends bytes : List ℕ) (fs : List (List ℕ)) → Stores at ends bytes fs → IsNonDecreasing ends
 ends_non_decreasing at ends bytes fs s = rw s.ends_are (IsNonDecreasingBy-from_default (λ x. x) (ends_of at fs) 0 (ends_rise at fs))
@@ -43,20 +36,14 @@ missed : (at position : ℕ) (fs : List (List ℕ)) (i k : ℕ) → (position �
 unfolding pos_by
 missed at position fs i zero other below above le is = other (is ∙ add-zero at)
 missed at position fs i (suc k) other below above le is =
-    let next : k + 1 ≡ suc k = omega arith in
-    let here : get_or (ends_of at fs) k 0 ≡ position = get_or-ends_of at fs k (omega arith) ∙ ap (λ n. at + pos_by length (take n fs)) next ∙ sym is in
-    elim (cases_lt k i) [
-      | inl before ↦ omega (arith, here, below k before)
-      | inr after ↦ omega (arith, here, above k after (omega (arith, length-ends_of at fs)))
-    ]
+    grind (arith, get_or-ends_of at fs k (omega arith), below k, above k, length-ends_of at fs)
 
 found : (h : Held) (position : ℕ) (r : Result ℕ ℕ) → (position ≡ h.first → ⊥)
     → MatchResult r (λ i. (i < length (ends_of h.first h.frames)) × (get_or (ends_of h.first h.frames) i 0 ≡ position)) (λ i. (i ≤ length (ends_of h.first h.frames)) × ((k : ℕ) → k < i → get_or (ends_of h.first h.frames) k 0 < position) × ((k : ℕ) → i ≤ k → k < length (ends_of h.first h.frames) → position < get_or (ends_of h.first h.frames) k 0))
     → (IsTrue (is_ok r) → IsHeldBoundary h position) × (IsHeldBoundary h position → IsTrue (is_ok r))
 found h position (Ok i) other (lt, is) =
-    let short : i < length h.frames = omega (arith, length-ends_of h.first h.frames) in
-    let here : position ≡ h.first + pos_by length (take (i + 1) h.frames) = sym is ∙ get_or-ends_of h.first h.frames i short in
-    (λ _. (omega (arith, here), (i + 1, omega (arith, here))), λ _. refl)
+    let here : get_or (ends_of h.first h.frames) i 0 ≡ h.first + pos_by length (take (suc i) h.frames) = get_or-ends_of h.first h.frames i (omega (arith, length-ends_of h.first h.frames)) in
+    (λ _. (omega (arith, here), (suc i, omega (arith, here))), λ _. refl)
 found h position (Err i) other (le, below, above) =
     (λ t. absurd (cc t), λ b. let e = ends_at h position b in absurd (missed h.first position h.frames i e.0 other below above e.1.within e.1.is))
 
@@ -70,13 +57,7 @@ boundary_found h position ends bytes r s other search_is =
 -- the number of ends up to a boundary is the number of frames before it
 counted : (at from : ℕ) (fs : List (List ℕ)) (k m : ℕ) → AllByRecursion (λ f. 6 ≤ length f) fs → k ≤ length fs → ((j : ℕ) → j < k → get_or (ends_of at fs) j 0 ≤ from) → ((j : ℕ) → k ≤ j → j < length fs → from < get_or (ends_of at fs) j 0) → m ≤ length fs → from ≡ at + pos_by length (take m fs) → k ≡ m
 counted at from fs k m all le within after m_le is =
-    elim (cases_lt m k) [
-      | inl more ↦ absurd (omega (arith, within m more, get_or-ends_of at fs m (omega arith), rising_more fs m (m + 1) all (omega arith) (omega arith)))
-      | inr up_to ↦ elim (cases_lt k m) [
-        | inl less ↦ absurd (omega (arith, after k (omega arith) (omega arith), get_or-ends_of at fs k (omega arith), rising fs (k + 1) m (omega arith)))
-        | inr down_to ↦ omega arith
-      ]
-    ]
+    grind (arith, within m, after k, get_or-ends_of at fs m, get_or-ends_of at fs k, rising_more fs m all, rising fs (suc k) m)
 
 framed_all-drop : (fs : List (List ℕ)) (m : ℕ) → m ≤ length fs → drop (pos_by length (take m fs) + 3 * m) (flat_map framed fs) ≡ flat_map framed (drop m fs)
 framed_all-drop fs m le =

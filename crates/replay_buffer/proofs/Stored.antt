@@ -1,6 +1,7 @@
 -- The fields hold the list of frames: reading, appending and dropping.
 use Rattle.std.proofs.Common.{◌≡◌, ℕ, ◌+◌, ◌-◌, ◌*◌, ◌≤◌, List, [], ◌∷◌, ◌++◌, length, take, drop, refl, sym, ap, ◌∙◌, append_assoc, arith}
 use Rattle.std.specs.List.{AllByRecursion, flat_map}
+use Rattle.std.proofs.lemmas.Grind.{common_steps}
 use Rattle.std.proofs.lemmas.List.{length-append, take_at, drop_at, append-nil}
 use Rattle.std.proofs.lemmas.List.Concat.{flat_map-append, flat_map-cons}
 use Rattle.byteorder.specs.Endian.{big_bytes}
@@ -25,7 +26,7 @@ framed_all-push fs f = flat_map-append framed fs (f ∷ []) ∙ ap (λ t. flat_m
 pub length-framed_all : (fs : List (List ℕ)) → length (flat_map framed fs) ≡ pos_by length fs + 3 * length fs
 unfolding pos_by
 length-framed_all [] = refl
-length-framed_all (f ∷ fs) = omega (arith, ap length (framed_all-cons f fs), length-append (framed f) (flat_map framed fs), length-framed f, pos-cons f fs, length-framed_all fs)
+length-framed_all (f ∷ fs) = grind (arith, common_steps, length-framed f, length-framed_all fs)
 
 -- the first frame is cut out of the bytes
 take_first : (f rest : List ℕ) (n : ℕ) → n ≡ length f → take n (drop 3 (framed f ++ rest)) ≡ f
@@ -56,12 +57,8 @@ all_push P (y ∷ xs) x all one = (all.0, all_push P xs x all.1 one)
 
 ends_of-push : (at : ℕ) (fs : List (List ℕ)) (f : List ℕ) → ends_of at (fs ++ f ∷ []) ≡ ends_of at fs ++ (at + pos_by length fs + length f) ∷ []
 unfolding pos_by
-ends_of-push at [] f =
-    let same : at + length f ≡ at + pos_by (length {A = ℕ}) [] + length f = omega arith in
-    ap (λ n. n ∷ []) same
-ends_of-push at (g ∷ fs) f =
-    let same : (at + length g) + pos_by length fs + length f ≡ at + pos_by length (g ∷ fs) + length f = omega (arith, pos-cons g fs) in
-    ap (λ t. (at + length g) ∷ t) (ends_of-push (at + length g) fs f ∙ ap (λ n. ends_of (at + length g) fs ++ n ∷ []) same)
+ends_of-push at [] f = grind (arith, common_steps)
+ends_of-push at (g ∷ fs) f = grind (arith, common_steps, ends_of-push (at + length g) fs f)
 
 Stores-push : (at end : ℕ) (ends bytes : List ℕ) (fs : List (List ℕ)) (f : List ℕ) → Stores at ends bytes fs → 6 ≤ length f → end ≡ at + pos_by length fs + length f → Stores at (ends ++ end ∷ []) (bytes ++ framed f) (fs ++ f ∷ [])
 Stores-push at end ends bytes fs f s long is = record {
