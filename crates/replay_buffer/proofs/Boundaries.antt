@@ -1,10 +1,10 @@
 -- Where frames end: boundaries rise, and the frames from one on are those after it.
 use Rattle.std.proofs.Common.{◌≡◌, ℕ, zero, suc, ◌+◌, ◌<◌, ◌≤◌, min, List, [], ◌∷◌, length, take, drop, refl, ap, arith}
 use Rattle.std.specs.List.{AllByRecursion}
-use Rattle.std.proofs.lemmas.List.{take_min}
+use Rattle.std.proofs.lemmas.List.{take_min, take-take}
 use Rattle.std.proofs.lemmas.Grind.{common_steps}
 use Rattle.position.specs.Boundaries.{pos_by, frames_from_by}
-use Rattle.position.proofs.Boundaries.{from-zero, from-in}
+use Rattle.position.proofs.Boundaries.{boundary-le, from-zero, from-in}
 use Rattle.replay_buffer.specs.Held.{Held, IsHeldBoundary}
 
 pub pos-cons : (f : List ℕ) (fs : List (List ℕ)) → pos_by length (f ∷ fs) ≡ length f + pos_by length fs
@@ -17,10 +17,7 @@ pos-one f fs = omega arith
 
 pub rising : (fs : List (List ℕ)) (i j : ℕ) → i ≤ j → pos_by length (take i fs) ≤ pos_by length (take j fs)
 unfolding pos_by
-rising fs zero j le = omega arith
-rising fs (suc i) zero le = absurd (omega arith)
-rising [] (suc i) (suc j) le = omega arith
-rising (f ∷ fs) (suc i) (suc j) le = omega (arith, rising fs i j (omega arith))
+rising fs i j le = boundary-le length (take j fs) (pos_by length (take i fs)) (i, ap (pos_by length) (take-take i j fs le))
 
 -- frames that are not empty end above where they start
 pub rising_more : (fs : List (List ℕ)) (i : ℕ) → AllByRecursion (λ f. 6 ≤ length f) fs → i < length fs → pos_by length (take i fs) < pos_by length (take (suc i) fs)
