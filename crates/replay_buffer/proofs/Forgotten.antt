@@ -1,5 +1,5 @@
 -- Forgetting frame by frame comes to what is left in the end.
-use Rattle.std.proofs.Common.{◌≡◌, ℕ, ◌+◌, ◌-◌, ◌<◌, ◌≤◌, List, [], ◌∷◌, length, take, drop, refl, sym, ap, ◌∙◌, arith}
+use Rattle.std.proofs.Common.{◌≡◌, ℕ, ◌+◌, ◌-◌, ◌<◌, ◌≤◌, List, [], ◌∷◌, length, take, refl, ap, ◌∙◌, arith}
 use Rattle.std.proofs.lemmas.Grind.{common_steps}
 use Rattle.std.proofs.lemmas.Bool.Decides.{nat_tests}
 use Rattle.position.specs.Boundaries.{pos_by, acked_by, least_boundary_by, frames_from_by}
@@ -12,52 +12,33 @@ same_held h g first frames hold =
     ap (λ n. record h { first = n }) first ∙ ap (λ fs. record h { first = g.first; frames = fs }) frames ∙ ap (λ n. record g { hold = n }) hold
 
 -- what is left of the frames after the oldest one is what is left of all
-without_more : (h : Held) (n m : ℕ) (f : List ℕ) (fs : List (List ℕ)) → h.frames ≡ f ∷ fs → 0 < length f → n ≡ length f + m → without_first (without_oldest h) m ≡ without_first h n
-without_more h n m f fs frames some is =
-    let left : n - length f ≡ m = omega (arith, is) in
-    let one : pos_by length (take 1 h.frames) ≡ length f = ap (λ l. pos_by length (take 1 l)) frames ∙ pos-one f fs in
-    let rest : drop 1 h.frames ≡ fs = ap (drop 1) frames in
-    same_held (without_first (without_oldest h) m) (without_first h n)
-    (omega (arith, is, one))
-    (ap (λ l. frames_from_by length l m) rest ∙ ap (frames_from_by length fs) (sym left) ∙ sym (ap (λ l. frames_from_by length l n) frames ∙ from-in length f fs n (omega (arith, is))))
-    refl
-
--- a frame is the oldest one
-oldest : (fs : List (List ℕ)) → 0 < length fs → (f : List ℕ) × (rest : List (List ℕ)) × (fs ≡ f ∷ rest)
-oldest [] some = absurd (omega arith)
-oldest (f ∷ fs) some = (f, fs, refl)
+without_more : (at hold m : ℕ) (f : List ℕ) (fs : List (List ℕ)) → 0 < length f
+    → without_first (without_oldest (record { first = at; frames = f ∷ fs; hold = hold })) m ≡ without_first (record { first = at; frames = f ∷ fs; hold = hold }) (length f + m)
+without_more at hold m f fs some =
+    let left : (length f + m) - length f ≡ m = omega arith in
+    same_held _ _ (omega (arith, pos-one f fs)) (cc (left, from-in length f fs (length f + m) (omega arith))) refl
 
 nothing_more : (h : Held) (n : ℕ) → n ≡ 0 → without_first h n ≡ h
 nothing_more h n none = same_held (without_first h n) h (omega (arith, none)) (ap (frames_from_by length h.frames) none ∙ from-zero length h.frames) refl
 
-pub least_step : (h : Held) (low : ℕ) → h.first < low → 0 < length h.frames → h.first < (without_oldest h).first → from_least (without_oldest h) low ≡ from_least h low
-least_step h low below some rises =
-    let o = oldest h.frames some in
-    let one : pos_by length (take 1 h.frames) ≡ length o.0 = ap (λ l. pos_by length (take 1 l)) o.2 ∙ pos-one o.0 o.1 in
-    let further : low - (h.first + pos_by length (take 1 h.frames)) ≡ (low - h.first) - length o.0 = omega (arith, one) in
-    without_more h (least_boundary_by length h.frames (low - h.first)) (least_boundary_by length (drop 1 h.frames) (low - (h.first + pos_by length (take 1 h.frames)))) o.0 o.1 o.2
-    (omega (arith, rises, one))
-    (ap (λ l. least_boundary_by length l (low - h.first)) o.2
-    ∙ least-in length o.0 o.1 (low - h.first) (omega arith)
-    ∙ ap (λ n. length o.0 + least_boundary_by length o.1 n) (sym further)
-    ∙ ap (λ l. length o.0 + least_boundary_by length (drop 1 l) (low - (h.first + pos_by length (take 1 h.frames)))) (sym o.2))
+pub least_step : (at hold low : ℕ) (fs : List (List ℕ)) → at < low → 0 < length fs → at < at + pos_by length (take 1 fs)
+    → from_least (without_oldest (record { first = at; frames = fs; hold = hold })) low ≡ from_least (record { first = at; frames = fs; hold = hold }) low
+least_step at hold low [] below some rises = absurd (omega arith)
+least_step at hold low (f ∷ fs) below some rises =
+    let further : low - (at + pos_by length (take 1 (f ∷ fs))) ≡ (low - at) - length f = omega (arith, pos-one f fs) in
+    rw (further, least-in length f fs (low - at) (omega arith)) (without_more at hold (least_boundary_by length fs ((low - at) - length f)) f fs (omega (arith, rises, pos-one f fs)))
 
 pub least_done : (h : Held) (low : ℕ) → low ≤ h.first → from_least h low ≡ h
 least_done h low reached =
     let none : low - h.first ≡ 0 = omega arith in
     nothing_more h (least_boundary_by length h.frames (low - h.first)) (ap (least_boundary_by length h.frames) none ∙ least-zero length h.frames)
 
-pub acked_step : (h : Held) (position : ℕ) → OldestEndsBy h position → h.first < (without_oldest h).first → from_acked (without_oldest h) position ≡ from_acked h position
-acked_step h position past rises =
-    let o = oldest h.frames past.0 in
-    let one : pos_by length (take 1 h.frames) ≡ length o.0 = ap (λ l. pos_by length (take 1 l)) o.2 ∙ pos-one o.0 o.1 in
-    let further : position - (h.first + pos_by length (take 1 h.frames)) ≡ (position - h.first) - length o.0 = omega (arith, one) in
-    without_more h (acked_by length h.frames (position - h.first)) (acked_by length (drop 1 h.frames) (position - (h.first + pos_by length (take 1 h.frames)))) o.0 o.1 o.2
-    (omega (arith, rises, one))
-    (ap (λ l. acked_by length l (position - h.first)) o.2
-    ∙ acked-in length o.0 o.1 (position - h.first) (omega (arith, past.1, one))
-    ∙ ap (λ n. length o.0 + acked_by length o.1 n) (sym further)
-    ∙ ap (λ l. length o.0 + acked_by length (drop 1 l) (position - (h.first + pos_by length (take 1 h.frames)))) (sym o.2))
+pub acked_step : (at hold position : ℕ) (fs : List (List ℕ)) → OldestEndsBy (record { first = at; frames = fs; hold = hold }) position → at < at + pos_by length (take 1 fs)
+    → from_acked (without_oldest (record { first = at; frames = fs; hold = hold })) position ≡ from_acked (record { first = at; frames = fs; hold = hold }) position
+acked_step at hold position [] past rises = absurd (omega arith)
+acked_step at hold position (f ∷ fs) past rises =
+    let further : position - (at + pos_by length (take 1 (f ∷ fs))) ≡ (position - at) - length f = omega (arith, pos-one f fs) in
+    rw (further, acked-in length f fs (position - at) (omega (arith, past.1, pos-one f fs))) (without_more at hold (acked_by length fs ((position - at) - length f)) f fs (omega (arith, rises, pos-one f fs)))
 
 pub acked_done : (h : Held) (position : ℕ) → (OldestEndsBy h position → ⊥) → from_acked h position ≡ h
 unfolding acked_by pos_by

@@ -12,7 +12,7 @@ loop-self-preserved c =
     record {
       same =
           ap (λ (g : Held). from_least g c.args.low) c.forget_oldest.ensures.held
-          ∙ least_step h c.args.low (omega arith) (some_held h (omega (arith, c.loop-self.invariant.end))) (omega (arith, ap (λ (g : Held). g.first) c.forget_oldest.ensures.held))
+          ∙ least_step h.first h.hold c.args.low h.frames (omega arith) (some_held h (omega (arith, c.loop-self.invariant.end))) (omega (arith, ap (λ (g : Held). g.first) c.forget_oldest.ensures.held))
           ∙ c.loop-self.invariant.same;
       end = c.forget_oldest.ensures.end ∙ c.loop-self.invariant.end;
       spare = c.forget_oldest.ensures.spare ∙ c.loop-self.invariant.spare;
