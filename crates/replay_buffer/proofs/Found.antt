@@ -1,6 +1,6 @@
 -- Boundaries that are looked up among the ends.
-use Rattle.std.proofs.Common.{◌≡◌, ℕ, zero, suc, ◌+◌, ◌-◌, ◌*◌, ◌<◌, ◌≤◌, List, [], ◌∷◌, ◌++◌, length, take, drop, get_or, refl, sym, ap, subst, ◌∙◌, add-zero, arith}
-use Rattle.std.specs.Prelude.{Result, Ok, Err, MatchResult, IsTrue, is_ok}
+use Rattle.std.proofs.Common.{◌≡◌, ℕ, zero, suc, ◌+◌, ◌-◌, ◌*◌, ◌<◌, ◌≤◌, List, [], ◌∷◌, ◌++◌, length, take, drop, get_or, refl, sym, ap, ◌∙◌, add-zero, arith}
+use Rattle.std.specs.Prelude.{Result, Ok, Err, IsTrue, is_ok}
 use Rattle.std.specs.Ordering.{nat_cmp}
 use Rattle.std.specs.List.{AllByRecursion, flat_map}
 use Rattle.std.specs.List.Sorted.{IsNonDecreasing, IsBinarySearchResult}
@@ -38,21 +38,16 @@ missed at position fs i zero other below above le is = other (is ∙ add-zero at
 missed at position fs i (suc k) other below above le is =
     grind (arith, get_or-ends_of at fs k (omega arith), below k, above k, length-ends_of at fs)
 
-found : (h : Held) (position : ℕ) (r : Result ℕ ℕ) → (position ≡ h.first → ⊥)
-    → MatchResult r (λ i. (i < length (ends_of h.first h.frames)) × (get_or (ends_of h.first h.frames) i 0 ≡ position)) (λ i. (i ≤ length (ends_of h.first h.frames)) × ((k : ℕ) → k < i → get_or (ends_of h.first h.frames) k 0 < position) × ((k : ℕ) → i ≤ k → k < length (ends_of h.first h.frames) → position < get_or (ends_of h.first h.frames) k 0))
-    → (IsTrue (is_ok r) → IsHeldBoundary h position) × (IsHeldBoundary h position → IsTrue (is_ok r))
-found h position (Ok i) other (lt, is) =
-    let here : get_or (ends_of h.first h.frames) i 0 ≡ h.first + pos_by length (take (suc i) h.frames) = get_or-ends_of h.first h.frames i (omega (arith, length-ends_of h.first h.frames)) in
-    (λ _. (omega (arith, here), (suc i, omega (arith, here))), λ _. refl)
-found h position (Err i) other (le, below, above) =
-    (λ t. absurd (cc t), λ b. let e = ends_at h position b in absurd (missed h.first position h.frames i e.0 other below above e.1.within e.1.is))
-
 -- a position above the first one is a boundary exactly where a binary search among the ends finds it
 pub boundary_found : (h : Held) (position : ℕ) (ends bytes : List ℕ) (r : Result ℕ ℕ) → Stores h.first ends bytes h.frames → (position ≡ h.first → ⊥) → IsBinarySearchResult (λ y. nat_cmp y position) ends r
     → (IsTrue (is_ok r) → IsHeldBoundary h position) × (IsHeldBoundary h position → IsTrue (is_ok r))
-boundary_found h position ends bytes r s other search_is =
-    let clause : IsBinarySearchResult (λ y. nat_cmp y position) (ends_of h.first h.frames) r = subst (λ (es : List ℕ). IsBinarySearchResult (λ y. nat_cmp y position) es r) s.ends_are search_is in
-    found h position r other (searched (ends_of h.first h.frames) position r clause (ends_rise h.first h.frames))
+boundary_found h position ends bytes (Ok i) s other search_is =
+    let hit = searched (ends_of h.first h.frames) position (Ok i) (rw (← s.ends_are) search_is) (ends_rise h.first h.frames) in
+    let here = get_or-ends_of h.first h.frames i (omega (arith, hit.0, length-ends_of h.first h.frames)) in
+    (λ _. (omega (arith, here, hit.1), (suc i, omega (arith, here, hit.1))), λ _. refl)
+boundary_found h position ends bytes (Err i) s other search_is =
+    let miss = searched (ends_of h.first h.frames) position (Err i) (rw (← s.ends_are) search_is) (ends_rise h.first h.frames) in
+    (λ t. absurd (cc t), λ b. let e = ends_at h position b in absurd (missed h.first position h.frames i e.0 other miss.1 miss.2 e.1.within e.1.is))
 
 -- the number of ends up to a boundary is the number of frames before it
 counted : (at from : ℕ) (fs : List (List ℕ)) (k m : ℕ) → AllByRecursion (λ f. 6 ≤ length f) fs → k ≤ length fs → ((j : ℕ) → j < k → get_or (ends_of at fs) j 0 ≤ from) → ((j : ℕ) → k ≤ j → j < length fs → from < get_or (ends_of at fs) j 0) → m ≤ length fs → from ≡ at + pos_by length (take m fs) → k ≡ m

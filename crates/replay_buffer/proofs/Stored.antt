@@ -44,12 +44,15 @@ read_again at (f ∷ fs) =
     let n : (at + length f) - at ≡ length f = omega arith in
     rw (framed_all-cons f fs, take_first f (flat_map framed fs) ((at + length f) - at) n, drop_first f (flat_map framed fs) ((at + length f) - at) n) (ap (λ t. f ∷ t) (read_again (at + length f) fs))
 
-pub reads : (at : ℕ) (ends bytes : List ℕ) (fs : List (List ℕ)) → Stores at ends bytes fs → frames_in at ends bytes ≡ fs
-reads at ends bytes fs s = rw (s.ends_are, s.bytes_are) (read_again at fs)
+-- what is stored is what is read
+pub record Reads (at : ℕ) (ends bytes : List ℕ) (fs : List (List ℕ)) : Type 0 where
+  pub stored : Stores at ends bytes (frames_in at ends bytes)
+  pub same : frames_in at ends bytes ≡ fs
 
--- so what is stored is what is read
-pub stored : (at : ℕ) (ends bytes : List ℕ) (fs : List (List ℕ)) → Stores at ends bytes fs → Stores at ends bytes (frames_in at ends bytes)
-stored at ends bytes fs s = rw (reads at ends bytes fs s) s
+reads : (at : ℕ) (ends bytes : List ℕ) (fs : List (List ℕ)) → Stores at ends bytes fs → Reads at ends bytes fs
+reads at ends bytes fs s =
+    let same : frames_in at ends bytes ≡ fs = rw (s.ends_are, s.bytes_are) (read_again at fs) in
+    record { stored = rw same s; same = same }
 
 all_push : {X : Type 0} (P : X → Type 0) (xs : List X) (x : X) → AllByRecursion P xs → P x → AllByRecursion P (xs ++ x ∷ [])
 all_push P [] x all one = (one, tt)
@@ -60,35 +63,26 @@ unfolding pos_by
 ends_of-push at [] f = grind (arith, common_steps)
 ends_of-push at (g ∷ fs) f = grind (arith, common_steps, ends_of-push (at + length g) fs f)
 
-Stores-push : (at end : ℕ) (ends bytes : List ℕ) (fs : List (List ℕ)) (f : List ℕ) → Stores at ends bytes fs → 6 ≤ length f → end ≡ at + pos_by length fs + length f → Stores at (ends ++ end ∷ []) (bytes ++ framed f) (fs ++ f ∷ [])
-Stores-push at end ends bytes fs f s long is = record {
-  bytes_are = rw s.bytes_are (sym (framed_all-push fs f));
-  ends_are = rw (s.ends_are, is) (sym (ends_of-push at fs f));
-  longer = all_push (λ g. 6 ≤ length g) fs f s.longer long;
-}
-
 -- what the fields hold once the oldest frame is gone
-pub record Pops (at end : ℕ) (ends bytes : List ℕ) (fs : List (List ℕ)) : Type 0 where
-  pub rest : Stores end ends (drop (3 + (end - at)) bytes) (drop 1 fs)
+pub record Pops (at end : ℕ) (ends bytes rest : List ℕ) (fs : List (List ℕ)) : Type 0 where
+  pub reads : Reads end ends rest (drop 1 fs)
   pub end_is : end ≡ at + pos_by length (take 1 fs)
   pub rises : at + 6 ≤ end
   pub within : 3 + (end - at) ≤ length bytes
   pub all : pos_by length fs ≡ pos_by length (take 1 fs) + pos_by length (drop 1 fs)
 
-pub Stores-pop : (at end : ℕ) (ends left bytes : List ℕ) (fs : List (List ℕ)) → Stores at ends bytes fs → ends ≡ end ∷ left → Pops at end left bytes fs
-Stores-pop at end ends left bytes [] s is = let none : ends ≡ [] = s.ends_are in absurd (cc (none, is))
-Stores-pop at end ends left bytes (f ∷ fs) s is =
-    let split : end ∷ left ≡ (at + length f) ∷ ends_of (at + length f) fs = sym is ∙ s.ends_are in
-    let e : end ≡ at + length f = cc split in
-    let es : left ≡ ends_of (at + length f) fs = cc split in
+pub Stores-pop : (at end : ℕ) (ends left bytes rest : List ℕ) (fs : List (List ℕ)) → Stores at ends bytes fs → ends ≡ end ∷ left → rest ≡ drop (3 + (end - at)) bytes → Pops at end left bytes rest fs
+Stores-pop at end ends left bytes rest [] s is dropped = absurd (cc (s.ends_are, is))
+Stores-pop at end ends left bytes rest (f ∷ fs) s is dropped =
+    let e : end ≡ at + length f = cc (is, s.ends_are) in
     let n : end - at ≡ length f = omega (arith, e) in
     let bs : bytes ≡ framed f ++ flat_map framed fs = s.bytes_are ∙ framed_all-cons f fs in
     record {
-      rest = record {
-        bytes_are = ap (drop (3 + (end - at))) bs ∙ drop_first f (flat_map framed fs) (end - at) n;
-        ends_are = es ∙ ap (λ t. ends_of t fs) (sym e);
+      reads = reads end left rest fs (record {
+        bytes_are = cc (dropped, bs, drop_first f (flat_map framed fs) (end - at) n);
+        ends_are = cc (is, s.ends_are, e);
         longer = s.longer.1;
-      };
+      });
       end_is = omega (arith, e, pos-one f fs);
       rises = omega (arith, e, s.longer.0);
       within = omega (arith, n, ap length bs, length-append (framed f) (flat_map framed fs), length-framed f);
@@ -96,5 +90,9 @@ Stores-pop at end ends left bytes (f ∷ fs) s is =
     }
 
 -- the fields once a frame was appended
-pub Stores-append : (at end : ℕ) (ends bytes longer more : List ℕ) (fs : List (List ℕ)) (f : List ℕ) → Stores at ends bytes fs → longer ≡ bytes ++ framed f → more ≡ ends ++ end ∷ [] → 6 ≤ length f → end ≡ at + pos_by length fs + length f → Stores at more longer (fs ++ f ∷ [])
-Stores-append at end ends bytes longer more fs f s l m long is = rw (m, l) (Stores-push at end ends bytes fs f s long is)
+pub Stores-append : (at end : ℕ) (ends bytes longer more : List ℕ) (fs : List (List ℕ)) (f : List ℕ) → Stores at ends bytes fs → longer ≡ bytes ++ framed f → more ≡ ends ++ end ∷ [] → 6 ≤ length f → end ≡ at + pos_by length fs + length f → Reads at more longer (fs ++ f ∷ [])
+Stores-append at end ends bytes longer more fs f s l m long is = reads at more longer (fs ++ f ∷ []) (record {
+  bytes_are = cc (l, s.bytes_are, framed_all-push fs f);
+  ends_are = cc (m, s.ends_are, is, ends_of-push at fs f);
+  longer = all_push (λ g. 6 ≤ length g) fs f s.longer long;
+})

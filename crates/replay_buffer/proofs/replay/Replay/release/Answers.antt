@@ -21,6 +21,5 @@ returns-clause-held c =
     sym (acked_done c.loop-self.self.held c.args.position (λ past. let yes : false ≡ true = c.loop-self-test.ensures.1 past in cc)) ∙ c.loop-self.invariant.same
 
 pub returns-clause-of_made : goal.returns-clause-of_made
-returns-clause-of_made c =
-    let held = sym (acked_done c.loop-self.self.held c.args.position (λ past. let yes : false ≡ true = c.loop-self-test.ensures.1 past in cc)) ∙ c.loop-self.invariant.same in
-    λ made told is. subst (IsHeldOf made (max told c.args.position)) (sym held) (released made told c.args.position c.args.self.now.held is)
+returns-clause-of_made c = λ made told is.
+    subst (IsHeldOf made (max told c.args.position)) (sym (returns-clause-held c)) (released made told c.args.position c.args.self.now.held is)
