@@ -1,7 +1,7 @@
 -- What is held of the frames made, however it came about.
-use Rattle.std.proofs.Common.{◌≡◌, ℕ, ◌+◌, ◌-◌, ◌≤◌, ◌↔◌, max, inl, inr, List, [], ◌∷◌, ◌++◌, length, map, refl, sym, ap, subst, ◌∙◌, arith}
+use Rattle.std.proofs.Common.{◌≡◌, ℕ, ◌+◌, ◌-◌, ◌≤◌, ◌↔◌, max, List, [], ◌∷◌, ◌++◌, length, map, refl, sym, ap, subst, ◌∙◌, arith}
 use Rattle.std.specs.List.{flat_map}
-use Rattle.std.proofs.lemmas.Bool.{cases_lt}
+use Rattle.std.proofs.lemmas.Grind.{common_steps}
 use Rattle.std.proofs.lemmas.List.{map-append}
 use Rattle.rs_frame.specs.declared.frame.Frame.{Frame}
 use Rattle.rs_frame.specs.Framed.{framed, framed_frame, framed_all}
@@ -48,12 +48,11 @@ least-max xs a b le =
 
 acked-max : (xs : List Frame) (a b : ℕ) → acked xs (max a b) ≡ max (acked xs a) (acked xs b)
 acked-max xs a b =
-    let one = acked-greatest length_of xs (max a b) (acked xs a) (acked-boundary length_of xs a) (omega (arith, acked-at_most length_of xs a)) in
-    let other = acked-greatest length_of xs (max a b) (acked xs b) (acked-boundary length_of xs b) (omega (arith, acked-at_most length_of xs b)) in
-    elim (cases_lt a b) [
-      | inl less ↦ let m : max a b ≡ b = omega arith in omega (arith, ap (acked xs) m)
-      | inr more ↦ let m : max a b ≡ a = omega arith in omega (arith, ap (acked xs) m)
-    ]
+    grind (
+      arith, common_steps, acked-at_most length_of xs a, acked-at_most length_of xs b,
+      acked-greatest length_of xs (max a b) (acked xs a) (acked-boundary length_of xs a),
+      acked-greatest length_of xs (max a b) (acked xs b) (acked-boundary length_of xs b),
+    )
 
 -- a boundary is its own
 least-own : (xs : List Frame) (p : ℕ) → IsBoundary xs p → least_boundary xs p ≡ p
@@ -114,11 +113,11 @@ boundaries_held made told h p s =
     let rest = frames_from made h.first in
     let back : h.first ≤ p → h.first + (p - h.first) ≡ p = λ le. omega arith in (
       λ (from, held).
-          let there : IsBoundary rest (p - h.first) = boundary-map length_of length canonical length-canonical rest (p - h.first) (subst (λ fs. IsBoundaryBy length fs (p - h.first)) s.frames_are held) in
+          let there = boundary-map length_of length canonical length-canonical rest (p - h.first) (subst (λ fs. IsBoundaryBy length fs (p - h.first)) s.frames_are held) in
           (subst (IsBoundary made) (back from) (boundary_whole length_of made h.first (p - h.first) b.start there), from),
       λ (here, from).
-          let there : IsBoundary rest (p - h.first) = boundary_rest length_of made h.first (p - h.first) b.start (subst (IsBoundary made) (sym (back from)) here) in
-          (from, subst (λ fs. IsBoundaryBy length fs (p - h.first)) (sym s.frames_are) (boundary-mapped length_of length canonical length-canonical rest (p - h.first) there)),
+          let there = boundary_rest length_of made h.first (p - h.first) b.start (subst (IsBoundary made) (sym (back from)) here) in
+          (from, rw s.frames_are (boundary-mapped length_of length canonical length-canonical rest (p - h.first) there)),
     )
 
 framed-canonical : (fs : List Frame) → flat_map framed (map canonical fs) ≡ framed_all fs

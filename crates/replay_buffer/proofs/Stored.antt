@@ -1,5 +1,5 @@
 -- The fields hold the list of frames: reading, appending and dropping.
-use Rattle.std.proofs.Common.{◌≡◌, ℕ, ◌+◌, ◌-◌, ◌*◌, ◌≤◌, List, [], ◌∷◌, ◌++◌, length, take, drop, refl, sym, ap, ◌∙◌, append_assoc, arith}
+use Rattle.std.proofs.Common.{◌≡◌, ℕ, ◌+◌, ◌-◌, ◌*◌, ◌≤◌, List, [], ◌∷◌, ◌++◌, length, take, drop, refl, ap, ◌∙◌, append_assoc, arith}
 use Rattle.std.specs.List.{AllByRecursion, flat_map}
 use Rattle.std.proofs.lemmas.Grind.{common_steps}
 use Rattle.std.proofs.lemmas.List.{length-append, take_at, drop_at, append-nil}
@@ -31,9 +31,7 @@ length-framed_all (f ∷ fs) = grind (arith, common_steps, length-framed f, leng
 -- the first frame is cut out of the bytes
 take_first : (f rest : List ℕ) (n : ℕ) → n ≡ length f → take n (drop 3 (framed f ++ rest)) ≡ f
 take_first f rest n is =
-    ap (λ t. take n (drop 3 t)) (append_assoc (big_bytes 3 (length f)) f rest)
-    ∙ ap (take n) (drop_at (big_bytes 3 (length f)) (f ++ rest) 3 (length-prefix f))
-    ∙ take_at f rest n (sym is)
+    grind (arith, length-prefix f, append_assoc, drop_at (big_bytes 3 (length f)) (f ++ rest) 3, take_at f rest n)
 
 drop_first : (f rest : List ℕ) (n : ℕ) → n ≡ length f → drop (3 + n) (framed f ++ rest) ≡ rest
 drop_first f rest n is = drop_at (framed f) rest (3 + n) (omega (arith, length-framed f, is))
@@ -41,8 +39,9 @@ drop_first f rest n is = drop_at (framed f) rest (3 + n) (omega (arith, length-f
 read_again : (at : ℕ) (fs : List (List ℕ)) → frames_in at (ends_of at fs) (flat_map framed fs) ≡ fs
 read_again at [] = refl
 read_again at (f ∷ fs) =
+    let rest = flat_map framed fs in
     let n : (at + length f) - at ≡ length f = omega arith in
-    rw (framed_all-cons f fs, take_first f (flat_map framed fs) ((at + length f) - at) n, drop_first f (flat_map framed fs) ((at + length f) - at) n) (ap (λ t. f ∷ t) (read_again (at + length f) fs))
+    cc (framed_all-cons f fs, take_first f rest _ n, drop_first f rest _ n, read_again (at + length f) fs)
 
 -- what is stored is what is read
 pub record Reads (at : ℕ) (ends bytes : List ℕ) (fs : List (List ℕ)) : Type 0 where
