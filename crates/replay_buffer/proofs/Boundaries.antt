@@ -20,7 +20,8 @@ unfolding pos_by
 rising fs i j le = boundary-le length (take j fs) (pos_by length (take i fs)) (i, ap (pos_by length) (take-take i j fs le))
 
 -- frames that are not empty end above where they start
-pub rising_more : (fs : List (List ℕ)) (i : ℕ) → AllByRecursion (λ f. 6 ≤ length f) fs → i < length fs → pos_by length (take i fs) < pos_by length (take (suc i) fs)
+pub rising_more : (fs : List (List ℕ)) (i : ℕ) → AllByRecursion (λ f. 6 ≤ length f) fs → i < length fs
+    → pos_by length (take i fs) < pos_by length (take (suc i) fs)
 unfolding pos_by
 rising_more [] i all lt = absurd (omega arith)
 rising_more (f ∷ fs) zero all lt = omega (arith, all.0)

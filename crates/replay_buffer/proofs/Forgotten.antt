@@ -11,9 +11,12 @@ pub same_held : (h g : Held) → h.first ≡ g.first → h.frames ≡ g.frames �
 same_held h g first frames hold =
     ap (λ n. record h { first = n }) first ∙ ap (λ fs. record h { first = g.first; frames = fs }) frames ∙ ap (λ n. record g { hold = n }) hold
 
+abbrev pub held : ℕ → List (List ℕ) → ℕ → Held
+held at frames hold = record { first = at; frames = frames; hold = hold }
+
 -- what is left of the frames after the oldest one is what is left of all
 without_more : (at hold m : ℕ) (f : List ℕ) (fs : List (List ℕ)) → 0 < length f
-    → without_first (without_oldest (record { first = at; frames = f ∷ fs; hold = hold })) m ≡ without_first (record { first = at; frames = f ∷ fs; hold = hold }) (length f + m)
+    → without_first (without_oldest (held at (f ∷ fs) hold)) m ≡ without_first (held at (f ∷ fs) hold) (length f + m)
 without_more at hold m f fs some =
     let left : (length f + m) - length f ≡ m = omega arith in
     same_held _ _ (omega (arith, pos-one f fs)) (cc (left, from-in length f fs (length f + m) (omega arith))) refl
@@ -22,23 +25,25 @@ nothing_more : (h : Held) (n : ℕ) → n ≡ 0 → without_first h n ≡ h
 nothing_more h n none = same_held (without_first h n) h (omega (arith, none)) (ap (frames_from_by length h.frames) none ∙ from-zero length h.frames) refl
 
 pub least_step : (at hold low : ℕ) (fs : List (List ℕ)) → at < low → 0 < length fs → at < at + pos_by length (take 1 fs)
-    → from_least (without_oldest (record { first = at; frames = fs; hold = hold })) low ≡ from_least (record { first = at; frames = fs; hold = hold }) low
+    → from_least (without_oldest (held at fs hold)) low ≡ from_least (held at fs hold) low
 least_step at hold low [] below some rises = absurd (omega arith)
 least_step at hold low (f ∷ fs) below some rises =
-    let further : low - (at + pos_by length (take 1 (f ∷ fs))) ≡ (low - at) - length f = omega (arith, pos-one f fs) in
-    rw (further, least-in length f fs (low - at) (omega arith)) (without_more at hold (least_boundary_by length fs ((low - at) - length f)) f fs (omega (arith, rises, pos-one f fs)))
+    let one = pos-one f fs in
+    let further : low - (at + pos_by length (take 1 (f ∷ fs))) ≡ (low - at) - length f = omega arith in
+    rw (further, least-in length f fs (low - at) (omega arith)) (without_more at hold _ f fs (omega arith))
 
 pub least_done : (h : Held) (low : ℕ) → low ≤ h.first → from_least h low ≡ h
 least_done h low reached =
     let none : low - h.first ≡ 0 = omega arith in
     nothing_more h (least_boundary_by length h.frames (low - h.first)) (ap (least_boundary_by length h.frames) none ∙ least-zero length h.frames)
 
-pub acked_step : (at hold position : ℕ) (fs : List (List ℕ)) → OldestEndsBy (record { first = at; frames = fs; hold = hold }) position → at < at + pos_by length (take 1 fs)
-    → from_acked (without_oldest (record { first = at; frames = fs; hold = hold })) position ≡ from_acked (record { first = at; frames = fs; hold = hold }) position
+pub acked_step : (at hold position : ℕ) (fs : List (List ℕ)) → OldestEndsBy (held at fs hold) position → at < at + pos_by length (take 1 fs)
+    → from_acked (without_oldest (held at fs hold)) position ≡ from_acked (held at fs hold) position
 acked_step at hold position [] past rises = absurd (omega arith)
 acked_step at hold position (f ∷ fs) past rises =
-    let further : position - (at + pos_by length (take 1 (f ∷ fs))) ≡ (position - at) - length f = omega (arith, pos-one f fs) in
-    rw (further, acked-in length f fs (position - at) (omega (arith, past.1, pos-one f fs))) (without_more at hold (acked_by length fs ((position - at) - length f)) f fs (omega (arith, rises, pos-one f fs)))
+    let one = pos-one f fs in
+    let further : position - (at + pos_by length (take 1 (f ∷ fs))) ≡ (position - at) - length f = omega arith in
+    rw (further, acked-in length f fs (position - at) (omega (arith, past.1))) (without_more at hold _ f fs (omega arith))
 
 pub acked_done : (h : Held) (position : ℕ) → (OldestEndsBy h position → ⊥) → from_acked h position ≡ h
 unfolding acked_by pos_by

@@ -26,7 +26,8 @@ get_or-ends_of at (f ∷ fs) (suc k) lt = omega (arith, get_or-ends_of (at + len
 
 pub ends_rise : (at : ℕ) (fs : List (List ℕ)) (i j : ℕ) → i ≤ j → j < length (ends_of at fs) → get_or (ends_of at fs) i 0 ≤ get_or (ends_of at fs) j 0
 ends_rise at fs i j le lt =
-    omega (arith, length-ends_of at fs, get_or-ends_of at fs i (omega (arith, length-ends_of at fs)), get_or-ends_of at fs j (omega (arith, length-ends_of at fs)), rising fs (suc i) (suc j) (omega arith))
+    let same = length-ends_of at fs in
+    omega (arith, get_or-ends_of at fs i (omega arith), get_or-ends_of at fs j (omega arith), rising fs (suc i) (suc j) (omega arith))
 
 pub ends_non_decreasing : (at : ℕ) (ends bytes : List ℕ) (fs : List (List ℕ)) → Stores at ends bytes fs → IsNonDecreasing ends
 ends_non_decreasing at ends bytes fs s = rw s.ends_are (IsNonDecreasingBy-from_default (λ x. x) (ends_of at fs) 0 (ends_rise at fs))

@@ -32,7 +32,8 @@ follows made told h s = record {
 
 ends : (made : List Frame) (h : Held) → Follows made h → end_of h ≡ pos made
 ends made h f =
-    omega (arith, ap (pos_by length) f.frames, pos-map length_of length canonical length-canonical (frames_from made h.first), pos-from length_of made h.first f.start)
+    let same = pos-map length_of length canonical length-canonical (frames_from made h.first) in
+    omega (arith, ap (pos_by length) f.frames, pos-from length_of made h.first f.start)
 
 -- what is left from a position on is what was made from there on
 left : (made : List Frame) (h : Held) (n : ℕ) → Follows made h → frames_from_by length h.frames n ≡ map canonical (frames_from made (h.first + n))
@@ -81,7 +82,7 @@ kept made told newest frame h s up_to is =
     let gone = ap (λ fs. least_boundary_by length fs low) f.frames ∙ least-map length_of length canonical length-canonical (frames_from all h.first) low in
     let place = least_after length_of all h.first low f.start in
     record {
-      first_is = omega (arith, gone, place, ap (least_boundary all) there, least-max all before (pos all - h.hold) (omega arith), ap (least_boundary all) wanted);
+      first_is = omega (arith, ap (least_boundary all) there, least-max all before (pos all - h.hold) (omega arith), ap (least_boundary all) wanted);
       frames_are = left all new (least_boundary_by length new.frames low) f;
     }
 
@@ -101,7 +102,10 @@ released made told position h s =
     omega (arith, acked-max made h.first position, own, acked-at_most length_of made h.first, s.first_is) in
     let wanted : max before (acked made position) ≡ max (acked made (max told position)) (pos made - h.hold) = omega (arith, acked-max made told position) in
     record {
-      first_is = omega (arith, now_is, least-own made now (acked-boundary length_of made (max h.first position)), ap (least_boundary made) both, least-max made before (acked made position) (omega arith), ap (least_boundary made) wanted);
+      first_is = omega (
+        arith, least-own made now (acked-boundary length_of made (max h.first position)), ap (least_boundary made) both,
+        least-max made before (acked made position) (omega arith), ap (least_boundary made) wanted,
+      );
       frames_are = left made h (acked_by length h.frames low) f;
     }
 
@@ -113,7 +117,8 @@ boundaries_held made told h p s =
     let rest = frames_from made h.first in
     let back : h.first ≤ p → h.first + (p - h.first) ≡ p = λ le. omega arith in (
       λ (from, held).
-          let there = boundary-map length_of length canonical length-canonical rest (p - h.first) (subst (λ fs. IsBoundaryBy length fs (p - h.first)) s.frames_are held) in
+          let mapped = subst (λ fs. IsBoundaryBy length fs (p - h.first)) s.frames_are held in
+          let there = boundary-map length_of length canonical length-canonical rest (p - h.first) mapped in
           (subst (IsBoundary made) (back from) (boundary_whole length_of made h.first (p - h.first) b.start there), from),
       λ (here, from).
           let there = boundary_rest length_of made h.first (p - h.first) b.start (subst (IsBoundary made) (sym (back from)) here) in

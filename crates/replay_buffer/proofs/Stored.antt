@@ -70,7 +70,8 @@ pub record Pops (at end : ℕ) (ends bytes rest : List ℕ) (fs : List (List ℕ
   pub within : 3 + (end - at) ≤ length bytes
   pub all : pos_by length fs ≡ pos_by length (take 1 fs) + pos_by length (drop 1 fs)
 
-pub Stores-pop : (at end : ℕ) (ends left bytes rest : List ℕ) (fs : List (List ℕ)) → Stores at ends bytes fs → ends ≡ end ∷ left → rest ≡ drop (3 + (end - at)) bytes → Pops at end left bytes rest fs
+pub Stores-pop : (at end : ℕ) (ends left bytes rest : List ℕ) (fs : List (List ℕ)) → Stores at ends bytes fs → ends ≡ end ∷ left → rest ≡ drop (3 + (end - at)) bytes
+    → Pops at end left bytes rest fs
 Stores-pop at end ends left bytes rest [] s is dropped = absurd (cc (s.ends_are, is))
 Stores-pop at end ends left bytes rest (f ∷ fs) s is dropped =
     let e : end ≡ at + length f = cc (is, s.ends_are) in
@@ -89,7 +90,8 @@ Stores-pop at end ends left bytes rest (f ∷ fs) s is dropped =
     }
 
 -- the fields once a frame was appended
-pub Stores-append : (at end : ℕ) (ends bytes longer more : List ℕ) (fs : List (List ℕ)) (f : List ℕ) → Stores at ends bytes fs → longer ≡ bytes ++ framed f → more ≡ ends ++ end ∷ [] → 6 ≤ length f → end ≡ at + pos_by length fs + length f → Reads at more longer (fs ++ f ∷ [])
+pub Stores-append : (at end : ℕ) (ends bytes longer more : List ℕ) (fs : List (List ℕ)) (f : List ℕ) → Stores at ends bytes fs → longer ≡ bytes ++ framed f
+    → more ≡ ends ++ end ∷ [] → 6 ≤ length f → end ≡ at + pos_by length fs + length f → Reads at more longer (fs ++ f ∷ [])
 Stores-append at end ends bytes longer more fs f s l m long is = reads at more longer (fs ++ f ∷ []) (record {
   bytes_are = cc (l, s.bytes_are, framed_all-push fs f);
   ends_are = cc (m, s.ends_are, is, ends_of-push at fs f);

@@ -12,12 +12,13 @@ invariant_of-self c =
     let i = c.self.inside in
     let all = Stores-append i.first (i.end + length c.args.frame.now) _ _ _ _ (frames_of i) c.args.frame.now c.self.invariant.stored
     (ap (λ (q : Contents). q.bytes) c.append_framed.ensures) c.push_back_reserved.ensures.items c.requires.shortest (omega (arith, c.self.invariant.end)) in
+    let reserved = ap (λ (q : Contents). q.reserved) c.append_framed.ensures in
     let some = ap (λ (b : Buffer). b.spare.frames) c.self.view_is in
     record {
       stored = all.stored;
       end = omega (arith, ap (pos_by length) all.same, c.self.invariant.end, pos-push length (frames_of i) c.args.frame.now);
       top = omega (arith, c.self.invariant.end, ap (λ (b : Buffer). end_of b.held) c.self.view_is);
-      spare_of_bytes = omega (arith, ap (λ (q : Contents). q.reserved) c.append_framed.ensures, c.self.invariant.spare_of_bytes, ap (λ (b : Buffer). b.spare.bytes) c.self.view_is);
+      spare_of_bytes = omega (arith, c.self.invariant.spare_of_bytes, ap (λ (b : Buffer). b.spare.bytes) c.self.view_is);
       spare_of_frames = omega (arith, c.push_back_reserved.ensures.len);
     }
 

@@ -9,10 +9,12 @@ forget_oldest-requires c = some_held c.loop-self.self.held (omega (arith, c.loop
 pub loop-self-preserved : goal.loop-self-preserved
 loop-self-preserved c =
     let h = c.loop-self.self.held in
+    let some = some_held h (omega (arith, c.loop-self.invariant.end)) in
+    let rises = ap (λ (g : Held). g.first) c.forget_oldest.ensures.held in
     record {
       same =
           ap (λ (g : Held). from_least g c.args.low) c.forget_oldest.ensures.held
-          ∙ least_step h.first h.hold c.args.low h.frames (omega arith) (some_held h (omega (arith, c.loop-self.invariant.end))) (omega (arith, ap (λ (g : Held). g.first) c.forget_oldest.ensures.held))
+          ∙ least_step h.first h.hold c.args.low h.frames (omega arith) some (omega arith)
           ∙ c.loop-self.invariant.same;
       end = c.forget_oldest.ensures.end ∙ c.loop-self.invariant.end;
       spare = c.forget_oldest.ensures.spare ∙ c.loop-self.invariant.spare;

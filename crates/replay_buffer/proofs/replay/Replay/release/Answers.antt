@@ -7,10 +7,11 @@ use Rattle.replay_buffer.proofs.replay.Replay.release.Goals as goal
 pub loop-self-preserved : goal.loop-self-preserved
 loop-self-preserved c =
     let h = c.loop-self.self.held in
+    let rises = ap (λ (g : Held). g.first) c.forget_oldest.ensures.held in
     record {
       same =
           ap (λ (g : Held). from_acked g c.args.position) c.forget_oldest.ensures.held
-          ∙ acked_step h.first h.hold c.args.position h.frames (c.loop-self-test.ensures.0 refl) (omega (arith, ap (λ (g : Held). g.first) c.forget_oldest.ensures.held))
+          ∙ acked_step h.first h.hold c.args.position h.frames (c.loop-self-test.ensures.0 refl) (omega arith)
           ∙ c.loop-self.invariant.same;
       end = c.forget_oldest.ensures.end ∙ c.loop-self.invariant.end;
       spare = c.forget_oldest.ensures.spare ∙ c.loop-self.invariant.spare;
