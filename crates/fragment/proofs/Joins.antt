@@ -1,6 +1,5 @@
 -- Joining the fragments of a frame.
-use Rattle.std.proofs.Common.{◌≡◌, ◌≤◌, ℕ, suc, ◌+◌, ◌-◌, Bool, false, List, [], ◌∷◌, ◌++◌, length, Ok, refl, ap, sym, ◌∙◌, arith, append_assoc, length-append}
-use Rattle.std.specs.Prelude.{map, replicate, ◌||◌}
+use Rattle.std.proofs.Common.{◌≡◌, ◌≤◌, ℕ, suc, ◌+◌, ◌-◌, Bool, false, List, [], ◌∷◌, ◌++◌, length, Ok, refl, ap, sym, ◌∙◌, arith, append_assoc, length-append, map, replicate, ◌||◌}
 use Rattle.std.proofs.lemmas.Grind.{common_steps}
 use Rattle.std.proofs.lemmas.Bool.Decides.{nat_tests}
 use Rattle.std.proofs.Math.Bool.{or_assoc, or_self, or-false}
@@ -25,19 +24,14 @@ same_gathered a b p q r =
 
 join-nothing : (held : Gathered) → join held nothing ≡ held
 join-nothing held =
-    same_gathered (join held nothing) held
-    (same_message (join held nothing).message held.message (grind (arith, common_steps)) (append-nil held.message.content))
-    (or-false held.complete) (or-false held.next)
+    same_gathered _ _ (same_message _ _ (grind (arith, common_steps)) (append-nil held.message.content)) (or-false held.complete) (or-false held.next)
 
 messages_assoc : (a b c : Message) → join_messages (join_messages a b) c ≡ join_messages a (join_messages b c)
-messages_assoc a b c =
-    same_message (join_messages (join_messages a b) c) (join_messages a (join_messages b c))
-    (grind (arith, common_steps)) (append_assoc a.content b.content c.content)
+messages_assoc a b c = same_message _ _ (grind (arith, common_steps)) (append_assoc a.content b.content c.content)
 
 join-assoc : (a b c : Gathered) → join (join a b) c ≡ join a (join b c)
 join-assoc a b c =
-    same_gathered (join (join a b) c) (join a (join b c))
-    (messages_assoc a.message b.message c.message) (or_assoc a.complete b.complete c.complete) (or_assoc a.next b.next c.next)
+    same_gathered _ _ (messages_assoc a.message b.message c.message) (or_assoc a.complete b.complete c.complete) (or_assoc a.next b.next c.next)
 
 pub joined-push : (parts : List Gathered) (part : Gathered) → joined (parts ++ part ∷ []) ≡ join (joined parts) part
 joined-push [] part = join-nothing part

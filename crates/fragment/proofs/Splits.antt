@@ -1,8 +1,7 @@
 -- The fragments of a frame: one cut after another, until the rest fits.
-use Rattle.std.proofs.Common.{◌≡◌, ◌<◌, ◌≤◌, inl, inr, ℕ, zero, suc, true, false, List, [], ◌∷◌, refl, ap, sym, subst, ◌∙◌, arith}
-use Rattle.std.specs.Prelude.{All}
+use Rattle.std.proofs.Common.{◌≡◌, ◌<◌, ◌≤◌, inl, inr, ℕ, zero, suc, true, false, List, [], ◌∷◌, refl, sym, subst, ◌∙◌, arith, All}
 use Rattle.std.proofs.lemmas.Grind.{common_steps}
-use Rattle.std.proofs.lemmas.Bool.{lt-leb, cases_lt}
+use Rattle.std.proofs.lemmas.Bool.{cases_lt}
 use Rattle.std.proofs.lemmas.Bool.Decides.{nat_tests}
 use Rattle.std.proofs.lemmas.List.Elements.{All-cons, All-nil}
 use Rattle.rs_frame.specs.declared.frame.Frame.{Frame}
@@ -16,20 +15,21 @@ fragments_fit n mtu f fits = grind (arith, common_steps, nat_tests)
 
 fragments_cut : (n mtu : ℕ) (f : Frame) → mtu < length_of f → fragments (suc n) mtu f ≡ first_fragment mtu f ∷ fragments n mtu (rest_after mtu f)
 unfolding fragments
-fragments_cut n mtu f longer = rw (lt-leb (length_of f) mtu longer)
+fragments_cut n mtu f longer = grind (arith, common_steps, nat_tests)
 
 -- as many cuts as the frame has bytes are enough, and more change nothing
 fragments_enough : (n m mtu : ℕ) (f : Frame) → IsSplittable f → 64 ≤ mtu → length_of f ≤ n → length_of f ≤ m → fragments n mtu f ≡ fragments m mtu f
 fragments_enough zero m mtu f whole least n_enough m_enough =
     cc (fragments_fit zero mtu f (omega arith), fragments_fit m mtu f (omega arith))
 fragments_enough (suc n) zero mtu f whole least n_enough m_enough =
-    fragments_fit (suc n) mtu f (omega arith) ∙ sym (fragments_fit zero mtu f (omega arith))
+    cc (fragments_fit (suc n) mtu f (omega arith), fragments_fit zero mtu f (omega arith))
 fragments_enough (suc n) (suc m) mtu f whole least n_enough m_enough = elim (cases_lt mtu (length_of f)) [
   | inl longer ↦
       let shorter = rest_length mtu f (record { whole = whole; least = least; longer = longer }) in
-      fragments_cut n mtu f longer
-      ∙ (ap (λ fs. first_fragment mtu f ∷ fs) (fragments_enough n m mtu (rest_after mtu f) (rest_whole mtu f whole) least (omega arith) (omega arith))
-      ∙ sym (fragments_cut m mtu f longer))
+      cc (
+        fragments_cut n mtu f longer, fragments_cut m mtu f longer,
+        fragments_enough n m mtu (rest_after mtu f) (rest_whole mtu f whole) least (omega arith) (omega arith),
+      )
   | inr fits ↦ fragments_fit (suc n) mtu f fits ∙ sym (fragments_fit (suc m) mtu f fits)
 ]
 
@@ -56,8 +56,8 @@ by_cuts P (suc m) limit base step (suc n) f enough whole = elim (cases_lt (suc m
   | inl longer ↦
       let long : IsLong (suc m) f = record { whole = whole; least = limit (omega arith); longer = longer } in
       let shorter = rest_length (suc m) f long in
-      subst (P f) (sym (split_cut f (suc m) long))
-      (step f (split_of (rest_after (suc m) f) (suc m)) long (by_cuts P (suc m) limit base step n (rest_after (suc m) f) (omega arith) (rest_whole (suc m) f whole)))
+      let left = by_cuts P (suc m) limit base step n (rest_after (suc m) f) (omega arith) (rest_whole (suc m) f whole) in
+      subst (P f) (sym (split_cut f (suc m) long)) (step f _ long left)
   | inr fits ↦ subst (P f) (sym (split_fits f (suc m) fits)) (base f whole (λ some. fits))
 ]
 
@@ -91,8 +91,7 @@ all_on_stream f mtu whole limit =
     (length_of f) f (omega arith) whole
 
 EachButLast-cons : (P : Frame → Type 0) (f : Frame) (fs : List Frame) → P f → EachButLast P fs → EachButLast P (f ∷ fs)
-EachButLast-cons P f [] here there = tt
-EachButLast-cons P f (g ∷ gs) here there = (here, there)
+EachButLast-cons P f fs here there = grind (arith, common_steps)
 
 pub first_flags : (mtu : ℕ) (f : Frame) → IsSplittable f → (follows_of (first_fragment mtu f) ≡ true) × (complete_of (first_fragment mtu f) ≡ false)
 first_flags mtu f whole = grind (arith, common_steps)

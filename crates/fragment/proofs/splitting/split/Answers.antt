@@ -1,6 +1,5 @@
-use Rattle.std.proofs.Common.{◌≡◌, ◌≤◌, [], ◌∷◌, sym, append_assoc, arith, subst}
+use Rattle.std.proofs.Common.{◌≡◌, ◌≤◌, [], ◌∷◌, sym, append_assoc, arith, subst, All}
 use Rattle.std.proofs.lemmas.Grind.{common_steps}
-use Rattle.std.specs.Prelude.{All}
 use Rattle.rs_frame.specs.Spelling.{IsSpellable, length_of}
 use Rattle.fragment.specs.Splitting.{split_of, first_fragment, rest_after}
 use Rattle.fragment.specs.Views.{frame_in}
