@@ -1,19 +1,11 @@
 -- Where frames end: boundaries rise, and the frames from one on are those after it.
-use Rattle.std.proofs.Common.{◌≡◌, ℕ, zero, suc, ◌+◌, ◌<◌, ◌≤◌, min, List, [], ◌∷◌, length, take, drop, refl, ap, arith}
+use Rattle.std.proofs.Common.{◌≡◌, ℕ, zero, suc, ◌+◌, ◌<◌, ◌≤◌, min, List, [], ◌∷◌, length, take, drop, ap, arith}
 use Rattle.std.specs.List.{AllByRecursion}
 use Rattle.std.proofs.lemmas.List.{take_min, take-take}
 use Rattle.std.proofs.lemmas.Grind.{common_steps}
 use Rattle.position.specs.Boundaries.{pos_by, frames_from_by}
 use Rattle.position.proofs.Boundaries.{boundary-le, from-zero, from-in}
 use Rattle.replay_buffer.specs.Held.{Held, IsHeldBoundary}
-
-pub pos-cons : (f : List ℕ) (fs : List (List ℕ)) → pos_by length (f ∷ fs) ≡ length f + pos_by length fs
-unfolding pos_by
-pos-cons f fs = refl
-
-pub pos-one : (f : List ℕ) (fs : List (List ℕ)) → pos_by length (take 1 (f ∷ fs)) ≡ length f
-unfolding pos_by
-pos-one f fs = omega arith
 
 pub rising : (fs : List (List ℕ)) (i j : ℕ) → i ≤ j → pos_by length (take i fs) ≤ pos_by length (take j fs)
 unfolding pos_by

@@ -5,7 +5,6 @@ use Rattle.std.proofs.lemmas.Bool.Decides.{nat_tests}
 use Rattle.position.specs.Boundaries.{pos_by, acked_by, least_boundary_by, frames_from_by}
 use Rattle.position.proofs.Boundaries.{acked-in, acked-at_most, least-zero, least-in, from-zero, from-in}
 use Rattle.replay_buffer.specs.Held.{Held, Buffer, end_of, without_first, from_least, from_acked, without_oldest, OldestEndsBy}
-use Rattle.replay_buffer.proofs.Boundaries.{pos-one}
 
 pub same_held : (h g : Held) → h.first ≡ g.first → h.frames ≡ g.frames → h.hold ≡ g.hold → h ≡ g
 same_held h g first frames hold =
@@ -17,18 +16,19 @@ held at frames hold = record { first = at; frames = frames; hold = hold }
 -- what is left of the frames after the oldest one is what is left of all
 without_more : (at hold m : ℕ) (f : List ℕ) (fs : List (List ℕ)) → 0 < length f
     → without_first (without_oldest (held at (f ∷ fs) hold)) m ≡ without_first (held at (f ∷ fs) hold) (length f + m)
+unfolding pos_by
 without_more at hold m f fs some =
     let left : (length f + m) - length f ≡ m = omega arith in
-    same_held _ _ (omega (arith, pos-one f fs)) (cc (left, from-in length f fs (length f + m) (omega arith))) refl
+    same_held _ _ (omega arith) (cc (left, from-in length f fs (length f + m) (omega arith))) refl
 
 nothing_more : (h : Held) (n : ℕ) → n ≡ 0 → without_first h n ≡ h
 nothing_more h n none = same_held (without_first h n) h (omega (arith, none)) (ap (frames_from_by length h.frames) none ∙ from-zero length h.frames) refl
 
 pub least_step : (at hold low : ℕ) (fs : List (List ℕ)) → at < low → 0 < length fs → at < at + pos_by length (take 1 fs)
     → from_least (without_oldest (held at fs hold)) low ≡ from_least (held at fs hold) low
+unfolding pos_by
 least_step at hold low [] below some rises = absurd (omega arith)
 least_step at hold low (f ∷ fs) below some rises =
-    let one = pos-one f fs in
     let further : low - (at + pos_by length (take 1 (f ∷ fs))) ≡ (low - at) - length f = omega arith in
     rw (further, least-in length f fs (low - at) (omega arith)) (without_more at hold _ f fs (omega arith))
 
@@ -39,9 +39,9 @@ least_done h low reached =
 
 pub acked_step : (at hold position : ℕ) (fs : List (List ℕ)) → OldestEndsBy (held at fs hold) position → at < at + pos_by length (take 1 fs)
     → from_acked (without_oldest (held at fs hold)) position ≡ from_acked (held at fs hold) position
+unfolding pos_by
 acked_step at hold position [] past rises = absurd (omega arith)
 acked_step at hold position (f ∷ fs) past rises =
-    let one = pos-one f fs in
     let further : position - (at + pos_by length (take 1 (f ∷ fs))) ≡ (position - at) - length f = omega arith in
     rw (further, acked-in length f fs (position - at) (omega (arith, past.1))) (without_more at hold _ f fs (omega arith))
 

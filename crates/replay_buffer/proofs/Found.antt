@@ -6,7 +6,7 @@ use Rattle.std.proofs.lemmas.List.{drop_at, length-take-le, take-append-drop, ta
 use Rattle.std.proofs.lemmas.List.Concat.{flat_map-append}
 use Rattle.std.proofs.lemmas.List.Sorted.{IsNonDecreasingBy-from_default, searched}
 use Rattle.rs_frame.specs.Framed.{framed}
-use Rattle.position.specs.Boundaries.{pos_by, frames_from_by}
+use Rattle.position.specs.Boundaries.{pos_by}
 use Rattle.replay_buffer.specs.Held.{Held, IsHeldBoundary, framed_from}
 use Rattle.replay_buffer.specs.Storage.{ends_of, Stores}
 use Rattle.replay_buffer.proofs.Boundaries.{rising, rising_more, from-taken, ends_at}
@@ -48,11 +48,6 @@ boundary_found h position ends bytes (Err i) s other search_is =
     let miss = searched (ends_of h.first h.frames) position (Err i) (rw (← s.ends_are) search_is) (ends_rise h.first h.frames) in
     (λ t. absurd (cc t), λ b. let e = ends_at h position b in absurd (missed h.first position h.frames i e.0 other miss.1 miss.2 e.1.within e.1.is))
 
--- the number of ends up to a boundary is the number of frames before it
-counted : (at from : ℕ) (fs : List (List ℕ)) (k m : ℕ) → AllByRecursion (λ f. 6 ≤ length f) fs → k ≤ length fs → ((j : ℕ) → j < k → get_or (ends_of at fs) j 0 ≤ from) → ((j : ℕ) → k ≤ j → j < length fs → from < get_or (ends_of at fs) j 0) → m ≤ length fs → from ≡ at + pos_by length (take m fs) → k ≡ m
-counted at from fs k m all le within after m_le is =
-    grind (arith, within m, after k, get_or-ends_of at fs m, get_or-ends_of at fs k, rising_more fs m all, rising fs (suc k) m)
-
 framed_all-drop : (fs : List (List ℕ)) (m : ℕ) → m ≤ length fs → drop (pos_by length (take m fs) + 3 * m) (flat_map framed fs) ≡ flat_map framed (drop m fs)
 framed_all-drop fs m le =
     let parts : flat_map framed fs ≡ flat_map framed (take m fs) ++ flat_map framed (drop m fs) = ap (flat_map framed) (sym (take-append-drop m fs)) ∙ flat_map-append framed (take m fs) (drop m fs) in
@@ -67,16 +62,20 @@ pub record LiesAt (h : Held) (from k : ℕ) (bytes : List ℕ) : Type 0 where
 pub lies_at : (h : Held) (from k : ℕ) (ends bytes : List ℕ) → Stores h.first ends bytes h.frames → k ≤ length ends → ((j : ℕ) → j < k → get_or ends j 0 ≤ from) → ((j : ℕ) → k ≤ j → j < length ends → from < get_or ends j 0) → IsHeldBoundary h from → LiesAt h from k bytes
 lies_at h from k ends bytes s le within after boundary =
     let e = ends_at h from boundary in
-    let many : length ends ≡ length h.frames = ap length s.ends_are ∙ length-ends_of h.first h.frames in
-    let low : (j : ℕ) → j < k → get_or (ends_of h.first h.frames) j 0 ≤ from = λ j lt. omega (arith, within j lt, ap (λ es. get_or es j 0) s.ends_are) in
-    let high : (j : ℕ) → k ≤ j → j < length h.frames → from < get_or (ends_of h.first h.frames) j 0 = λ j ge lt. omega (arith, after j ge (omega arith), ap (λ es. get_or es j 0) s.ends_are) in
-    let same : k ≡ e.0 = counted h.first from h.frames k e.0 s.longer (omega arith) low high e.1.within e.1.is in
+    let many = ap length s.ends_are ∙ length-ends_of h.first h.frames in
+    let low = ap (λ es. get_or es e.0 0) s.ends_are in
+    let high = ap (λ es. get_or es k 0) s.ends_are in
+    let same : k ≡ e.0 =
+    grind (
+      arith, many, low, high, e.1.is, e.1.within, within e.0, after k, get_or-ends_of h.first h.frames e.0, get_or-ends_of h.first h.frames k,
+      rising_more h.frames e.0 s.longer, rising h.frames (suc k) e.0,
+    ) in
     let at : from - h.first ≡ pos_by length (take e.0 h.frames) = omega (arith, e.1.is) in
-    let place : (from - h.first) + 3 * k ≡ pos_by length (take e.0 h.frames) + 3 * e.0 = omega (arith, same, at) in
-    let rest : frames_from_by length h.frames (from - h.first) ≡ drop e.0 h.frames = ap (frames_from_by length h.frames) at ∙ from-taken h.frames e.0 s.longer e.1.within in
+    let place : (from - h.first) + 3 * k ≡ pos_by length (take e.0 h.frames) + 3 * e.0 = omega arith in
+    let all = take_all (length h.frames) h.frames (omega arith) in
     record {
-      rest = ap (λ n. drop n bytes) place ∙ ap (drop (pos_by length (take e.0 h.frames) + 3 * e.0)) s.bytes_are ∙ framed_all-drop h.frames e.0 e.1.within ∙ ap (flat_map framed) (sym rest);
-      within = omega (arith, place, ap length s.bytes_are, length-framed_all h.frames, rising h.frames e.0 (length h.frames) e.1.within, ap (pos_by length) (take_all (length h.frames) h.frames (omega arith)));
+      rest = cc (place, at, s.bytes_are, framed_all-drop h.frames e.0 e.1.within, from-taken h.frames e.0 s.longer e.1.within);
+      within = omega (arith, ap length s.bytes_are, length-framed_all h.frames, rising h.frames e.0 (length h.frames) e.1.within, ap (pos_by length) all);
     }
 
 pub first_held : (h : Held) (position : ℕ) → position ≡ h.first → IsHeldBoundary h position

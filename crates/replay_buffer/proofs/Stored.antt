@@ -9,7 +9,6 @@ use Rattle.byteorder.specs.Numbers.{length-bytes_high_first}
 use Rattle.rs_frame.specs.Framed.{framed}
 use Rattle.position.specs.Boundaries.{pos_by}
 use Rattle.replay_buffer.specs.Storage.{ends_of, frames_in, Stores}
-use Rattle.replay_buffer.proofs.Boundaries.{pos-cons, pos-one}
 
 length-prefix : (f : List ℕ) → length (big_bytes 3 (length f)) ≡ 3
 length-prefix f = length-bytes_high_first 3 (length f)
@@ -72,6 +71,7 @@ pub record Pops (at end : ℕ) (ends bytes rest : List ℕ) (fs : List (List ℕ
 
 pub Stores-pop : (at end : ℕ) (ends left bytes rest : List ℕ) (fs : List (List ℕ)) → Stores at ends bytes fs → ends ≡ end ∷ left → rest ≡ drop (3 + (end - at)) bytes
     → Pops at end left bytes rest fs
+unfolding pos_by
 Stores-pop at end ends left bytes rest [] s is dropped = absurd (cc (s.ends_are, is))
 Stores-pop at end ends left bytes rest (f ∷ fs) s is dropped =
     let e : end ≡ at + length f = cc (is, s.ends_are) in
@@ -83,15 +83,15 @@ Stores-pop at end ends left bytes rest (f ∷ fs) s is dropped =
         ends_are = cc (is, s.ends_are, e);
         longer = s.longer.1;
       });
-      end_is = omega (arith, e, pos-one f fs);
+      end_is = omega (arith, e);
       rises = omega (arith, e, s.longer.0);
       within = omega (arith, n, ap length bs, length-append (framed f) (flat_map framed fs), length-framed f);
-      all = omega (arith, pos-one f fs, pos-cons f fs);
+      all = omega arith;
     }
 
 -- the fields once a frame was appended
 pub Stores-append : (at end : ℕ) (ends bytes longer more : List ℕ) (fs : List (List ℕ)) (f : List ℕ) → Stores at ends bytes fs → longer ≡ bytes ++ framed f
-    → more ≡ ends ++ end ∷ [] → 6 ≤ length f → end ≡ at + pos_by length fs + length f → Reads at more longer (fs ++ f ∷ [])
+    → more ≡ ends ++ (end + length f) ∷ [] → 6 ≤ length f → end ≡ at + pos_by length fs → Reads at more longer (fs ++ f ∷ [])
 Stores-append at end ends bytes longer more fs f s l m long is = reads at more longer (fs ++ f ∷ []) (record {
   bytes_are = cc (l, s.bytes_are, framed_all-push fs f);
   ends_are = cc (m, s.ends_are, is, ends_of-push at fs f);
