@@ -76,18 +76,15 @@ all_short f mtu whole least =
     (λ g gs long rest. All-cons IsShort (first_fragment mtu g) gs (omega (arith, first_length mtu g long)) rest)
     (length_of f) f (omega arith) whole
 
-first_stream : (mtu : ℕ) (f : Frame) → stream_of (first_fragment mtu f) ≡ stream_of f
-first_stream mtu f = grind (arith, common_steps)
-
-rest_stream : (mtu : ℕ) (f : Frame) → stream_of (rest_after mtu f) ≡ stream_of f
-rest_stream mtu f = grind (arith, common_steps)
+streams : (mtu : ℕ) (f : Frame) → (stream_of (first_fragment mtu f) ≡ stream_of f) × (stream_of (rest_after mtu f) ≡ stream_of f)
+streams mtu f = grind (arith, common_steps)
 
 pub all_on_stream : (f : Frame) (mtu : ℕ) → IsSplittable f → IsMtu mtu → All (λ g. stream_of g ≡ stream_of f) (split_of f mtu)
 all_on_stream f mtu whole limit =
     let IsOn : ℕ → Frame → Type 0 = λ stream g. stream_of g ≡ stream in
     by_cuts (λ g gs. All (IsOn (stream_of g)) gs) mtu limit.1
     (λ g g_whole fits. All-cons (IsOn (stream_of g)) g [] refl (All-nil (IsOn (stream_of g))))
-    (λ g gs long rest. All-cons (IsOn (stream_of g)) (first_fragment mtu g) gs (first_stream mtu g) (subst (λ stream. All (IsOn stream) gs) (rest_stream mtu g) rest))
+    (λ g gs long rest. All-cons (IsOn (stream_of g)) (first_fragment mtu g) gs (streams mtu g).0 (subst (λ stream. All (IsOn stream) gs) (streams mtu g).1 rest))
     (length_of f) f (omega arith) whole
 
 EachButLast-cons : (P : Frame → Type 0) (f : Frame) (fs : List Frame) → P f → EachButLast P fs → EachButLast P (f ∷ fs)

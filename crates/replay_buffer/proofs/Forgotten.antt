@@ -24,18 +24,17 @@ without_more at hold m f fs some =
 nothing_more : (h : Held) (n : ℕ) → n ≡ 0 → without_first h n ≡ h
 nothing_more h n none = same_held (without_first h n) h (omega (arith, none)) (ap (frames_from_by length h.frames) none ∙ from-zero length h.frames) refl
 
-pub least_step : (at hold low : ℕ) (fs : List (List ℕ)) → at < low → 0 < length fs → at < at + pos_by length (take 1 fs)
+pub least_step : (at hold low : ℕ) (fs : List (List ℕ)) → at < low → at < at + pos_by length (take 1 fs)
     → from_least (without_oldest (held at fs hold)) low ≡ from_least (held at fs hold) low
 unfolding pos_by
-least_step at hold low [] below some rises = absurd (omega arith)
-least_step at hold low (f ∷ fs) below some rises =
+least_step at hold low [] below rises = absurd (omega arith)
+least_step at hold low (f ∷ fs) below rises =
     let further : low - (at + pos_by length (take 1 (f ∷ fs))) ≡ (low - at) - length f = omega arith in
     rw (further, least-in length f fs (low - at) (omega arith)) (without_more at hold _ f fs (omega arith))
 
 pub least_done : (h : Held) (low : ℕ) → low ≤ h.first → from_least h low ≡ h
 least_done h low reached =
-    let none : low - h.first ≡ 0 = omega arith in
-    nothing_more h (least_boundary_by length h.frames (low - h.first)) (ap (least_boundary_by length h.frames) none ∙ least-zero length h.frames)
+    nothing_more h (least_boundary_by length h.frames (low - h.first)) (grind (arith, least-zero length h.frames))
 
 pub acked_step : (at hold position : ℕ) (fs : List (List ℕ)) → OldestEndsBy (held at fs hold) position → at < at + pos_by length (take 1 fs)
     → from_acked (without_oldest (held at fs hold)) position ≡ from_acked (held at fs hold) position
@@ -58,8 +57,3 @@ pub record IsOnTheWay (left : Held → Held) (old now : Buffer) : Type 0 where
   pub same : left now.held ≡ left old.held
   pub end : end_of now.held ≡ end_of old.held
   pub spare : now.spare ≡ old.spare
-
--- a frame is held where the newest one ends above the first
-pub some_held : (h : Held) → h.first < end_of h → 0 < length h.frames
-unfolding pos_by
-some_held h below = grind (arith, common_steps)

@@ -20,17 +20,17 @@ unfolding pos_by least_boundary_by frames_from_by acked_by
 held_of_none frames hold none = record { first_is = refl; frames_are = none }
 
 -- the frames held are those made from a boundary on
-record Follows (made : List Frame) (h : Held) : Type 0 where
-  start : IsBoundary made h.first
-  frames : h.frames ≡ map canonical (frames_from made h.first)
+pub record Follows (made : List Frame) (h : Held) : Type 0 where
+  pub start : IsBoundary made h.first
+  pub frames : h.frames ≡ map canonical (frames_from made h.first)
 
-follows : (made : List Frame) (told : ℕ) (h : Held) → IsHeldOf made told h → Follows made h
+pub follows : (made : List Frame) (told : ℕ) (h : Held) → IsHeldOf made told h → Follows made h
 follows made told h s = record {
   start = subst (IsBoundary made) (sym s.first_is) (least-boundary length_of made (max (acked made told) (pos made - h.hold)));
   frames = s.frames_are;
 }
 
-ends : (made : List Frame) (h : Held) → Follows made h → end_of h ≡ pos made
+pub ends : (made : List Frame) (h : Held) → Follows made h → end_of h ≡ pos made
 ends made h f =
     let same = pos-map length_of length canonical length-canonical (frames_from made h.first) in
     omega (arith, ap (pos_by length) f.frames, pos-from length_of made h.first f.start)
@@ -115,14 +115,14 @@ pub boundaries_held : (made : List Frame) (told : ℕ) (h : Held) (p : ℕ) → 
 boundaries_held made told h p s =
     let b = follows made told h s in
     let rest = frames_from made h.first in
-    let back : h.first ≤ p → h.first + (p - h.first) ≡ p = λ le. omega arith in (
+    let back : h.first ≤ p → h.first + (p - h.first) ≡ p = λ le. omega arith in
+    rw s.frames_are (
       λ (from, held).
-          let mapped = subst (λ fs. IsBoundaryBy length fs (p - h.first)) s.frames_are held in
-          let there = boundary-map length_of length canonical length-canonical rest (p - h.first) mapped in
+          let there = boundary-map length_of length canonical length-canonical rest (p - h.first) held in
           (subst (IsBoundary made) (back from) (boundary_whole length_of made h.first (p - h.first) b.start there), from),
       λ (here, from).
           let there = boundary_rest length_of made h.first (p - h.first) b.start (subst (IsBoundary made) (sym (back from)) here) in
-          (from, rw s.frames_are (boundary-mapped length_of length canonical length-canonical rest (p - h.first) there)),
+          (from, boundary-mapped length_of length canonical length-canonical rest (p - h.first) there),
     )
 
 framed-canonical : (fs : List Frame) → flat_map framed (map canonical fs) ≡ framed_all fs
@@ -133,9 +133,6 @@ pub rest_held : (made : List Frame) (told : ℕ) (h : Held) (p : ℕ) → IsHeld
 rest_held made told h p s from =
     let back : h.first + (p - h.first) ≡ p = omega arith in
     cc (left made h (p - h.first) (follows made told h s), back, framed-canonical (frames_from made p))
-
-pub end_held : (made : List Frame) (told : ℕ) (h : Held) → IsHeldOf made told h → end_of h ≡ pos made
-end_held made told h s = ends made h (follows made told h s)
 
 pub only_one : (made : List Frame) (told : ℕ) (h g : Held) → IsHeldOf made told h → IsHeldOf made told g → h.hold ≡ g.hold → h ≡ g
 only_one made told h g s t same =

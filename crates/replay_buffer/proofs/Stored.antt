@@ -69,8 +69,8 @@ pub record Pops (at end : ℕ) (ends bytes rest : List ℕ) (fs : List (List ℕ
   pub within : 3 + (end - at) ≤ length bytes
   pub all : pos_by length fs ≡ pos_by length (take 1 fs) + pos_by length (drop 1 fs)
 
-pub Stores-pop : (at end : ℕ) (ends left bytes rest : List ℕ) (fs : List (List ℕ)) → Stores at ends bytes fs → ends ≡ end ∷ left → rest ≡ drop (3 + (end - at)) bytes
-    → Pops at end left bytes rest fs
+pub Stores-pop : (at end : ℕ) (ends left bytes rest : List ℕ) (fs : List (List ℕ)) → Stores at ends bytes fs → ends ≡ end ∷ left
+    → rest ≡ drop (3 + (end - at)) bytes → Pops at end left bytes rest fs
 unfolding pos_by
 Stores-pop at end ends left bytes rest [] s is dropped = absurd (cc (s.ends_are, is))
 Stores-pop at end ends left bytes rest (f ∷ fs) s is dropped =

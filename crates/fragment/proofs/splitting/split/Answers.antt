@@ -46,10 +46,8 @@ returns-clause-split c =
 
 pub returns-clause-spellable : goal.returns-clause-spellable
 returns-clause-spellable c =
-    subst (All IsSpellable) (sym (returns-clause-split c))
-    (all_spellable c.args.frame.now c.args.mtu c.requires.spellable c.requires.whole c.requires.limit)
+    rw (returns-clause-split c) (all_spellable c.args.frame.now c.args.mtu c.requires.spellable c.requires.whole c.requires.limit)
 
 pub returns-clause-short : goal.returns-clause-short
 returns-clause-short c = λ limited.
-    subst (All (λ g. length_of g ≤ c.args.mtu)) (sym (returns-clause-split c))
-    (all_short c.args.frame.now c.args.mtu c.requires.whole (c.requires.limit.1 (omega arith)))
+    rw (returns-clause-split c) (all_short c.args.frame.now c.args.mtu c.requires.whole (c.requires.limit.1 (omega arith)))

@@ -10,9 +10,9 @@ use Rattle.replay_buffer.proofs.replay.Replay.append.Goals as goal
 
 pub invariant_of-self : goal.invariant_of-self
 invariant_of-self c =
-    let kept = c.append_framed.ensures in
-    let all = Stores-append _ _ _ _ _ _ _ _ c.self.invariant.stored (ap (λ (q : Contents). q.bytes) kept) c.push_back_reserved.ensures.items c.requires.shortest c.self.invariant.end in
-    let reserved = ap (λ (q : Contents). q.reserved) kept in
+    let bytes = ap (λ (q : Contents). q.bytes) c.append_framed.ensures in
+    let reserved = ap (λ (q : Contents). q.reserved) c.append_framed.ensures in
+    let all = Stores-append _ _ _ _ _ _ _ _ c.self.invariant.stored bytes c.push_back_reserved.ensures.items c.requires.shortest c.self.invariant.end in
     let some = ap (λ (b : Buffer). b.spare.frames) c.self.view_is in
     record {
       stored = all.stored;

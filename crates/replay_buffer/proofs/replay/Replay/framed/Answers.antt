@@ -14,7 +14,8 @@ lies : (i : Inside) (b : Buffer) (from k : ℕ) → buffer_of i ≡ b → IsStor
     → LiesAt (buffer_of i).held from k i.bytes.bytes
 lies i b from k view s boundary le within after =
     let same = i.ends.ok.0 in
-    lies_at _ from k _ _ s.stored (omega arith) within (λ j ge lt. after j ge (omega arith)) (subst (λ (h : Buffer). IsHeldBoundary h.held from) (sym view) boundary)
+    let here = subst (λ (h : Buffer). IsHeldBoundary h.held from) (sym view) boundary in
+    lies_at _ from k _ _ s.stored (omega arith) within (λ j ge lt. after j ge (omega arith)) here
 
 pub count_up_to-before-requires : goal.count_up_to-before-requires
 count_up_to-before-requires c = ends_non_decreasing _ _ _ _ c.self.invariant.stored
