@@ -78,6 +78,7 @@ split_joined f mtu whole limit =
       next = grind (arith, common_steps, or_self, long.whole, rest.next);
     })
     (length_of f) f (omega arith) whole
+
 -- ---- the fragments, pushed
 
 whole_follows : (f : Frame) → IsSplittable f → follows_of f ≡ false

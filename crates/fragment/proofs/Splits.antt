@@ -27,7 +27,8 @@ fragments_enough (suc n) (suc m) mtu f whole least n_enough m_enough = elim (cas
   | inl longer ↦
       let shorter = rest_length mtu f (record { whole = whole; least = least; longer = longer }) in
       cc (
-        fragments_cut n mtu f longer, fragments_cut m mtu f longer,
+        fragments_cut n mtu f longer,
+        fragments_cut m mtu f longer,
         fragments_enough n m mtu (rest_after mtu f) (rest_whole mtu f whole) least (omega arith) (omega arith),
       )
   | inr fits ↦ fragments_fit (suc n) mtu f fits ∙ sym (fragments_fit (suc m) mtu f fits)
@@ -84,7 +85,7 @@ all_on_stream f mtu whole limit =
     let IsOn : ℕ → Frame → Type 0 = λ stream g. stream_of g ≡ stream in
     by_cuts (λ g gs. All (IsOn (stream_of g)) gs) mtu limit.1
     (λ g g_whole fits. All-cons (IsOn (stream_of g)) g [] refl (All-nil (IsOn (stream_of g))))
-    (λ g gs long rest. All-cons (IsOn (stream_of g)) (first_fragment mtu g) gs (streams mtu g).0 (subst (λ stream. All (IsOn stream) gs) (streams mtu g).1 rest))
+    (λ g gs long rest. All-cons (IsOn (stream_of g)) (first_fragment mtu g) gs (streams mtu g).0 (subst (λ id. All (IsOn id) gs) (streams mtu g).1 rest))
     (length_of f) f (omega arith) whole
 
 EachButLast-cons : (P : Frame → Type 0) (f : Frame) (fs : List Frame) → P f → EachButLast P fs → EachButLast P (f ∷ fs)

@@ -57,3 +57,11 @@ pub record IsOnTheWay (left : Held → Held) (old now : Buffer) : Type 0 where
   pub same : left now.held ≡ left old.held
   pub end : end_of now.held ≡ end_of old.held
   pub spare : now.spare ≡ old.spare
+
+pub onwards : (left : Held → Held) (old now new : Buffer) (next : Held) → IsOnTheWay left old now → new.held ≡ next → left next ≡ left now.held
+    → end_of new.held ≡ end_of now.held → new.spare ≡ now.spare → IsOnTheWay left old new
+onwards left old now new next way held same end spare = record {
+  same = ap left held ∙ same ∙ way.same;
+  end = end ∙ way.end;
+  spare = spare ∙ way.spare;
+}

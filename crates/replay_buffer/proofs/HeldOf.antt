@@ -6,7 +6,7 @@ use Rattle.std.proofs.lemmas.List.{map-append}
 use Rattle.rs_frame.specs.declared.frame.Frame.{Frame}
 use Rattle.rs_frame.specs.Framed.{framed, framed_frame, framed_all}
 use Rattle.rs_frame.specs.Spelling.{canonical, length_of}
-use Rattle.position.specs.Boundaries.{pos_by, IsBoundaryBy, acked_by, least_boundary_by, frames_from_by, pos, IsBoundary, acked, least_boundary, first, frames_from}
+use Rattle.position.specs.Boundaries.{pos_by, acked_by, least_boundary_by, frames_from_by, pos, IsBoundary, acked, least_boundary, first, frames_from}
 use Rattle.position.proofs.Boundaries.{pos-push, acked-boundary, acked-at_most, acked-greatest, boundary-le, least-boundary, least-at_least, least-least, least-between, pos-from}
 use Rattle.position.proofs.Growing.{acked_after, acked_grown, acked-map, boundary_grown, boundary-map, boundary-mapped, boundary_rest, boundary_whole, from_after, from_grown, from-map, least_after, least_grown, least-map, pos-map}
 use Rattle.replay_buffer.specs.Held.{Held, IsHeldBoundary, IsHeldOf, end_of, framed_from, from_acked, from_least, with_newest}
@@ -50,7 +50,10 @@ least-max xs a b le =
 acked-max : (xs : List Frame) (a b : ℕ) → acked xs (max a b) ≡ max (acked xs a) (acked xs b)
 acked-max xs a b =
     grind (
-      arith, common_steps, acked-at_most length_of xs a, acked-at_most length_of xs b,
+      arith,
+      common_steps,
+      acked-at_most length_of xs a,
+      acked-at_most length_of xs b,
       acked-greatest length_of xs (max a b) (acked xs a) (acked-boundary length_of xs a),
       acked-greatest length_of xs (max a b) (acked xs b) (acked-boundary length_of xs b),
     )
@@ -70,7 +73,9 @@ kept made told newest frame h s up_to is =
     let f : Follows all new = record {
       start = boundary_grown length_of made (newest ∷ []) h.first b.start;
       frames = cc (
-        s.frames_are, is, map-append canonical (frames_from made h.first) (newest ∷ []),
+        s.frames_are,
+        is,
+        map-append canonical (frames_from made h.first) (newest ∷ []),
         from_grown length_of made (newest ∷ []) h.first (boundary-le length_of made h.first b.start),
       );
     } in
@@ -103,8 +108,11 @@ released made told position h s =
     let wanted : max before (acked made position) ≡ max (acked made (max told position)) (pos made - h.hold) = omega (arith, acked-max made told position) in
     record {
       first_is = omega (
-        arith, least-own made now (acked-boundary length_of made (max h.first position)), ap (least_boundary made) both,
-        least-max made before (acked made position) (omega arith), ap (least_boundary made) wanted,
+        arith,
+        least-own made now (acked-boundary length_of made (max h.first position)),
+        ap (least_boundary made) both,
+        least-max made before (acked made position) (omega arith),
+        ap (least_boundary made) wanted,
       );
       frames_are = left made h (acked_by length h.frames low) f;
     }

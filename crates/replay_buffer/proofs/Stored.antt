@@ -16,9 +16,6 @@ length-prefix f = length-bytes_high_first 3 (length f)
 pub length-framed : (f : List ℕ) → length (framed f) ≡ 3 + length f
 length-framed f = omega (arith, length-append (big_bytes 3 (length f)) f, length-prefix f)
 
-pub framed_all-cons : (f : List ℕ) (fs : List (List ℕ)) → flat_map framed (f ∷ fs) ≡ framed f ++ flat_map framed fs
-framed_all-cons f fs = flat_map-cons framed f fs
-
 pub framed_all-push : (fs : List (List ℕ)) (f : List ℕ) → flat_map framed (fs ++ f ∷ []) ≡ flat_map framed fs ++ framed f
 framed_all-push fs f = flat_map-append framed fs (f ∷ []) ∙ ap (λ t. flat_map framed fs ++ t) (append-nil (framed f))
 
@@ -40,7 +37,7 @@ read_again at [] = refl
 read_again at (f ∷ fs) =
     let rest = flat_map framed fs in
     let n : (at + length f) - at ≡ length f = omega arith in
-    cc (framed_all-cons f fs, take_first f rest _ n, drop_first f rest _ n, read_again (at + length f) fs)
+    cc (flat_map-cons framed f fs, take_first f rest _ n, drop_first f rest _ n, read_again (at + length f) fs)
 
 -- what is stored is what is read
 pub record Reads (at : ℕ) (ends bytes : List ℕ) (fs : List (List ℕ)) : Type 0 where
@@ -76,7 +73,7 @@ Stores-pop at end ends left bytes rest [] s is dropped = absurd (cc (s.ends_are,
 Stores-pop at end ends left bytes rest (f ∷ fs) s is dropped =
     let e : end ≡ at + length f = cc (is, s.ends_are) in
     let n : end - at ≡ length f = omega (arith, e) in
-    let bs : bytes ≡ framed f ++ flat_map framed fs = s.bytes_are ∙ framed_all-cons f fs in
+    let bs : bytes ≡ framed f ++ flat_map framed fs = s.bytes_are ∙ flat_map-cons framed f fs in
     record {
       reads = reads end left rest fs (record {
         bytes_are = cc (dropped, bs, drop_first f (flat_map framed fs) (end - at) n);

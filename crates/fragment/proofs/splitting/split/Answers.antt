@@ -1,6 +1,6 @@
-use Rattle.std.proofs.Common.{◌≡◌, ◌≤◌, [], ◌∷◌, sym, append_assoc, arith, subst, All}
+use Rattle.std.proofs.Common.{◌≡◌, [], ◌∷◌, sym, append_assoc, arith, subst}
 use Rattle.std.proofs.lemmas.Grind.{common_steps}
-use Rattle.rs_frame.specs.Spelling.{IsSpellable, length_of}
+use Rattle.rs_frame.specs.Spelling.{IsSpellable}
 use Rattle.fragment.specs.Splitting.{split_of, first_fragment, rest_after}
 use Rattle.fragment.specs.Views.{frame_in}
 use Rattle.fragment.proofs.Cuts.{IsLong, rest_length, rest_whole, rest_spellable}
@@ -27,7 +27,11 @@ loop-rest-preserved c =
     } in
     record {
       split = cc (
-        c.loop-rest.invariant.split, c.in_ok-push.ensures.items, c.in_ok-first.ensures, c.after-rest.ensures, split_cut rest c.args.mtu long,
+        c.loop-rest.invariant.split,
+        c.in_ok-push.ensures.items,
+        c.in_ok-first.ensures,
+        c.after-rest.ensures,
+        split_cut rest c.args.mtu long,
         append_assoc c.loop-rest.frames.items (first_fragment c.args.mtu rest ∷ []) (split_of (rest_after c.args.mtu rest) c.args.mtu),
       );
       whole = rw c.after-rest.ensures (rest_whole c.args.mtu rest c.loop-rest.invariant.whole);

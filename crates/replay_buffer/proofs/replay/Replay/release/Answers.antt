@@ -1,6 +1,6 @@
 use Rattle.std.proofs.Common.{◌≡◌, true, false, refl, sym, ap, subst, max, ◌∙◌, arith}
-use Rattle.replay_buffer.specs.Held.{Held, IsHeldOf, from_acked}
-use Rattle.replay_buffer.proofs.Forgotten.{acked_done, acked_step}
+use Rattle.replay_buffer.specs.Held.{Held, IsHeldOf}
+use Rattle.replay_buffer.proofs.Forgotten.{acked_done, onwards, acked_step}
 use Rattle.replay_buffer.proofs.HeldOf.{released}
 use Rattle.replay_buffer.proofs.replay.Replay.release.Goals as goal
 
@@ -8,14 +8,8 @@ pub loop-self-preserved : goal.loop-self-preserved
 loop-self-preserved c =
     let h = c.loop-self.self.held in
     let rises = ap (λ (g : Held). g.first) c.forget_oldest.ensures.held in
-    record {
-      same =
-          ap (λ (g : Held). from_acked g c.args.position) c.forget_oldest.ensures.held
-          ∙ acked_step h.first h.hold c.args.position h.frames (c.loop-self-test.ensures.0 refl) (omega arith)
-          ∙ c.loop-self.invariant.same;
-      end = c.forget_oldest.ensures.end ∙ c.loop-self.invariant.end;
-      spare = c.forget_oldest.ensures.spare ∙ c.loop-self.invariant.spare;
-    }
+    let step = acked_step h.first h.hold c.args.position h.frames (c.loop-self-test.ensures.0 refl) (omega arith) in
+    onwards _ _ _ _ _ c.loop-self.invariant c.forget_oldest.ensures.held step c.forget_oldest.ensures.end c.forget_oldest.ensures.spare
 
 pub returns-clause-held : goal.returns-clause-held
 returns-clause-held c =
