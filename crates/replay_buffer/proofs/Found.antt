@@ -65,21 +65,9 @@ lies_at h from k ends bytes s le within after boundary =
     let many = ap length s.ends_are ∙ length-ends_of h.first h.frames in
     let low = ap (λ es. get_or es e.0 0) s.ends_are in
     let high = ap (λ es. get_or es k 0) s.ends_are in
+    let ends = get_or-ends_of h.first h.frames in
     let same : k ≡ e.0 =
-    grind (
-      arith,
-      many,
-      low,
-      high,
-      e.1.is,
-      e.1.within,
-      within e.0,
-      after k,
-      get_or-ends_of h.first h.frames e.0,
-      get_or-ends_of h.first h.frames k,
-      rising_more h.frames e.0 s.longer,
-      rising h.frames (suc k) e.0,
-    ) in
+    grind (arith, many, low, high, e.1, within e.0, after k, ends e.0, ends k, rising_more h.frames e.0 s.longer, rising h.frames (suc k) e.0) in
     let at : from - h.first ≡ pos_by length (take e.0 h.frames) = omega (arith, e.1.is) in
     let place : (from - h.first) + 3 * k ≡ pos_by length (take e.0 h.frames) + 3 * e.0 = omega arith in
     let all = take_all (length h.frames) h.frames (omega arith) in

@@ -49,14 +49,8 @@ least-max xs a b le =
 
 acked-max : (xs : List Frame) (a b : ℕ) → acked xs (max a b) ≡ max (acked xs a) (acked xs b)
 acked-max xs a b =
-    grind (
-      arith,
-      common_steps,
-      acked-at_most length_of xs a,
-      acked-at_most length_of xs b,
-      acked-greatest length_of xs (max a b) (acked xs a) (acked-boundary length_of xs a),
-      acked-greatest length_of xs (max a b) (acked xs b) (acked-boundary length_of xs b),
-    )
+    let up = acked-greatest length_of xs (max a b) in
+    grind (arith, common_steps, acked-at_most length_of xs, up (acked xs a) (acked-boundary length_of xs a), up (acked xs b) (acked-boundary length_of xs b))
 
 -- a boundary is its own
 least-own : (xs : List Frame) (p : ℕ) → IsBoundary xs p → least_boundary xs p ≡ p
@@ -70,14 +64,10 @@ kept made told newest frame h s up_to is =
     let low = (end_of new - h.hold) - h.first in
     let before = max (acked made told) (pos made - h.hold) in
     let b = follows made told h s in
+    let inside = boundary-le length_of made h.first b.start in
     let f : Follows all new = record {
       start = boundary_grown length_of made (newest ∷ []) h.first b.start;
-      frames = cc (
-        s.frames_are,
-        is,
-        map-append canonical (frames_from made h.first) (newest ∷ []),
-        from_grown length_of made (newest ∷ []) h.first (boundary-le length_of made h.first b.start),
-      );
+      frames = cc (b.frames, is, map-append canonical (frames_from made h.first) (newest ∷ []), from_grown length_of made (newest ∷ []) h.first inside);
     } in
     let under = boundary-le length_of made (acked made told) (acked-boundary length_of made told) in
     let more = pos-push length_of made newest in
@@ -106,14 +96,10 @@ released made told position h s =
     let both : now ≡ max (least_boundary made before) (acked made position) =
     omega (arith, acked-max made h.first position, own, acked-at_most length_of made h.first, s.first_is) in
     let wanted : max before (acked made position) ≡ max (acked made (max told position)) (pos made - h.hold) = omega (arith, acked-max made told position) in
+    let same = least-own made now (acked-boundary length_of made (max h.first position)) in
+    let most = least-max made before (acked made position) (omega arith) in
     record {
-      first_is = omega (
-        arith,
-        least-own made now (acked-boundary length_of made (max h.first position)),
-        ap (least_boundary made) both,
-        least-max made before (acked made position) (omega arith),
-        ap (least_boundary made) wanted,
-      );
+      first_is = omega (arith, ap (least_boundary made) both, ap (least_boundary made) wanted);
       frames_are = left made h (acked_by length h.frames low) f;
     }
 
