@@ -26,11 +26,8 @@ fragments_enough (suc n) zero mtu f whole least n_enough m_enough =
 fragments_enough (suc n) (suc m) mtu f whole least n_enough m_enough = elim (cases_lt mtu (length_of f)) [
   | inl longer ↦
       let shorter = rest_length mtu f (record { whole = whole; least = least; longer = longer }) in
-      cc (
-        fragments_cut n mtu f longer,
-        fragments_cut m mtu f longer,
-        fragments_enough n m mtu (rest_after mtu f) (rest_whole mtu f whole) least (omega arith) (omega arith),
-      )
+      let left = fragments_enough n m mtu (rest_after mtu f) (rest_whole mtu f whole) least (omega arith) (omega arith) in
+      cc (fragments_cut n mtu f longer, fragments_cut m mtu f longer)
   | inr fits ↦ fragments_fit (suc n) mtu f fits ∙ sym (fragments_fit (suc m) mtu f fits)
 ]
 

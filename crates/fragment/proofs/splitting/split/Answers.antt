@@ -25,15 +25,10 @@ loop-rest-preserved c =
       least = c.requires.limit.1 (omega arith);
       longer = omega arith;
     } in
+    let cut = split_cut rest c.args.mtu long in
+    let joined = append_assoc c.loop-rest.frames.items (first_fragment c.args.mtu rest ∷ []) (split_of (rest_after c.args.mtu rest) c.args.mtu) in
     record {
-      split = cc (
-        c.loop-rest.invariant.split,
-        c.in_ok-push.ensures.items,
-        c.in_ok-first.ensures,
-        c.after-rest.ensures,
-        split_cut rest c.args.mtu long,
-        append_assoc c.loop-rest.frames.items (first_fragment c.args.mtu rest ∷ []) (split_of (rest_after c.args.mtu rest) c.args.mtu),
-      );
+      split = cc (c.loop-rest.invariant.split, c.in_ok-push.ensures.items, c.in_ok-first.ensures, c.after-rest.ensures);
       whole = rw c.after-rest.ensures (rest_whole c.args.mtu rest c.loop-rest.invariant.whole);
       spellable = subst IsSpellable (sym c.after-rest.ensures) (rest_spellable c.args.mtu rest long c.loop-rest.invariant.spellable);
     }

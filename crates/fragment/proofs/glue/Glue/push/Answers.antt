@@ -11,10 +11,6 @@ returns-clause-in_turn c =
     let fits : size_of sum.message ≤ c.args.self.now.max_payload =
     omega (arith, limit, size-join c.args.self.now.held.message c.args.message.now, c.size.ensures.value, c.size-2.ensures, c.from.ensures, c.if-size-from.false) in
     λ f fs part other.
-    cc (
-      taken c.args.self.now c.give.new.self c.args.follows c.args.message.now c.args.complete c.args.next f fs part fits
-          (cc (c.give.ensures.empty, c.if-follows.false)) (c.give.ensures.limit ∙ c.in_ok-append.ensures.limit),
-      c.if-follows.false,
-      c.give.ensures.whole,
-      c.in_ok-append.ensures.grown,
-    )
+    let turn = taken c.args.self.now c.give.new.self c.args.follows c.args.message.now c.args.complete c.args.next f fs part fits
+    (cc (c.give.ensures.empty, c.if-follows.false)) (c.give.ensures.limit ∙ c.in_ok-append.ensures.limit) in
+    cc (c.if-follows.false, c.give.ensures.whole, c.in_ok-append.ensures.grown)
