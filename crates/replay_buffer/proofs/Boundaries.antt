@@ -1,41 +1,30 @@
 -- Where frames end: boundaries rise, and the frames from one on are those after it.
-use Rattle.std.proofs.Common.{◌≡◌, ℕ, zero, suc, ◌+◌, ◌-◌, ◌<◌, ◌≤◌, min, List, [], ◌∷◌, length, take, drop, refl, ap, ◌∙◌, arith}
+use Rattle.std.proofs.Common.{◌≡◌, ℕ, zero, suc, ◌+◌, ◌<◌, ◌≤◌, min, List, [], ◌∷◌, length, take, drop, ap, arith}
 use Rattle.std.specs.List.{AllByRecursion}
-use Rattle.std.proofs.lemmas.List.{take_min}
+use Rattle.std.proofs.lemmas.List.{take_min, take-take}
+use Rattle.std.proofs.lemmas.Grind.{common_steps}
 use Rattle.position.specs.Boundaries.{pos_by, frames_from_by}
-use Rattle.position.proofs.Boundaries.{from-zero, from-in}
+use Rattle.position.proofs.Boundaries.{boundary-le, from-zero, from-in}
 use Rattle.replay_buffer.specs.Held.{Held, IsHeldBoundary}
-
-pub pos-cons : (f : List ℕ) (fs : List (List ℕ)) → pos_by length (f ∷ fs) ≡ length f + pos_by length fs
-unfolding pos_by
-pos-cons f fs = refl
-
-pub pos-one : (f : List ℕ) (fs : List (List ℕ)) → pos_by length (take 1 (f ∷ fs)) ≡ length f
-unfolding pos_by
-pos-one f fs = omega arith
 
 pub rising : (fs : List (List ℕ)) (i j : ℕ) → i ≤ j → pos_by length (take i fs) ≤ pos_by length (take j fs)
 unfolding pos_by
-rising fs zero j le = omega arith
-rising fs (suc i) zero le = absurd (omega arith)
-rising [] (suc i) (suc j) le = omega arith
-rising (f ∷ fs) (suc i) (suc j) le = omega (arith, rising fs i j (omega arith))
+rising fs i j le = boundary-le length (take j fs) (pos_by length (take i fs)) (i, ap (pos_by length) (take-take i j fs le))
 
 -- frames that are not empty end above where they start
-pub rising_more : (fs : List (List ℕ)) (i j : ℕ) → AllByRecursion (λ f. 6 ≤ length f) fs → i < j → j ≤ length fs → pos_by length (take i fs) < pos_by length (take j fs)
+pub rising_more : (fs : List (List ℕ)) (i : ℕ) → AllByRecursion (λ f. 6 ≤ length f) fs → i < length fs
+    → pos_by length (take i fs) < pos_by length (take (suc i) fs)
 unfolding pos_by
-rising_more [] i j all lt le = absurd (omega arith)
-rising_more (f ∷ fs) i zero all lt le = absurd (omega arith)
-rising_more (f ∷ fs) zero (suc j) all lt le = omega (arith, pos-cons f (take j fs), all.0)
-rising_more (f ∷ fs) (suc i) (suc j) all lt le = omega (arith, pos-cons f (take i fs), pos-cons f (take j fs), rising_more fs i j all.1 (omega arith) (omega arith))
+rising_more [] i all lt = absurd (omega arith)
+rising_more (f ∷ fs) zero all lt = omega (arith, all.0)
+rising_more (f ∷ fs) (suc i) all lt = omega (arith, rising_more fs i all.1 (omega arith))
 
 pub from-taken : (fs : List (List ℕ)) (k : ℕ) → AllByRecursion (λ f. 6 ≤ length f) fs → k ≤ length fs → frames_from_by length fs (pos_by length (take k fs)) ≡ drop k fs
 unfolding pos_by frames_from_by
 from-taken fs zero all le = from-zero length fs
 from-taken [] (suc k) all le = absurd (omega arith)
 from-taken (f ∷ fs) (suc k) all le =
-    let left : (length f + pos_by length (take k fs)) - length f ≡ pos_by length (take k fs) = omega arith in
-    from-in length f fs (length f + pos_by length (take k fs)) (omega (arith, all.0)) ∙ ap (frames_from_by length fs) left ∙ from-taken fs k all.1 (omega arith)
+    grind (arith, common_steps, from-in length f fs (length f + pos_by length (take k fs)), all.0, from-taken fs k all.1)
 
 -- how many of the held frames end at or before a held boundary
 pub record EndsAt (at : ℕ) (fs : List (List ℕ)) (p k : ℕ) : Type 0 where

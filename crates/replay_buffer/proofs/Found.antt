@@ -1,39 +1,31 @@
 -- Boundaries that are looked up among the ends.
-use Rattle.std.proofs.Common.{◌≡◌, ℕ, zero, suc, ◌+◌, ◌-◌, ◌*◌, ◌<◌, ◌≤◌, List, [], ◌∷◌, ◌++◌, length, take, drop, get_or, inl, inr, refl, sym, ap, subst, ◌∙◌, add-zero, arith}
-use Rattle.std.specs.Prelude.{Result, Ok, Err, MatchResult, IsTrue, is_ok}
-use Rattle.std.specs.Ordering.{nat_cmp}
+use Rattle.std.proofs.Common.{◌≡◌, ℕ, zero, suc, ◌+◌, ◌-◌, ◌*◌, ◌<◌, ◌≤◌, List, [], ◌∷◌, ◌++◌, length, take, drop, get_or, refl, sym, ap, ◌∙◌, add-zero, arith, Result, Ok, Err, IsTrue, is_ok, nat_cmp}
 use Rattle.std.specs.List.{AllByRecursion, flat_map}
 use Rattle.std.specs.List.Sorted.{IsNonDecreasing, IsBinarySearchResult}
 use Rattle.std.proofs.lemmas.List.{drop_at, length-take-le, take-append-drop, take_all}
 use Rattle.std.proofs.lemmas.List.Concat.{flat_map-append}
 use Rattle.std.proofs.lemmas.List.Sorted.{IsNonDecreasingBy-from_default, searched}
-use Rattle.std.proofs.lemmas.Bool.{cases_lt}
 use Rattle.rs_frame.specs.Framed.{framed}
-use Rattle.position.specs.Boundaries.{pos_by, frames_from_by}
+use Rattle.position.specs.Boundaries.{pos_by}
 use Rattle.replay_buffer.specs.Held.{Held, IsHeldBoundary, framed_from}
 use Rattle.replay_buffer.specs.Storage.{ends_of, Stores}
-use Rattle.replay_buffer.proofs.Boundaries.{pos-cons, pos-one, rising, rising_more, from-taken, ends_at}
+use Rattle.replay_buffer.proofs.Boundaries.{rising, rising_more, from-taken, ends_at}
 use Rattle.replay_buffer.proofs.Stored.{length-framed_all}
 
 pub length-ends_of : (at : ℕ) (fs : List (List ℕ)) → length (ends_of at fs) ≡ length fs
 length-ends_of at [] = refl
 length-ends_of at (f ∷ fs) = omega (arith, length-ends_of (at + length f) fs)
 
-pub get_or-ends_of : (at : ℕ) (fs : List (List ℕ)) (k : ℕ) → k < length fs → get_or (ends_of at fs) k 0 ≡ at + pos_by length (take (k + 1) fs)
+get_or-ends_of : (at : ℕ) (fs : List (List ℕ)) (k : ℕ) → k < length fs → get_or (ends_of at fs) k 0 ≡ at + pos_by length (take (suc k) fs)
+unfolding pos_by
 get_or-ends_of at [] k lt = absurd (omega arith)
-get_or-ends_of at (f ∷ fs) zero lt =
-    let one : pos_by length (take (0 + 1) (f ∷ fs)) ≡ length f = omega (arith, pos-one f fs) in
-    omega (arith, one)
-get_or-ends_of at (f ∷ fs) (suc k) lt =
-    let next : suc k + 1 ≡ suc (k + 1) = omega arith in
-    let after : pos_by length (take (suc k + 1) (f ∷ fs)) ≡ length f + pos_by length (take (k + 1) fs) = ap (λ n. pos_by length (take n (f ∷ fs))) next ∙ pos-cons f (take (k + 1) fs) in
-    let others : get_or (ends_of (at + length f) fs) k 0 ≡ at + length f + pos_by length (take (k + 1) fs) = get_or-ends_of (at + length f) fs k (omega arith) in
-    omega (arith, after, others)
+get_or-ends_of at (f ∷ fs) zero lt = omega arith
+get_or-ends_of at (f ∷ fs) (suc k) lt = omega (arith, get_or-ends_of (at + length f) fs k (omega arith))
 
 pub ends_rise : (at : ℕ) (fs : List (List ℕ)) (i j : ℕ) → i ≤ j → j < length (ends_of at fs) → get_or (ends_of at fs) i 0 ≤ get_or (ends_of at fs) j 0
 ends_rise at fs i j le lt =
-    let short : j < length fs = omega (arith, length-ends_of at fs) in
-    omega (arith, get_or-ends_of at fs i (omega arith), get_or-ends_of at fs j short, rising fs (i + 1) (j + 1) (omega arith))
+    let same = length-ends_of at fs in
+    omega (arith, get_or-ends_of at fs i (omega arith), get_or-ends_of at fs j (omega arith), rising fs (suc i) (suc j) (omega arith))
 
 pub ends_non_decreasing : (at : ℕ) (ends bytes : List ℕ) (fs : List (List ℕ)) → Stores at ends bytes fs → IsNonDecreasing ends
 ends_non_decreasing at ends bytes fs s = rw s.ends_are (IsNonDecreasingBy-from_default (λ x. x) (ends_of at fs) 0 (ends_rise at fs))
@@ -43,40 +35,18 @@ missed : (at position : ℕ) (fs : List (List ℕ)) (i k : ℕ) → (position �
 unfolding pos_by
 missed at position fs i zero other below above le is = other (is ∙ add-zero at)
 missed at position fs i (suc k) other below above le is =
-    let next : k + 1 ≡ suc k = omega arith in
-    let here : get_or (ends_of at fs) k 0 ≡ position = get_or-ends_of at fs k (omega arith) ∙ ap (λ n. at + pos_by length (take n fs)) next ∙ sym is in
-    elim (cases_lt k i) [
-      | inl before ↦ omega (arith, here, below k before)
-      | inr after ↦ omega (arith, here, above k after (omega (arith, length-ends_of at fs)))
-    ]
-
-found : (h : Held) (position : ℕ) (r : Result ℕ ℕ) → (position ≡ h.first → ⊥)
-    → MatchResult r (λ i. (i < length (ends_of h.first h.frames)) × (get_or (ends_of h.first h.frames) i 0 ≡ position)) (λ i. (i ≤ length (ends_of h.first h.frames)) × ((k : ℕ) → k < i → get_or (ends_of h.first h.frames) k 0 < position) × ((k : ℕ) → i ≤ k → k < length (ends_of h.first h.frames) → position < get_or (ends_of h.first h.frames) k 0))
-    → (IsTrue (is_ok r) → IsHeldBoundary h position) × (IsHeldBoundary h position → IsTrue (is_ok r))
-found h position (Ok i) other (lt, is) =
-    let short : i < length h.frames = omega (arith, length-ends_of h.first h.frames) in
-    let here : position ≡ h.first + pos_by length (take (i + 1) h.frames) = sym is ∙ get_or-ends_of h.first h.frames i short in
-    (λ _. (omega (arith, here), (i + 1, omega (arith, here))), λ _. refl)
-found h position (Err i) other (le, below, above) =
-    (λ t. absurd (cc t), λ b. let e = ends_at h position b in absurd (missed h.first position h.frames i e.0 other below above e.1.within e.1.is))
+    grind (arith, get_or-ends_of at fs k (omega arith), below k, above k, length-ends_of at fs)
 
 -- a position above the first one is a boundary exactly where a binary search among the ends finds it
 pub boundary_found : (h : Held) (position : ℕ) (ends bytes : List ℕ) (r : Result ℕ ℕ) → Stores h.first ends bytes h.frames → (position ≡ h.first → ⊥) → IsBinarySearchResult (λ y. nat_cmp y position) ends r
     → (IsTrue (is_ok r) → IsHeldBoundary h position) × (IsHeldBoundary h position → IsTrue (is_ok r))
-boundary_found h position ends bytes r s other search_is =
-    let clause : IsBinarySearchResult (λ y. nat_cmp y position) (ends_of h.first h.frames) r = subst (λ (es : List ℕ). IsBinarySearchResult (λ y. nat_cmp y position) es r) s.ends_are search_is in
-    found h position r other (searched (ends_of h.first h.frames) position r clause (ends_rise h.first h.frames))
-
--- the number of ends up to a boundary is the number of frames before it
-counted : (at from : ℕ) (fs : List (List ℕ)) (k m : ℕ) → AllByRecursion (λ f. 6 ≤ length f) fs → k ≤ length fs → ((j : ℕ) → j < k → get_or (ends_of at fs) j 0 ≤ from) → ((j : ℕ) → k ≤ j → j < length fs → from < get_or (ends_of at fs) j 0) → m ≤ length fs → from ≡ at + pos_by length (take m fs) → k ≡ m
-counted at from fs k m all le within after m_le is =
-    elim (cases_lt m k) [
-      | inl more ↦ absurd (omega (arith, within m more, get_or-ends_of at fs m (omega arith), rising_more fs m (m + 1) all (omega arith) (omega arith)))
-      | inr up_to ↦ elim (cases_lt k m) [
-        | inl less ↦ absurd (omega (arith, after k (omega arith) (omega arith), get_or-ends_of at fs k (omega arith), rising fs (k + 1) m (omega arith)))
-        | inr down_to ↦ omega arith
-      ]
-    ]
+boundary_found h position ends bytes (Ok i) s other search_is =
+    let hit = searched (ends_of h.first h.frames) position (Ok i) (rw (← s.ends_are) search_is) (ends_rise h.first h.frames) in
+    let here = get_or-ends_of h.first h.frames i (omega (arith, hit.0, length-ends_of h.first h.frames)) in
+    (λ _. (omega (arith, here, hit.1), (suc i, omega (arith, here, hit.1))), λ _. refl)
+boundary_found h position ends bytes (Err i) s other search_is =
+    let miss = searched (ends_of h.first h.frames) position (Err i) (rw (← s.ends_are) search_is) (ends_rise h.first h.frames) in
+    (λ t. absurd (cc t), λ b. let e = ends_at h position b in absurd (missed h.first position h.frames i e.0 other miss.1 miss.2 e.1.within e.1.is))
 
 framed_all-drop : (fs : List (List ℕ)) (m : ℕ) → m ≤ length fs → drop (pos_by length (take m fs) + 3 * m) (flat_map framed fs) ≡ flat_map framed (drop m fs)
 framed_all-drop fs m le =
@@ -92,16 +62,18 @@ pub record LiesAt (h : Held) (from k : ℕ) (bytes : List ℕ) : Type 0 where
 pub lies_at : (h : Held) (from k : ℕ) (ends bytes : List ℕ) → Stores h.first ends bytes h.frames → k ≤ length ends → ((j : ℕ) → j < k → get_or ends j 0 ≤ from) → ((j : ℕ) → k ≤ j → j < length ends → from < get_or ends j 0) → IsHeldBoundary h from → LiesAt h from k bytes
 lies_at h from k ends bytes s le within after boundary =
     let e = ends_at h from boundary in
-    let many : length ends ≡ length h.frames = ap length s.ends_are ∙ length-ends_of h.first h.frames in
-    let low : (j : ℕ) → j < k → get_or (ends_of h.first h.frames) j 0 ≤ from = λ j lt. omega (arith, within j lt, ap (λ es. get_or es j 0) s.ends_are) in
-    let high : (j : ℕ) → k ≤ j → j < length h.frames → from < get_or (ends_of h.first h.frames) j 0 = λ j ge lt. omega (arith, after j ge (omega arith), ap (λ es. get_or es j 0) s.ends_are) in
-    let same : k ≡ e.0 = counted h.first from h.frames k e.0 s.longer (omega arith) low high e.1.within e.1.is in
+    let many = ap length s.ends_are ∙ length-ends_of h.first h.frames in
+    let low = ap (λ es. get_or es e.0 0) s.ends_are in
+    let high = ap (λ es. get_or es k 0) s.ends_are in
+    let ends = get_or-ends_of h.first h.frames in
+    let same : k ≡ e.0 =
+    grind (arith, many, low, high, e.1, within e.0, after k, ends e.0, ends k, rising_more h.frames e.0 s.longer, rising h.frames (suc k) e.0) in
     let at : from - h.first ≡ pos_by length (take e.0 h.frames) = omega (arith, e.1.is) in
-    let place : (from - h.first) + 3 * k ≡ pos_by length (take e.0 h.frames) + 3 * e.0 = omega (arith, same, at) in
-    let rest : frames_from_by length h.frames (from - h.first) ≡ drop e.0 h.frames = ap (frames_from_by length h.frames) at ∙ from-taken h.frames e.0 s.longer e.1.within in
+    let place : (from - h.first) + 3 * k ≡ pos_by length (take e.0 h.frames) + 3 * e.0 = omega arith in
+    let all = take_all (length h.frames) h.frames (omega arith) in
     record {
-      rest = ap (λ n. drop n bytes) place ∙ ap (drop (pos_by length (take e.0 h.frames) + 3 * e.0)) s.bytes_are ∙ framed_all-drop h.frames e.0 e.1.within ∙ ap (flat_map framed) (sym rest);
-      within = omega (arith, place, ap length s.bytes_are, length-framed_all h.frames, rising h.frames e.0 (length h.frames) e.1.within, ap (pos_by length) (take_all (length h.frames) h.frames (omega arith)));
+      rest = cc (place, at, s.bytes_are, framed_all-drop h.frames e.0 e.1.within, from-taken h.frames e.0 s.longer e.1.within);
+      within = omega (arith, ap length s.bytes_are, length-framed_all h.frames, rising h.frames e.0 (length h.frames) e.1.within, ap (pos_by length) all);
     }
 
 pub first_held : (h : Held) (position : ℕ) → position ≡ h.first → IsHeldBoundary h position

@@ -1,10 +1,10 @@
-use Rattle.std.proofs.Common.{◌≡◌, ◌<◌, ◌≤◌, ◌⊎◌, inl, inr, [], ◌∷◌, ◌++◌, ap, sym, ◌∙◌, arith, subst}
-use Rattle.std.specs.Prelude.{All}
-use Rattle.rs_frame.specs.Spelling.{IsSpellable, length_of}
-use Rattle.fragment.specs.Splitting.{split_of, first_fragment}
+use Rattle.std.proofs.Common.{◌≡◌, [], ◌∷◌, sym, append_assoc, arith, subst}
+use Rattle.std.proofs.lemmas.Grind.{common_steps}
+use Rattle.rs_frame.specs.Spelling.{IsSpellable}
+use Rattle.fragment.specs.Splitting.{split_of, first_fragment, rest_after}
 use Rattle.fragment.specs.Views.{frame_in}
 use Rattle.fragment.proofs.Cuts.{IsLong, rest_length, rest_whole, rest_spellable}
-use Rattle.fragment.proofs.Splits.{cut_more, cut_ends, all_spellable, all_short}
+use Rattle.fragment.proofs.Splits.{split_cut, split_fits, all_spellable, all_short}
 use Rattle.fragment.proofs.splitting.split.Goals as goal
 use Rattle.fragment.proofs.splitting.split.Goals.{then-loop-rest-test+else-length-most, else-loop-rest-test}
 
@@ -15,7 +15,7 @@ loop-rest-smaller c =
       least = c.requires.limit.1 (omega arith);
       longer = omega arith;
     } in
-    subst (λ g. length_of g < length_of (frame_in c.loop-rest.rest)) (sym c.after-rest.ensures) (rest_length c.args.mtu (frame_in c.loop-rest.rest) long)
+    grind (arith, common_steps, c.after-rest.ensures, rest_length c.args.mtu (frame_in c.loop-rest.rest) long)
 
 pub loop-rest-preserved : goal.loop-rest-preserved
 loop-rest-preserved c =
@@ -25,13 +25,10 @@ loop-rest-preserved c =
       least = c.requires.limit.1 (omega arith);
       longer = omega arith;
     } in
-    let items : c.push.new.self.items ≡ c.loop-rest.frames.items ++ (first_fragment c.args.mtu rest ∷ []) =
-    c.in_ok-push.ensures.items ∙ ap (λ g. c.loop-rest.frames.items ++ (g ∷ [])) c.in_ok-first.ensures in
+    let cut = split_cut rest c.args.mtu long in
+    let joined = append_assoc c.loop-rest.frames.items (first_fragment c.args.mtu rest ∷ []) (split_of (rest_after c.args.mtu rest) c.args.mtu) in
     record {
-      split =
-          ap (λ fs. fs ++ split_of (frame_in c.after-rest.result) c.args.mtu) items
-          ∙ (ap (λ g. (c.loop-rest.frames.items ++ (first_fragment c.args.mtu rest ∷ [])) ++ split_of g c.args.mtu) c.after-rest.ensures
-          ∙ cut_more c.args.frame.now rest c.loop-rest.frames.items c.args.mtu long c.loop-rest.invariant.split);
+      split = cc (c.loop-rest.invariant.split, c.in_ok-push.ensures.items, c.in_ok-first.ensures, c.after-rest.ensures);
       whole = rw c.after-rest.ensures (rest_whole c.args.mtu rest c.loop-rest.invariant.whole);
       spellable = subst IsSpellable (sym c.after-rest.ensures) (rest_spellable c.args.mtu rest long c.loop-rest.invariant.spellable);
     }
@@ -39,20 +36,17 @@ loop-rest-preserved c =
 pub returns-clause-split : goal.returns-clause-split
 returns-clause-split c =
     let rest = frame_in c.loop-rest.rest in
-    let last : (c.args.mtu ≡ 0) ⊎ (length_of rest ≤ c.args.mtu) =
+    let alone : split_of rest c.args.mtu ≡ rest ∷ [] =
     elim c.loop-rest-test.branch [
-      | then-loop-rest-test+else-length-most w ↦ inr (omega arith)
-      | else-loop-rest-test w ↦ inl (omega arith)
+      | then-loop-rest-test+else-length-most w ↦ split_fits rest c.args.mtu (omega arith)
+      | else-loop-rest-test w ↦ grind (arith, common_steps)
     ] in
-    cut_ends c.args.frame.now rest c.in_ok-whole.field-0 c.loop-rest.frames.items c.push-2.new.self.items c.from_vec.result c.args.mtu
-    c.from_vec.ensures c.in_ok-push-2.ensures.items c.in_ok-whole.ensures last c.loop-rest.invariant.split
+    cc (c.loop-rest.invariant.split, c.from_vec.ensures, c.in_ok-push-2.ensures.items, c.in_ok-whole.ensures, alone)
 
 pub returns-clause-spellable : goal.returns-clause-spellable
 returns-clause-spellable c =
-    subst (All IsSpellable) (sym (returns-clause-split c))
-    (all_spellable c.args.frame.now c.args.mtu c.requires.spellable c.requires.whole c.requires.limit)
+    rw (returns-clause-split c) (all_spellable c.args.frame.now c.args.mtu c.requires.spellable c.requires.whole c.requires.limit)
 
 pub returns-clause-short : goal.returns-clause-short
 returns-clause-short c = λ limited.
-    subst (All (λ g. length_of g ≤ c.args.mtu)) (sym (returns-clause-split c))
-    (all_short c.args.frame.now c.args.mtu c.requires.whole (c.requires.limit.1 (omega arith)))
+    rw (returns-clause-split c) (all_short c.args.frame.now c.args.mtu c.requires.whole (c.requires.limit.1 (omega arith)))

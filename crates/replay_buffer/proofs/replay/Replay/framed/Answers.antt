@@ -4,15 +4,18 @@ use Rattle.std.specs.VecDeque.{deque_len}
 use Rattle.position.specs.Boundaries.{pos_by}
 use Rattle.position.proofs.Boundaries.{boundary-le}
 use Rattle.replay_buffer.specs.Held.{Buffer, IsHeldBoundary}
-use Rattle.replay_buffer.specs.Storage.{IsStored, buffer_of, frames_of}
+use Rattle.replay_buffer.specs.Storage.{IsStored, buffer_of}
 use Rattle.replay_buffer.specs.declared.replay.Replay.TheInside.{Inside}
 use Rattle.replay_buffer.proofs.Found.{LiesAt, few_ends, lies_at, ends_non_decreasing}
 use Rattle.replay_buffer.proofs.replay.Replay.framed.Goals as goal
 
-lies : (i : Inside) (b : Buffer) (from k : ℕ) → buffer_of i ≡ b → IsStored i → IsHeldBoundary b.held from → k ≤ deque_len i.ends → ((j : ℕ) → j < k → slice_index i.ends.items j ≤ from) → ((j : ℕ) → k ≤ j → j < deque_len i.ends → from < slice_index i.ends.items j) → LiesAt (buffer_of i).held from k i.bytes.bytes
+lies : (i : Inside) (b : Buffer) (from k : ℕ) → buffer_of i ≡ b → IsStored i → IsHeldBoundary b.held from → k ≤ deque_len i.ends
+    → ((j : ℕ) → j < k → slice_index i.ends.items j ≤ from) → ((j : ℕ) → k ≤ j → j < deque_len i.ends → from < slice_index i.ends.items j)
+    → LiesAt (buffer_of i).held from k i.bytes.bytes
 lies i b from k view s boundary le within after =
-    let here : IsHeldBoundary (buffer_of i).held from = subst (λ (h : Buffer). IsHeldBoundary h.held from) (sym view) boundary in
-    lies_at (buffer_of i).held from k i.ends.items i.bytes.bytes s.stored (omega (arith, i.ends.ok.0)) within (λ j ge lt. after j ge (omega (arith, i.ends.ok.0))) here
+    let same = i.ends.ok.0 in
+    let here = subst (λ (h : Buffer). IsHeldBoundary h.held from) (sym view) boundary in
+    lies_at _ from k _ _ s.stored (omega arith) within (λ j ge lt. after j ge (omega arith)) here
 
 pub count_up_to-before-requires : goal.count_up_to-before-requires
 count_up_to-before-requires c = ends_non_decreasing _ _ _ _ c.self.invariant.stored
@@ -20,25 +23,31 @@ count_up_to-before-requires c = ends_non_decreasing _ _ _ _ c.self.invariant.sto
 pub overflow_mul-at : goal.overflow_mul-at
 overflow_mul-at c =
     let few = few_ends _ _ _ _ c.self.invariant.stored in
-    omega (arith, few, c.self.invariant.end, c.self.invariant.top, c.count_up_to-before.ensures.bound, c.self.inside.ends.ok.0)
+    omega (arith, c.self.invariant.end, c.self.invariant.top, c.count_up_to-before.ensures.bound, c.self.inside.ends.ok.0)
 
 pub overflow_add-at : goal.overflow_add-at
 overflow_add-at c =
-    let here : IsHeldBoundary (buffer_of c.self.inside).held c.args.from = subst (λ (h : Buffer). IsHeldBoundary h.held c.args.from) (sym c.self.view_is) c.requires in
-    let inside : c.args.from - c.self.inside.first ≤ pos_by length (frames_of c.self.inside) = boundary-le length (frames_of c.self.inside) (c.args.from - c.self.inside.first) here.1 in
-    omega (arith, inside, c.self.invariant.end, c.self.invariant.top, c.count_up_to-before.ensures.bound, c.self.inside.ends.ok.0, few_ends _ _ _ _ c.self.invariant.stored)
+    let h = c.args.self.now.held in
+    let start = ap (λ (b : Buffer). b.held.first) c.self.view_is in
+    let all = ap (λ (b : Buffer). pos_by length b.held.frames) c.self.view_is in
+    let few = few_ends _ _ _ _ c.self.invariant.stored in
+    let bound = boundary-le length h.frames (c.args.from - h.first) c.requires.1 in
+    omega (arith, c.self.invariant.end, c.self.invariant.top, c.count_up_to-before.ensures.bound, c.self.inside.ends.ok.0)
 
 pub slice_bounds-result-count : goal.slice_bounds-result-count
 slice_bounds-result-count c =
-    let l = lies c.self.inside c.args.self.now c.args.from c.count_up_to-before.result c.self.view_is c.self.invariant c.requires c.count_up_to-before.ensures.bound c.count_up_to-before.ensures.within c.count_up_to-before.ensures.after in
+    let count = c.count_up_to-before.ensures in
+    let l = lies _ _ _ _ c.self.view_is c.self.invariant c.requires count.bound count.within count.after in
     omega (arith, l.within, ap length c.as_slice-framed.ensures)
 
 pub slice_bounds-result-start : goal.slice_bounds-result-start
 slice_bounds-result-start c =
-    let l = lies c.self.inside c.args.self.now c.args.from c.count_up_to-before.result c.self.view_is c.self.invariant c.requires c.count_up_to-before.ensures.bound c.count_up_to-before.ensures.within c.count_up_to-before.ensures.after in
+    let count = c.count_up_to-before.ensures in
+    let l = lies _ _ _ _ c.self.view_is c.self.invariant c.requires count.bound count.within count.after in
     omega (arith, l.within, ap length c.as_slice-framed.ensures)
 
 pub returns : goal.returns
 returns c =
-    let l = lies c.self.inside c.args.self.now c.args.from c.count_up_to-before.result c.self.view_is c.self.invariant c.requires c.count_up_to-before.ensures.bound c.count_up_to-before.ensures.within c.count_up_to-before.ensures.after in
+    let count = c.count_up_to-before.ensures in
+    let l = lies _ _ _ _ c.self.view_is c.self.invariant c.requires count.bound count.within count.after in
     take_rest c.as_slice-framed.result.now _ ∙ rw (← c.self.view_is, c.as_slice-framed.ensures) l.rest

@@ -1,29 +1,21 @@
 use Rattle.std.proofs.Common.{◌≡◌, ◌-◌, [], ◌∷◌, ◌++◌, length, ap, sym, subst, ◌∙◌, arith}
 use Rattle.position.proofs.Boundaries.{pos-push}
-use Rattle.replay_buffer.specs.Held.{Buffer, Held, IsHeldOf, end_of, from_least, with_newest}
+use Rattle.replay_buffer.specs.Held.{Buffer, Held, IsHeldOf, end_of, with_newest}
 use Rattle.replay_buffer.proofs.HeldOf.{kept}
 use Rattle.replay_buffer.proofs.replay.Replay.keep.Goals as goal
 
 pub returns-clause-held : goal.returns-clause-held
 returns-clause-held c =
     let all = with_newest c.args.self.now.held c.args.frame.now in
-    let appended : c.append.new.self.held ≡ all = c.append.ensures.held in
-    let end : c.forget_until.inside.end ≡ end_of all = c.forget_until.invariant.end ∙ ap (λ (b : Buffer). end_of b.held) c.forget_until.view_is ∙ ap end_of appended in
-    let hold : c.forget_until.inside.hold ≡ all.hold = ap (λ (b : Buffer). b.held.hold) c.forget_until.view_is ∙ ap (λ (h : Held). h.hold) appended in
-    let low : c.saturating_sub.result ≡ end_of all - all.hold = omega (arith, c.saturating_sub.ensures, end, hold) in
-    c.forget_until-2.ensures.held ∙ ap (λ n. from_least c.append.new.self.held n) low ∙ ap (λ h. from_least h (end_of all - all.hold)) appended
+    let view = ap (λ (b : Buffer). b.held) c.forget_until.view_is ∙ c.append.ensures.held in
+    let hold = ap (λ (h : Held). h.hold) view in
+    let low : c.saturating_sub.result ≡ end_of all - all.hold = omega (arith, c.saturating_sub.ensures, c.forget_until.invariant.end, ap end_of view) in
+    cc (c.forget_until-2.ensures.held, c.append.ensures.held, low)
 
 pub returns-clause-of_made : goal.returns-clause-of_made
-returns-clause-of_made c =
-    let all = with_newest c.args.self.now.held c.args.frame.now in
-    let appended : c.append.new.self.held ≡ all = c.append.ensures.held in
-    let end : c.forget_until.inside.end ≡ end_of all = c.forget_until.invariant.end ∙ ap (λ (b : Buffer). end_of b.held) c.forget_until.view_is ∙ ap end_of appended in
-    let hold : c.forget_until.inside.hold ≡ all.hold = ap (λ (b : Buffer). b.held.hold) c.forget_until.view_is ∙ ap (λ (h : Held). h.hold) appended in
-    let low : c.saturating_sub.result ≡ end_of all - all.hold = omega (arith, c.saturating_sub.ensures, end, hold) in
-    let left = c.forget_until-2.ensures.held ∙ ap (λ n. from_least c.append.new.self.held n) low ∙ ap (λ h. from_least h (end_of all - all.hold)) appended in
-    λ made told newest is up_to spelled. subst (IsHeldOf (made ++ newest ∷ []) told) (sym left) (kept made told newest c.args.frame.now c.args.self.now.held is up_to spelled)
+returns-clause-of_made c = λ made told newest is up_to spelled.
+    subst (IsHeldOf (made ++ newest ∷ []) told) (sym (returns-clause-held c)) (kept made told newest c.args.frame.now c.args.self.now.held is up_to spelled)
 
 pub returns-clause-end : goal.returns-clause-end
 returns-clause-end c =
-    let one : end_of c.append.new.self.held ≡ end_of (with_newest c.args.self.now.held c.args.frame.now) = ap end_of c.append.ensures.held in
-    omega (arith, one, c.forget_until-2.ensures.end, pos-push length c.args.self.now.held.frames c.args.frame.now)
+    omega (arith, ap end_of c.append.ensures.held, c.forget_until-2.ensures.end, pos-push length c.args.self.now.held.frames c.args.frame.now)
