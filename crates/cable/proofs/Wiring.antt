@@ -307,7 +307,9 @@ client_asked v r u' asked at legal same now =
 -- a call, at the value that a cable shows
 pub client_called : (v v0 : Wires) (r : Ends) (u' : Seen) (side : Side) (asked : Call) → v ≡ v0 → side ≡ Client → At v0 r → IsOfSession u'.settings u'.entries → u' ≡ record v.client { entries = u'.entries; spare = u'.spare } → u'.entries ≡ adds v.client.settings v.client.entries (event.Asked asked)
     → Reaches (record v { client = u' }) (λ r'. r' ≡ asks (sides_of v0) side asked r)
-client_called v v0 r u' side asked h1 h2 h3 h4 h5 h6 = grind (arith, client_asked)
+client_called v v0 r u' side asked shown is at legal same now =
+    subst (λ (x : Wires). Reaches (record v { client = u' }) (λ r'. r' ≡ asks (sides_of x) side asked r)) shown
+    (subst (λ (y : Side). Reaches (record v { client = u' }) (λ r'. r' ≡ asks (sides_of v) y asked r)) (sym is) (client_asked v r u' asked (subst (λ (x : Wires). At x r) (sym shown) at) legal same now))
 
 pub server_called : (v v0 : Wires) (r : Ends) (s' : Seen) (side : Side) (asked : Call) → v ≡ v0 → side ≡ Server → At v0 r → s' ≡ record v.server { entries = s'.entries; spare = s'.spare } → s'.entries ≡ adds v.server.settings v.server.entries (event.Asked asked)
     → Reaches (record v { server = s' }) (λ r'. r' ≡ asks (sides_of v0) side asked r)
