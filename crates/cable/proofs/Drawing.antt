@@ -151,9 +151,6 @@ pub drew_more : (u v w : Seen) (c : ℕ) (start rest rest' : Rest) (n room : ℕ
     → Filled c v w room buffer → rest' ≡ record rest { bytes = rest.bytes ++ take room buffer } → Drew u.settings c u.entries w.entries start rest' (n + room)
 drew_more u v w c start rest rest' n room buffer h1 h2 h3 h4 h5 h6 h7 = grind (arith, common_steps, drew_one)
 
-pub carried_all : (u v : Seen) (c : ℕ) (m : Most) (start rest : Rest) (n : ℕ) → is_live (live u.entries) c ≡ true → n ≡ at_most m (queued u.settings u.entries) → Drew u.settings c u.entries v.entries start rest n → Carried c m u v start rest
-carried_all u v c m start rest n h1 h2 h3 = grind (arith, common_steps)
-
 pub carried_stale : (u v : Seen) (c : ℕ) (m : Most) (rest : Rest) (room : ℕ) → is_live (live u.entries) c ≡ false → 0 < room → room < 2 ^ 32 → IsStale c u v room → Carried c m u v rest rest
 carried_stale u v c m rest room h1 h2 h3 h4 = grind (arith, common_steps, is_stale, given_stale)
 

@@ -29,9 +29,6 @@ is_right a b h1 h2 = grind (arith, common_steps)
 after : (past : List Entry) (e : Event) (a : Answer) → entries_after 0 e a past ≡ cond (leaves a) (noted e a ∷ past) past
 after past e a = grind (arith, common_steps)
 
-pub brought : (g : Settings) (past : List Entry) (e : Event) (a : Answer) → IsNoWant a → IsUnlessWant a (answer_to g past e) → entries_after 0 e a past ≡ adds g past e
-brought g past e a no_want right = subst (λ (b : Answer). entries_after 0 e a past ≡ cond (leaves b) (noted e b ∷ past) past) (is_right a (answer_to g past e) no_want right) (after past e a)
-
 pub adds_none : (g : Settings) (past : List Entry) (e : Event) → leaves (answer_to g past e) ≡ false → adds g past e ≡ past
 adds_none g past e l = ap (λ (b : Bool). cond b (answered g past e ∷ past) past) l
 

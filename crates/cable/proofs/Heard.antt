@@ -83,10 +83,6 @@ over o h1 more past = grind (arith, common_steps)
 some_none : (r : ℕ) → Some r ≡ None → ⊥
 some_none r e = absurd (cc)
 
--- nothing more is heard where something too long came
-pub hears_over : (g : Settings) (c n : ℕ) (frames : List Frame) (past : List Entry) (rest : Rest) → CrossedTo g c n frames past rest true → hears g c n frames past ≡ past
-hears_over g c n frames past rest x = over (first_bad past c) x.bad (takes g c (drop (length (came past c)) (crossed g.max_in n frames)) past) past
-
 -- ---- what is in front stays, or comes
 
 pub record InFront (g : Settings) (c n : ℕ) (frames : List Frame) (past : List Entry) (rest : Rest) (a : Arrival) : Type 0 where
@@ -167,15 +163,8 @@ pub record SoFar (g : Settings) (c n : ℕ) (frames : List Frame) (past now : Li
   pub crosses : CrossedTo g c n frames now rest false
   pub same : hears g c n frames past ≡ hears g c n frames now
 
-pub none_so_far : (c n : ℕ) (frames : List Frame) (v : Seen) (x : Crossing) → x.over ≡ false → Crosses c n frames v x → SoFar v.settings c n frames v.entries v.entries x.rest
-none_so_far c n frames v x is h = record { crosses = subst (CrossedTo v.settings c n frames v.entries x.rest) is h; same = refl }
-
 finish : (c n : ℕ) (frames : List Frame) (u w : Seen) (x : Crossing) (rest : Rest) (over : Bool) (end : List Entry) → x ≡ record { rest = rest; over = over } → hears u.settings c n frames u.entries ≡ end → w.entries ≡ end → CrossedTo u.settings c n frames end rest over → IsHearer c n frames u w x
 finish c n frames u w x rest over end h1 h2 h3 h4 = grind (arith, common_steps)
-
--- something too long came before
-pub over_before : (c n : ℕ) (frames : List Frame) (v : Seen) (x : Crossing) → x.over ≡ true → Crosses c n frames v x → IsHearer c n frames v v x
-over_before c n frames v x h1 h2 = grind (arith, common_steps, over, hears_over)
 
 -- nothing is in front
 pub none_now : (c n : ℕ) (frames : List Frame) (u w : Seen) (x : Crossing) → x.over ≡ false → IsNextOf x.rest None → SoFar u.settings c n frames u.entries w.entries x.rest → IsHearer c n frames u w x
@@ -226,18 +215,6 @@ pub spelled_now : (g : Settings) (c n : ℕ) (frames : List Frame) (past : List 
 spelled_now g c n frames past rest x =
     let b = left_now g c n frames past rest x in
     spelled g b.left b.others rest (record { longest = x.ahead.longest; below = x.ahead.below; spellable = b.spellable }) b.bytes
-
-pub longest_now : (g : Settings) (frames : List Frame) (rest : Rest) → Ahead g frames rest → rest.max_in < 2 ^ 24
-longest_now g frames rest a = omega (arith, a.longest, a.below)
-
-pub fair_now : (h : Settings) (c : ℕ) (rest : Rest) (a : Arrival) → IsNextOf rest (Some a) → IsFair h (event_of c a)
-fair_now h c rest a h1 = grind (arith, common_steps)
-
-pub no_draw_now : (c : ℕ) (a : Arrival) → IsNoDrawEvent (event_of c a)
-no_draw_now c a = grind (arith, common_steps)
-
-pub whole_now : (rest : Rest) (a : Arrival) → too_long a ≡ false → IsNextOf rest (Some a) → IsWhole rest.bytes rest.max_in
-whole_now rest a h1 h2 = grind (arith, common_steps)
 
 pub next_is : (rest : Rest) (o : Option Arrival) (a : Arrival) → o ≡ Some a → IsNextOf rest o → IsNextOf rest (Some a)
 next_is rest o a e h = subst (IsNextOf rest) e h

@@ -36,18 +36,11 @@ none_left : (s : Sides) (lines : List Line) (r : Ends) → lines ≡ [] → Play
 unfolding PlaysLines
 none_left s lines r none = subst (λ (ls : List Line). PlaysLines s ls r r) (sym none) refl
 
--- every line has what all have
-pub line_at : (lines : List Line) (i : ℕ) (x : Line) → AllByRecursion IsLine lines → i < length lines → x ≡ get_or lines i x → IsLine x
-line_at lines i x h1 h2 h3 = grind (arith, common_steps)
-
 sides_same : (v w : Wires) → Keeps v w → sides_of w ≡ sides_of v
 sides_same v w k = ap (λ (u : Seen). record { client = u.settings; server = w.server.settings }) k.client ∙ ap (λ (u : Seen). record { client = v.client.settings; server = u.settings }) k.server
 
 pub keeps_on : (u v w : Wires) → Keeps u v → Keeps v w → Keeps u w
 keeps_on u v w h k = record { client = same_trans u.client v.client w.client h.client k.client; server = same_trans u.server v.server w.server h.server k.server }
-
-pub none_played : (v : Wires) (lines : List Line) (r : Ends) → At v r → Reaches v (IsLeft (sides_of v) lines 0 r)
-none_played v lines r at = record { ends = r; at = at; holds = λ r' p. p }
 
 pub line_played : (u v w : Wires) (lines : List Line) (i : ℕ) (x : Line) (r : Ends) → Keeps u v → i < length lines → x ≡ get_or lines i x → (b : Reaches v (IsLeft (sides_of u) lines i r)) → Reaches w (PlaysLine (sides_of v) x b.ends) → Reaches w (IsLeft (sides_of u) lines (i + 1) r)
 line_played u v w lines i x r h1 h2 h3 b h4 = grind (arith, common_steps, sides_same, drop_next, plays_one)
@@ -55,20 +48,10 @@ line_played u v w lines i x r h1 h2 h3 b h4 = grind (arith, common_steps, sides_
 pub all_played : (u v : Wires) (lines : List Line) (i : ℕ) (r : Ends) → length lines ≤ i → Reaches v (IsLeft (sides_of u) lines i r) → Reaches v (PlaysLines (sides_of u) lines r)
 all_played u v lines i r past b = record { ends = b.ends; at = b.at; holds = b.holds b.ends (none_left (sides_of u) (drop i lines) b.ends (drop_all i lines past)) }
 
--- a line is one of these
-pub askable : (side : Side) (asked : Call) → IsLine (lines.Ask side asked) → IsAskable asked
-askable side asked h = subst IsAskable (sym h.1) (refl, refl, refl, refl)
-
 -- ---- from the first line to the last
 
 pub played_none : (v : Wires) (lines : List Line) → length lines ≡ 0 → At v nothing → Reaches v (PlaysLines (sides_of v) lines (begins (sides_of v) lines))
 played_none v lines h1 h2 = grind (arith, common_steps, none_left)
-
-begun_some : (s : Sides) (lines : List Line) → 0 < length lines → opens s nothing ≡ begins s lines
-begun_some s lines h1 = grind (arith, common_steps)
-
-pub played_some : (u v w : Wires) (lines : List Line) → 0 < length lines → Keeps u v → (b : Reaches v (λ r. r ≡ opens (sides_of u) nothing)) → Reaches w (PlaysLines (sides_of v) lines b.ends) → Reaches w (PlaysLines (sides_of u) lines (begins (sides_of u) lines))
-played_some u v w lines h1 h2 b h3 = grind (arith, common_steps, begun_some, sides_same)
 
 pub some_at : (v : Wires) (Holds : Ends → Type 0) → Reaches v Holds → (r : Ends) × At v r
 some_at v Holds b = (b.ends, b.at)
@@ -86,22 +69,6 @@ usual_plain side = record { checked = usual_checked side; no_resumption = refl; 
 
 pub ok_holds : {A B : Type 0} (P : Type 0) (r : Result A B) → is_err r ≡ false → OnOk r P → P
 ok_holds P r h1 h2 = grind (arith, common_steps)
-
-legal_none : (s : Seen) → s.entries ≡ [] → IsOfSession s.settings s.entries
-unfolding Legal Fair
-legal_none s none = subst (IsOfSession s.settings) (sym none) (tt, tt)
-
--- two ends with the usual settings, of which nothing happened yet
-pub usual_at : (client server : Seen) (v : Wires) → v ≡ record { client = client; server = server; wire = None } → client.settings ≡ usual Client → server.settings ≡ usual Server → client.entries ≡ [] → server.entries ≡ [] → At v nothing
-usual_at client server v is c s c_none s_none = subst (λ (u : Wires). At u nothing) (sym is) (record {
-  client_side = ap (λ g. g.side) c;
-  server_side = ap (λ g. g.side) s;
-  plain = subst IsPlain (sym c) (usual_plain Client);
-  legal = legal_none client c_none;
-  client = sym c_none;
-  server = sym s_none;
-  wire = refl;
-})
 
 -- the ends of a run
 pub usual_ends : (C S : List Entry) → IsOfSession (usual Client) C → IsOfSession (usual Server) S → AreEnds (usual Client) (usual Server) C S

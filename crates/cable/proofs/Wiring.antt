@@ -58,22 +58,12 @@ nears_of g r v w h = near w.known (drawn r.client w.client) (due g r.client w.cl
 accepted : (t : There) (k : Known) (e n : ℕ) (frames : List Frame) (v : Seen) (x : Crossing) → k ≡ known.Accepted e → Knows t k n frames v x → (t ≡ There.Accepted e) × Crosses e n frames v x
 accepted t k e n frames v x h1 h2 = grind (arith, common_steps)
 
--- the server accepted it
-pub is_accepted_as : (g : Settings) (r : Ends) (t : There) (v : Seen) (w : Wire) (e : ℕ) → w.known ≡ known.Accepted e → ServerAt g r t v w → (t ≡ There.Accepted e) × Crosses e (drawn r.client w.client) (due g r.client w.client) v w.up
-is_accepted_as g r t v w e is h = accepted t w.known e (drawn r.client w.client) (due g r.client w.client) v w.up is h.knows
-
 settings_of : (v v' : Seen) → v' ≡ record v { entries = v'.entries; spare = v'.spare } → v'.settings ≡ v.settings
 settings_of v v' same = ap (λ (u : Seen). u.settings) same
 
 hears_at : (g : Settings) (r : Ends) (v v' : Seen) (w : Wire) (x : Crossing) (e : ℕ) → v' ≡ record v { entries = v'.entries; spare = v'.spare } → w.known ≡ known.Accepted e → ServerAt g r (There.Accepted e) v w → IsHearer e (drawn r.client w.client) (due g r.client w.client) v v' x
     → ServerAt g (hears_up (sides g v) w.client e r) (There.Accepted e) v' (record w { up = x })
 hears_at g r v v' w x e h1 h2 h3 h4 = grind (arith, common_steps, settings_of)
-
--- it hears what crossed
-pub arrives_heard : (g : Settings) (r : Ends) (t : There) (v v' : Seen) (w : Wire) (x : Crossing) (e : ℕ) → v' ≡ record v { entries = v'.entries; spare = v'.spare } → w.known ≡ known.Accepted e → ServerAt g r t v w → IsHearer e (drawn r.client w.client) (due g r.client w.client) v v' x → Arrives g r t v v' w (record w { up = x })
-arrives_heard g r t v v' w x e same is h heard =
-    let t_is = (is_accepted_as g r t v w e is h).0 in
-    subst (λ (k : There). Arrives g r k v v' w (record w { up = x })) (sym t_is) (There.Accepted e, hears_at g r v v' w x e same is (subst (λ (k : There). ServerAt g r k v w) t_is h) heard)
 
 -- it refused it: what crosses is lost
 pub arrives_refused : (g : Settings) (r : Ends) (t : There) (v : Seen) (w : Wire) (x : Crossing) → w.known ≡ known.Refused → ServerAt g r t v w → Arrives g r t v v w (record w { up = x })

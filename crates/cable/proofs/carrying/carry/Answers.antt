@@ -6,7 +6,7 @@ use Rattle.session_model.specs.Frames.{queued}
 use Rattle.session_core.specs.Seen.{Seen}
 use Rattle.cable.specs.Played.{at_most}
 use Rattle.cable.specs.Hearing.{Filled}
-use Rattle.cable.proofs.Drawing.{Drew, carried_all, carried_stale, drew_more, lesser_below, none_drew, same_trans}
+use Rattle.cable.proofs.Drawing.{Drew, carried_stale, drew_more, lesser_below, none_drew, same_trans}
 use Rattle.cable.proofs.Results.{on_ok}
 use Rattle.cable.proofs.carrying.carry.Goals as goal
 

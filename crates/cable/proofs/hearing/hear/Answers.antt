@@ -1,7 +1,7 @@
 use Rattle.std.proofs.Common.{rules, ◌≡◌, ◌∙◌, None, sym, ap}
 use Rattle.rs_chunk.specs.Rest.{Rest}
 use Rattle.cable.proofs.Drawing.{same_trans}
-use Rattle.cable.proofs.Heard.{ends_now, goes_now, longest_now, next_is, next_none, none_now, spelled_now, stays_now}
+use Rattle.cable.proofs.Heard.{ends_now, goes_now, next_is, next_none, none_now, spelled_now, stays_now}
 use Rattle.cable.proofs.hearing.hear.Goals as goal
 
 pub next-requires-clause-spelled : goal.next-requires-clause-spelled
