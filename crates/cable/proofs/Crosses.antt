@@ -78,11 +78,8 @@ abbrev pub IsFirstOf : ℕ → ℕ → Frame → List Frame → Arrival → List
 IsFirstOf most n f frames (arrival.Whole x) rest = (x ≡ f) × (3 + length_of f ≤ n) × (rest ≡ crossed most (n - (3 + length_of f)) frames) × (length_of f ≤ most)
 IsFirstOf most n f frames arrival.TooLong rest = (3 ≤ n) × (most < length_of f) × (rest ≡ [])
 
-same_whole : (x f : Frame) (xs ys : List Arrival) → arrival.Whole x ∷ xs ≡ arrival.Whole f ∷ ys → (x ≡ f) × (xs ≡ ys)
-same_whole x f xs ys e = (cc, cc)
-
 first_picked : (most n : ℕ) (long three whole : Bool) (f : Frame) (frames : List Frame) (a : Arrival) (rest : List Arrival) → nat_lt most (length_of f) ≡ long → nat_le 3 n ≡ three → nat_le (3 + length_of f) n ≡ whole → a ∷ rest ≡ pick long three whole f (crossed most (n - (3 + length_of f)) frames) → IsFirstOf most n f frames a rest
-first_picked most n long three whole f frames a rest h1 h2 h3 h4 = grind (arith, common_steps, same_whole, nat_tests)
+first_picked most n long three whole f frames a rest h1 h2 h3 h4 = grind (arith, common_steps, nat_tests)
 
 pub first_of_crossed : (most n : ℕ) (f : Frame) (frames : List Frame) (a : Arrival) (rest : List Arrival) → a ∷ rest ≡ crossed most n (f ∷ frames) → IsFirstOf most n f frames a rest
 unfolding crossed

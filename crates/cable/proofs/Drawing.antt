@@ -23,7 +23,7 @@ use Rattle.cable.specs.declared.carrying.Most.{Most}
 use Rattle.cable.specs.declared.carrying.Most.TheVariants as most
 use Rattle.cable.specs.Played.{DrawInSum, DrawsWhere, IsDraw, at_most}
 use Rattle.cable.specs.Hearing.{Carried, Filled, IsNoWant, IsStale}
-use Rattle.cable.proofs.Following.{is_right, noted}
+use Rattle.cable.proofs.Following.{noted}
 
 -- ---- answers to draws
 
@@ -34,22 +34,19 @@ fills : (g : Settings) (past : List Entry) (c room : ℕ) → is_live (live past
 unfolding facts
 fills g past c room here some fits = filling (is_live (live past) c) room (queued g past) (live past) here some fits
 
-is_stale : (g : Settings) (past : List Entry) (c room : ℕ) → is_live (live past) c ≡ false → answer_to g past (event.Draw c room) ≡ answer.Stale (live past)
-unfolding facts
-is_stale g past c room out = ap (λ (b : Bool). cond b (cond (queued g past == 0) answer.NotYet (answer.Drawn (min room (queued g past)))) (answer.Stale (live past))) out
-
 pub filled : (v w : Seen) (c room : ℕ) (a : Answer) (buffer : List ℕ) → is_live (live v.entries) c ≡ true → 0 < room → room ≤ queued v.settings v.entries → IsNoWant a
     → IsUnlessWant a (answer_to v.settings v.entries (event.Draw c room))
     → IfDrawn a (λ k. take k buffer ≡ take k (drop (drawn v.entries c) (framed_all (due v.settings v.entries c))))
     → w ≡ record v { entries = entries_after 0 (event.Draw c room) a v.entries; spare = w.spare }
     → Filled c v w room buffer
-filled v w c room a buffer h1 h2 h3 h4 h5 h6 h7 = grind (arith, common_steps, is_right, fills)
+filled v w c room a buffer h1 h2 h3 h4 h5 h6 h7 = grind (arith, common_steps, fills)
 
 pub staled : (v w : Seen) (c room : ℕ) (a : Answer) → is_live (live v.entries) c ≡ false → IsNoWant a
     → IsUnlessWant a (answer_to v.settings v.entries (event.Draw c room))
     → w ≡ record v { entries = entries_after 0 (event.Draw c room) a v.entries; spare = w.spare }
     → IsStale c v w room
-staled v w c room a h1 h2 h3 h4 = grind (arith, common_steps, is_right, is_stale)
+unfolding facts
+staled v w c room a h1 h2 h3 h4 = grind (arith, common_steps)
 
 -- ---- the entries of draws
 
@@ -66,16 +63,6 @@ drawn_here past c n = ap (λ (k : ℕ). drawn past c + k) (here_draws c n (event
 given_here : (g : Settings) (past : List Entry) (c n : ℕ) → given g (noted (event.Draw c n) (answer.Drawn n) ∷ past) c ≡ given g past c ++ take n (drop (drawn past c) (framed_all (due g past c)))
 unfolding due drawn
 given_here g past c n = grind (arith, common_steps, here_draws, more_front, drawn_owes)
-
-either_none : (b : Bool) → cond {A = List Frame} b [] [] ≡ []
-either_none b = grind (arith, common_steps)
-
-plus_none : (n : ℕ) → n + 0 ≡ n
-plus_none n = omega arith
-
-given_stale : (g : Settings) (past : List Entry) (c room m : ℕ) → given g (noted (event.Draw c room) (answer.Stale m) ∷ past) c ≡ given g past c ++ []
-unfolding due drawn
-given_stale g past c room m = grind (arith, common_steps, either_none, plus_none)
 
 live_same : (past : List Entry) (c n : ℕ) → live (noted (event.Draw c n) (answer.Drawn n) ∷ past) ≡ live past
 unfolding live
@@ -152,7 +139,8 @@ pub drew_more : (u v w : Seen) (c : ℕ) (start rest rest' : Rest) (n room : ℕ
 drew_more u v w c start rest rest' n room buffer h1 h2 h3 h4 h5 h6 h7 = grind (arith, common_steps, drew_one)
 
 pub carried_stale : (u v : Seen) (c : ℕ) (m : Most) (rest : Rest) (room : ℕ) → is_live (live u.entries) c ≡ false → 0 < room → room < 2 ^ 32 → IsStale c u v room → Carried c m u v rest rest
-carried_stale u v c m rest room h1 h2 h3 h4 = grind (arith, common_steps, is_stale, given_stale)
+unfolding drawn due facts
+carried_stale u v c m rest room h1 h2 h3 h4 = grind (arith, common_steps)
 
 pub lesser_below : (m : Most) (n waits : ℕ) → n ≡ at_most m waits → n ≤ waits
 lesser_below m n waits h1 = grind (arith, common_steps)

@@ -23,9 +23,6 @@ use Rattle.cable.specs.Hearing.{IsNoWant}
 abbrev pub noted : Event → Answer → Entry
 noted e a = record { who = 0; event = e; answer = a }
 
-pub is_right : (a b : Answer) → IsNoWant a → IsUnlessWant a b → a ≡ b
-is_right a b h1 h2 = grind (arith, common_steps)
-
 after : (past : List Entry) (e : Event) (a : Answer) → entries_after 0 e a past ≡ cond (leaves a) (noted e a ∷ past) past
 after past e a = grind (arith, common_steps)
 

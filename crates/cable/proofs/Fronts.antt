@@ -16,9 +16,6 @@ use Rattle.cable.specs.Played.{crossed}
 use Rattle.cable.proofs.Begun.{first_frame_is, first_length_is}
 use Rattle.cable.proofs.Crosses.{first_of_crossed, pick, too_long_front}
 
-long_all : (f : Frame) (fs : List Frame) → length (framed_all (f ∷ fs)) ≡ (3 + length_of f) + length (framed_all fs)
-long_all f fs = ap (λ (l : List ℕ). length l) (flat_map-cons framed_frame f fs) ∙ omega (arith, length-append (framed_frame f) (framed_all fs), length-framed_frame f)
-
 length_front : (n : ℕ) (f : Frame) (fs : List Frame) → IsSpellable f → 3 ≤ length (take n (framed_all (f ∷ fs))) → first_length (take n (framed_all (f ∷ fs))) ≡ length_of f
 length_front n f fs h long = first_length_is (take n (framed_all (f ∷ fs))) (drop n (framed_all (f ∷ fs))) f fs h (take-append-drop n (framed_all (f ∷ fs))) long ∙ length-canonical f
 
@@ -71,7 +68,7 @@ front_too_long most n (f ∷ fs) h w =
     crossed_cons most n f fs ∙ picked_long (nat_lt most (length_of f)) (nat_le 3 n) (nat_le (3 + length_of f) n) f (crossed most (n - (3 + length_of f)) fs) a b
 
 whole_back : (most n : ℕ) (f : Frame) (fs : List Frame) → IsSpellable f → 3 + length_of f ≤ n → length_of f ≤ most → IsWhole (take n (framed_all (f ∷ fs))) most
-whole_back most n f fs h1 h2 h3 = grind (arith, common_steps, length-take, long_all, length_front)
+whole_back most n f fs h1 h2 h3 = grind (arith, common_steps, length-take, length_front)
 
 no_items : (most n : ℕ) (x : Frame) (rest : List Arrival) → arrival.Whole x ∷ rest ≡ crossed most n [] → ⊥
 unfolding crossed

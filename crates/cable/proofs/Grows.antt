@@ -42,9 +42,6 @@ goes_not g past = grind (arith, common_steps)
 or_true : (a b : Bool) → a ≡ true → (a || b) ≡ true
 or_true a b h1 = grind (arith, common_steps)
 
-pub or_second : (a b : Bool) → b ≡ true → (a || b) ≡ true
-or_second a b h1 = grind (arith, common_steps)
-
 pub goes_one : (g : Settings) (x : Entry) (past : List Entry) → Goes g past (x ∷ past)
 unfolding due drawn is_accepted openings
 goes_one g x past = record {
@@ -84,12 +81,9 @@ quiet_not past = record { same = λ c. record { came_is = refl; bad_is = refl };
 quiet_on : (a b d : List Entry) → Quiet a b → Quiet b d → Quiet a d
 quiet_on a b d h k = record { same = λ c. same_on c a b d (h.same c) (k.same c); openings_are = k.openings_are ∙ h.openings_are }
 
-none_after : (o : Option ℕ) → first_of o None ≡ o
-none_after o = grind (arith, common_steps)
-
 pub same_step : (c : ℕ) (x : Entry) (past : List Entry) → brings past c x.event ≡ [] → bad_in past c x.event ≡ None → Same c past (x ∷ past)
 unfolding came first_bad
-same_step c x past h1 h2 = grind (arith, common_steps, none_after)
+same_step c x past h1 h2 = grind (arith, common_steps)
 
 -- an entry of a call or a draw
 pub quiet_one : (x : Entry) (past : List Entry) → ((c : ℕ) → brings past c x.event ≡ []) → ((c : ℕ) → bad_in past c x.event ≡ None) → openings_in x.event ≡ 0 → Quiet past (x ∷ past)
@@ -218,14 +212,9 @@ hears_on g c n frames past =
     either (HeardOn g c past) (is_none (first_bad past c)) (takes g c (drop (length (came past c)) (crossed g.max_in n frames)) past) past
     (λ t. takes_on g c (drop (length (came past c)) (crossed g.max_in n frames)) past) (λ f. heard_not g c past)
 
-none_is : (o : Option ℕ) → is_none o ≡ true → o ≡ None
-none_is o h1 = grind (arith, common_steps)
-
-pub length_wholes : (xs : List Frame) → length (wholes xs) ≡ length xs
-length_wholes xs = grind (arith, common_steps)
-
 left_of : (most n : ℕ) (frames came : List Frame) (bad : Option ℕ) → bad ≡ None → Heard most n frames came bad → wholes came ++ drop (length came) (crossed most n frames) ≡ crossed most n frames
-left_of most n frames came bad h1 h2 = grind (arith, common_steps, length_wholes, drop-append_seam)
+left_of most n frames came bad h1 h2 = grind (arith, common_steps, drop-append_seam)
 
 pub hears_heard : (g : Settings) (c n : ℕ) (frames : List Frame) (past : List Entry) → was_opened past c ≡ true → IsHeard g.max_in n c frames past → IsHeard g.max_in n c frames (hears g c n frames past)
-hears_heard g c n frames past h1 h2 = grind (arith, common_steps, either, none_is, takes_heard, left_of)
+unfolding takes
+hears_heard g c n frames past h1 h2 = grind (arith, common_steps, either, takes_heard, left_of)

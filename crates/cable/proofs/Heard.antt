@@ -30,7 +30,7 @@ use Rattle.cable.specs.declared.hearing.Crossing.{Crossing}
 use Rattle.cable.specs.Hearing.{Ahead, CrossedTo, Crosses, IsHearer, IsNextOf, IsOnly, IsSpelledInFront, too_long}
 use Rattle.cable.proofs.Crosses.{behind, last_is_too_long, wholes}
 use Rattle.cable.proofs.Fronts.{front_none, front_too_long, front_whole}
-use Rattle.cable.proofs.Grows.{bad_here, came_here, length_wholes, opened_still, whole_on}
+use Rattle.cable.proofs.Grows.{bad_here, came_here, opened_still, whole_on}
 
 -- where nothing too long came, what crossed behind what came
 pub record Left (g : Settings) (c n : ℕ) (frames : List Frame) (past : List Entry) (rest : Rest) : Type 0 where
@@ -53,11 +53,7 @@ left_now g c n frames past rest h1 = grind (arith, common_steps, not_bad, behind
 
 -- where nothing too long came, an end hears what is left
 pub hears_left : (g : Settings) (c n : ℕ) (frames : List Frame) (past : List Entry) (items : List Arrival) → first_bad past c ≡ None → wholes (came past c) ++ items ≡ crossed g.max_in n frames → hears g c n frames past ≡ takes g c items past
-hears_left g c n frames past items h1 h2 = grind (arith, common_steps, length_wholes, drop-append_seam)
-
-takes_first : (g : Settings) (c : ℕ) (a : Arrival) (more : List Arrival) (past : List Entry) → leaves (answer_to g past (event_of c a)) ≡ true → takes g c (a ∷ more) past ≡ takes g c more (answered g past (event_of c a) ∷ past)
-unfolding takes
-takes_first g c a more past l = ap (λ (b : Bool). cond b (takes g c more (answered g past (event_of c a) ∷ past)) past) l
+hears_left g c n frames past items h1 h2 = grind (arith, common_steps, drop-append_seam)
 
 takes_stays : (g : Settings) (c : ℕ) (a : Arrival) (more : List Arrival) (past : List Entry) → leaves (answer_to g past (event_of c a)) ≡ false → takes g c (a ∷ more) past ≡ past
 unfolding takes
@@ -138,7 +134,8 @@ hears_whole g c n frames past rest rest' f x h most cut =
     }
 
 pub hears_same : (g : Settings) (c n : ℕ) (frames : List Frame) (past : List Entry) (rest rest' : Rest) (f : Frame) → InFront g c n frames past rest (arrival.Whole f) → CrossedTo g c n frames (next_past g c (arrival.Whole f) past) rest' false → was_opened past c ≡ true → leaves (answer_to g past (event.Came c f)) ≡ true → hears g c n frames past ≡ hears g c n frames (next_past g c (arrival.Whole f) past)
-hears_same g c n frames past rest rest' f h1 h2 h3 h4 = grind (arith, common_steps, came_here, hears_left, takes_first, whole_on)
+unfolding takes
+hears_same g c n frames past rest rest' f h1 h2 h3 h4 = grind (arith, common_steps, came_here, hears_left, whole_on)
 
 -- a length came that is too long
 pub hears_too_long : (g : Settings) (c n : ℕ) (frames : List Frame) (past : List Entry) (rest : Rest) → CrossedTo g c n frames past rest false → InFront g c n frames past rest arrival.TooLong → CrossedTo g c n frames (next_past g c arrival.TooLong past) rest true
@@ -154,7 +151,8 @@ hears_too_long g c n frames past rest x i =
     }
 
 pub hears_ends : (g : Settings) (c n : ℕ) (frames : List Frame) (past : List Entry) (rest : Rest) → InFront g c n frames past rest arrival.TooLong → leaves (answer_to g past (event.Bad c 10)) ≡ true → hears g c n frames past ≡ next_past g c arrival.TooLong past
-hears_ends g c n frames past rest h1 h2 = grind (arith, common_steps, last_is_too_long, hears_left, takes_first, takes_nothing)
+unfolding takes
+hears_ends g c n frames past rest h1 h2 = grind (arith, common_steps, last_is_too_long, hears_left, takes_nothing)
 
 -- ---- so far
 
@@ -181,7 +179,7 @@ stays_now c n frames u v w x a settled is h s l now =
     (now ∙ (ap (λ (k : Settings). adds k v.entries (event_of c a)) same ∙ adds_none g v.entries (event_of c a) stays)) s.crosses
 
 added : (u v w : Seen) (e : Event) → v ≡ record u { entries = v.entries; spare = v.spare } → true ≡ leaves (answer_to v.settings v.entries e) → w.entries ≡ adds v.settings v.entries e → (leaves (answer_to u.settings v.entries e) ≡ true) × (w.entries ≡ answered u.settings v.entries e ∷ v.entries)
-added u v w e h1 h2 h3 = grind (arith, common_steps, adds_one)
+added u v w e h1 h2 h3 = grind (arith, common_steps)
 
 -- what is in front is too long, and came
 pub ends_now : (c n : ℕ) (frames : List Frame) (u v w : Seen) (x : Crossing) (a : Arrival) → v ≡ record u { entries = v.entries; spare = v.spare } → true ≡ too_long a → IsNextOf x.rest (Some a) → SoFar u.settings c n frames u.entries v.entries x.rest → true ≡ leaves (answer_to v.settings v.entries (event_of c a)) → w.entries ≡ adds v.settings v.entries (event_of c a) → IsHearer c n frames u w (record x { over = true })

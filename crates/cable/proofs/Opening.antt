@@ -24,20 +24,14 @@ use Rattle.cable.specs.declared.arrival.Arrival.TheVariants as arrival
 use Rattle.cable.specs.Played.{There, Ends, Link, Sides, answered, crossed_up, hears_if_accepted, link_of, meets, opened_by, opens, pair_of, there_of, with_client, with_link}
 use Rattle.tape.specs.Answers.{leaves}
 use Rattle.cable.proofs.Crosses.{Heard, heard_nothing}
-use Rattle.cable.proofs.Grows.{Same, goes_one, or_second, same_step}
+use Rattle.cable.proofs.Grows.{Same, goes_one, same_step}
 use Rattle.cable.proofs.Pairing.{DownHeard, Linked, LinkedThere, Paired, UpHeard, more_opening, paired_up, quiet_client, same_heard, sends_heard}
 
 -- ---- the number of an opening
 
-numbered : (d n m : ℕ) (c : Option Cause) (started : Bool) (o : Option SetupFault) → answer.Opened d ≡ unless_closed c (cond started (answer.SetupRefused fault.TokenTaken) (opened_unless o n)) → d ≡ n
-numbered d n m c started o h1 = grind (arith, common_steps)
-
-numbered_first : (d n m : ℕ) (c : Option Cause) (started : Bool) → answer.Opened d ≡ unless_closed c (cond started (answer.Stale m) (answer.Opened n)) → d ≡ n
-numbered_first d n m c started h1 = grind (arith, common_steps)
-
 pub number_is : (g : Settings) (past : List Entry) (first : Option Frame) (d : ℕ) → answer.Opened d ≡ answer_to g past (event.Open first false) → d ≡ openings past + 1
 unfolding facts
-number_is g past first d h1 = grind (arith, common_steps, numbered_first, numbered)
+number_is g past first d h1 = grind (arith, common_steps)
 
 -- ---- at the client
 
@@ -57,7 +51,7 @@ as_it_is s r p = record { count = p.count; accepted = p.accepted; within = p.wit
 
 one_more : (x : Entry) (past : List Entry) (n : ℕ) → x.answer ≡ answer.Opened n → x.event ≡ event.Open None false → (is_accepted (x ∷ past) n ≡ true) × (openings (x ∷ past) ≡ openings past + 1)
 unfolding is_accepted openings
-one_more x past n h1 h2 = grind (arith, common_steps, or_second, eq-eqb)
+one_more x past n h1 h2 = grind (arith, common_steps, eq-eqb)
 
 paired_with : (s : Sides) (r : Ends) (a : Answer) → a ≡ answer_to s.client r.client (event.Open None false) → Paired s r → Paired s (opened_with a r)
 paired_with s r (answer.Opened n) is p =
@@ -105,14 +99,8 @@ pair_old : (c d : ℕ) (pairs : List ℕ) → d ≤ length pairs → pair_of (c 
 unfolding pair_of
 pair_old c d pairs le = ap (λ (v : Bool). cond v c (pair_of pairs d)) (ne_eqb d (suc (length pairs)) (λ e. absurd (omega (arith, le, e))))
 
-closed_out : (a b c : Bool) (f : Frame) → b ≡ false → cond {A = List Frame} ((a && b) && c) (f ∷ []) [] ≡ []
-closed_out a b c f h1 = grind (arith, common_steps)
-
-closed_bad : (a b : Bool) (rule : ℕ) → b ≡ false → cond {A = Option ℕ} (a && b) (Some rule) None ≡ None
-closed_bad a b rule h1 = grind (arith, common_steps)
-
 unheard_one : (x : Entry) (past : List Entry) (d : ℕ) (e : Event) → openings past + openings_in e < d → (brings past d e ≡ []) × (bad_in past d e ≡ None)
-unheard_one x past d e h1 = grind (arith, common_steps, ne_eqb, closed_out, closed_bad, nat_tests)
+unheard_one x past d e h1 = grind (arith, common_steps, ne_eqb, nat_tests)
 
 -- nothing came on an opening that is still to come
 pub unheard : (past : List Entry) (d : ℕ) → openings past < d → (came past d ≡ []) × (first_bad past d ≡ None)
@@ -141,12 +129,9 @@ first_elsewhere x past f d e le =
 abbrev IsNewOrOld : List Entry → ℕ → Type 0
 IsNewOrOld past d = IsOpening past d ⊎ (d ≡ openings past + 1)
 
-new_or_old : (x : Entry) (past : List Entry) (d : ℕ) → openings (x ∷ past) ≡ openings past + 1 → IsOpening (x ∷ past) d → IsNewOrOld past d
-new_or_old x past d h1 h2 = grind (arith, common_steps, eqb_tells)
-
 by_case : (P : ℕ → ℕ → Type 0) (x : Entry) (past : List Entry) (c : ℕ) (pairs : List ℕ) → length pairs ≡ openings past → openings (x ∷ past) ≡ openings past + 1
     → ((d : ℕ) → IsOpening past d → P d (pair_of pairs d)) → P (openings past + 1) c → (d : ℕ) → IsOpening (x ∷ past) d → P d (pair_of (c ∷ pairs) d)
-by_case P x past c pairs h1 h2 h3 h4 d h5 = grind (arith, common_steps, new_or_old, pair_old, pair_new)
+by_case P x past c pairs h1 h2 h3 h4 d h5 = grind (arith, common_steps, pair_old, pair_new)
 
 linked_new : (a : Answer) (c n : ℕ) (r : Ends) → ((d : ℕ) → answer.Opened d ≡ a → d ≡ n) → IsOpening r.server n → pair_of r.pairs n ≡ c → LinkedThere (there_of a n) c r
 linked_new a c n r h1 h2 h3 = grind (arith, common_steps)

@@ -67,11 +67,8 @@ still_opening past past' d same o = record { above = o.above; within = omega (ar
 pub more_opening : (past past' : List Entry) (d : ℕ) → openings past ≤ openings past' → IsOpening past d → IsOpening past' d
 more_opening past past' d le o = record { above = o.above; within = omega (arith, o.within, le) }
 
-linked_there : (t : There) (c : ℕ) (r r' : Ends) → r'.pairs ≡ r.pairs → openings r'.server ≡ openings r.server → LinkedThere t c r → LinkedThere t c r'
-linked_there t c r r' h1 h2 h3 = grind (arith, common_steps, still_opening, more_opening)
-
 linked : (l : Option Link) (g : Settings) (r r' : Ends) → r'.pairs ≡ r.pairs → openings r'.server ≡ openings r.server → Goes g r.client r'.client → Linked l r → Linked l r'
-linked l g r r' h1 h2 h3 h4 = grind (arith, common_steps, more_opening, linked_there)
+linked l g r r' h1 h2 h3 h4 = grind (arith, common_steps, more_opening)
 
 -- the client goes on, and nothing comes at it
 pub quiet_client : (s : Sides) (r : Ends) (C : List Entry) → ((c : ℕ) → Same c r.client C) → Goes s.client r.client C → Paired s r → Paired s (with_client r C)

@@ -25,25 +25,16 @@ use Rattle.cable.specs.Wires.{At, Keeps, Reaches, Wires, sides_of, IsOfSession}
 abbrev pub IsLeft : Sides → List Line → ℕ → Ends → Ends → Type 0
 IsLeft s lines i r now = (r' : Ends) → PlaysLines s (drop i lines) now r' → PlaysLines s lines r r'
 
-drop_next : (lines : List Line) (i : ℕ) (x : Line) → i < length lines → x ≡ get_or lines i x → drop i lines ≡ x ∷ drop (i + 1) lines
-drop_next lines i x h1 h2 = grind (arith, common_steps)
-
-plays_one : (s : Sides) (x : Line) (lines : List Line) (r now r' : Ends) → PlaysLine s x r now → PlaysLines s lines now r' → PlaysLines s (x ∷ lines) r r'
-unfolding PlaysLines
-plays_one s x lines r now r' p q = (now, p, q)
-
 none_left : (s : Sides) (lines : List Line) (r : Ends) → lines ≡ [] → PlaysLines s lines r r
 unfolding PlaysLines
 none_left s lines r none = subst (λ (ls : List Line). PlaysLines s ls r r) (sym none) refl
-
-sides_same : (v w : Wires) → Keeps v w → sides_of w ≡ sides_of v
-sides_same v w k = ap (λ (u : Seen). record { client = u.settings; server = w.server.settings }) k.client ∙ ap (λ (u : Seen). record { client = v.client.settings; server = u.settings }) k.server
 
 pub keeps_on : (u v w : Wires) → Keeps u v → Keeps v w → Keeps u w
 keeps_on u v w h k = record { client = same_trans u.client v.client w.client h.client k.client; server = same_trans u.server v.server w.server h.server k.server }
 
 pub line_played : (u v w : Wires) (lines : List Line) (i : ℕ) (x : Line) (r : Ends) → Keeps u v → i < length lines → x ≡ get_or lines i x → (b : Reaches v (IsLeft (sides_of u) lines i r)) → Reaches w (PlaysLine (sides_of v) x b.ends) → Reaches w (IsLeft (sides_of u) lines (i + 1) r)
-line_played u v w lines i x r h1 h2 h3 b h4 = grind (arith, common_steps, sides_same, drop_next, plays_one)
+unfolding PlaysLines
+line_played u v w lines i x r h1 h2 h3 b h4 = grind (arith, common_steps)
 
 pub all_played : (u v : Wires) (lines : List Line) (i : ℕ) (r : Ends) → length lines ≤ i → Reaches v (IsLeft (sides_of u) lines i r) → Reaches v (PlaysLines (sides_of u) lines r)
 all_played u v lines i r past b = record { ends = b.ends; at = b.at; holds = b.holds b.ends (none_left (sides_of u) (drop i lines) b.ends (drop_all i lines past)) }
@@ -58,11 +49,8 @@ some_at v Holds b = (b.ends, b.at)
 
 -- ---- a run
 
-usual_right : (side : Side) → fault_of (usual side) ≡ None
-usual_right side = grind (arith, common_steps)
-
 usual_checked : (side : Side) → IsChecked (usual side)
-usual_checked side = grind (arith, common_steps, usual_right)
+usual_checked side = grind (arith, common_steps)
 
 usual_plain : (side : Side) → IsPlain (usual side)
 usual_plain side = record { checked = usual_checked side; no_resumption = refl; no_leases = refl; no_fragments = refl }

@@ -37,6 +37,3 @@ pub still_given : (g : Settings) (c : ℕ) (C C' : List Entry) → Sends g c C C
 still_given g c C C' h1 h2 h3 = grind (arith, common_steps, framed_all-append, take-append-le)
 
 -- ---- the hearer goes on, and nothing comes
-
-pub crosses_quiet : (h : Settings) (d n : ℕ) (frames : List Frame) (S S' : List Entry) (rest : Rest) (over : Bool) → Quiet S S' → CrossedTo h d n frames S rest over → CrossedTo h d n frames S' rest over
-crosses_quiet h d n frames S S' rest over h1 h2 = grind (arith, common_steps, opened_still)

@@ -35,7 +35,7 @@ use Rattle.cable.specs.Hearing.{Ahead, Carried, CrossedTo, Crosses, IsHearer, Is
 use Rattle.cable.specs.Wires.{Arrives, At, Knows, Reaches, ServerAt, WireAt, Wires, sides_of, wire_of, IsOfSession}
 use Rattle.cable.proofs.Grows.{Quiet, Sends, added_quiet, drew_where}
 use Rattle.cable.proofs.Opening.{number_is}
-use Rattle.cable.proofs.Sending.{crosses_more, crosses_quiet, still_given}
+use Rattle.cable.proofs.Sending.{crosses_more, still_given}
 
 abbrev sides : Settings → Seen → Sides
 sides g v = record { client = g; server = v.settings }
@@ -204,14 +204,8 @@ carried_at v r m w u' rest is at legal same k =
     let here = at_wire v r w is at in
     server_carried r here.0 m v.client u' v.server w rest at.client at.plain legal same k here.1
 
-accepted_client : (s : Sides) (c : ℕ) (t : There) (r : Ends) → (hears_if_accepted s c t r).client ≡ r.client
-accepted_client s c t r = grind (arith, common_steps)
-
-meets_client : (s : Sides) (c : ℕ) (items : List Arrival) (r : Ends) → (meets s c items r).client ≡ r.client
-meets_client s c items r = grind (arith, common_steps, accepted_client)
-
 arrives_client : (s : Sides) (c : ℕ) (t : There) (r : Ends) → (arrives_up s c t r).client ≡ r.client
-arrives_client s c t r = grind (arith, common_steps, meets_client)
+arrives_client s c t r = grind (arith, common_steps)
 
 side_of : (v v' : Seen) (side : Side) → v' ≡ record v { entries = v'.entries; spare = v'.spare } → v.settings.side ≡ side → v'.settings.side ≡ side
 side_of v v' side same is = ap (λ (g : Settings). g.side) (settings_of v v' same) ∙ is
@@ -242,15 +236,6 @@ pub up_played : (v v0 : Wires) (r : Ends) (m : Most) (w w' : Wire) (u' s' : Seen
     → Arrives v.client.settings (with_client r u'.entries) (at_wire v r w is at).0 v.server s' (fed w rest) w' → Reaches (record { client = u'; server = s'; wire = Some w' }) (Ups (sides_of v0) m r)
 up_played v v0 r m w w' u' s' rest shown is at legal same kept k h = subst (λ (x : Wires). Reaches (record { client = u'; server = s'; wire = Some w' }) (Ups (sides_of x) m r)) shown (up_here v r m w w' u' s' rest is at legal same kept k h)
 
-knows_quiet : (t : There) (k : Known) (n : ℕ) (frames : List Frame) (v v' : Seen) (x : Crossing) → v' ≡ record v { entries = v'.entries; spare = v'.spare } → Quiet v.entries v'.entries → Knows t k n frames v x → Knows t k n frames v' x
-knows_quiet t k n frames v v' x h1 h2 h3 = grind (arith, common_steps, settings_of, crosses_quiet)
-
-server_quiet : (g : Settings) (r : Ends) (t : There) (v v' : Seen) (w : Wire) → v' ≡ record v { entries = v'.entries; spare = v'.spare } → Quiet v.entries v'.entries → ServerAt g r t v w → ServerAt g (with_server r v'.entries) t v' w
-server_quiet g r t v v' w same q h = record { server = refl; link = h.link; number = h.number; knows = knows_quiet t w.known (drawn r.client w.client) (due g r.client w.client) v v' w.up same q h.knows }
-
-wire_quiet : (o : Option Wire) (v : Wires) (r : Ends) (s' : Seen) → s' ≡ record v.server { entries = s'.entries; spare = s'.spare } → Quiet v.server.entries s'.entries → WireAt o v r → WireAt o (record v { server = s' }) (with_server r s'.entries)
-wire_quiet o v r s' h1 h2 h3 = grind (arith, common_steps, server_quiet)
-
 wire_asked : (o : Option Wire) (v : Wires) (r : Ends) (u' : Seen) → u' ≡ record v.client { entries = u'.entries; spare = u'.spare } → ((c : ℕ) → Sent v.client.settings c r.client u'.entries []) → WireAt o v r → WireAt o (record v { client = u' }) (with_client r u'.entries)
 wire_asked None v r u' same s h = h
 wire_asked (Some w) v r u' same s h = (
@@ -260,14 +245,11 @@ wire_asked (Some w) v r u' same s h = (
 )
 
 server_asked : (v : Wires) (r : Ends) (s' : Seen) (asked : Call) → At v r → s' ≡ record v.server { entries = s'.entries; spare = s'.spare } → s'.entries ≡ adds v.server.settings v.server.entries (event.Asked asked) → Reaches (record v { server = s' }) (λ r'. r' ≡ asks (sides_of v) Server asked r)
-server_asked v r s' asked h1 h2 h3 = grind (arith, common_steps, added_quiet, side_of, wire_quiet)
-
-call_draws : (c : ℕ) (a : Answer) (asked : Call) → draws c a (event.Asked asked) ≡ 0
-call_draws c a asked = grind (arith, common_steps)
+server_asked v r s' asked h1 h2 h3 = grind (arith, common_steps, added_quiet, side_of)
 
 no_draws : (g : Settings) (past : List Entry) (asked : Call) (c : ℕ) (b : Bool) → drawn (cond b (answered g past (event.Asked asked) ∷ past) past) c ≡ drawn past c
 unfolding drawn
-no_draws g past asked c b = grind (arith, common_steps, call_draws)
+no_draws g past asked c b = grind (arith, common_steps)
 
 client_asked : (v : Wires) (r : Ends) (u' : Seen) (asked : Call) → At v r → IsOfSession u'.settings u'.entries → u' ≡ record v.client { entries = u'.entries; spare = u'.spare } → u'.entries ≡ adds v.client.settings v.client.entries (event.Asked asked) → Reaches (record v { client = u' }) (λ r'. r' ≡ asks (sides_of v) Client asked r)
 client_asked v r u' asked at legal same now =
@@ -313,13 +295,10 @@ first_answer : (g : Settings) → answer_to g [] (event.Open None false) ≡ ans
 unfolding facts openings begun closed
 first_answer g = refl
 
-first_drawn : (g : Settings) → drawn (adds g [] (event.Open None false)) 1 ≡ 0
-unfolding drawn facts openings begun closed
-first_drawn g = refl
-
 first_server : (g : Settings) (v : Seen) (C : List Entry) (most : ℕ) → v.entries ≡ [] → IsPlain g → IsOfSession g C → C ≡ adds g [] (event.Open None false) → most ≡ v.settings.max_in → IsChecked v.settings
     → ServerAt g (opens (sides g v) nothing) There.Nowhere v (record { client = 1; known = known.Nothing; up = record { rest = record { bytes = []; max_in = most }; over = false } })
-first_server g v C most h1 h2 h3 h4 h5 h6 = grind (arith, common_steps, first_answer, due_spelled, first_drawn)
+unfolding begun closed drawn facts openings
+first_server g v C most h1 h2 h3 h4 h5 h6 = grind (arith, common_steps, first_answer, due_spelled)
 
 -- the client opened the first connection
 pub first_opened : (v v0 : Wires) (u' : Seen) (a : Answer) (o : Option Wire) (most : ℕ) → v ≡ v0 → At v0 nothing → IsOfSession u'.settings u'.entries → u' ≡ record v.client { entries = u'.entries; spare = u'.spare } → u'.entries ≡ adds v.client.settings v.client.entries (event.Open None false)
