@@ -1,4 +1,5 @@
 -- What crossed: more of it later, and its bytes.
+use Rattle.std.proofs.lemmas.Grind.{common_steps}
 use Rattle.std.proofs.Common.{◌≡◌, ◌≤◌, ◌<◌, ◌+◌, ◌-◌, ◌^◌, ℕ, Bool, true, false, cond, nat_lt, nat_le, List, [], ◌∷◌, ◌++◌, map, length, take, drop, Option, Some, None, refl, ap, subst, sym, ◌∙◌, arith, append_assoc, length-append}
 use Rattle.std.proofs.lemmas.Bool.Decides.{nat_tests}
 use Rattle.std.proofs.Math.Seq.{take-append-add}
@@ -77,16 +78,8 @@ abbrev pub IsFirstOf : ℕ → ℕ → Frame → List Frame → Arrival → List
 IsFirstOf most n f frames (arrival.Whole x) rest = (x ≡ f) × (3 + length_of f ≤ n) × (rest ≡ crossed most (n - (3 + length_of f)) frames) × (length_of f ≤ most)
 IsFirstOf most n f frames arrival.TooLong rest = (3 ≤ n) × (most < length_of f) × (rest ≡ [])
 
-same_whole : (x f : Frame) (xs ys : List Arrival) → arrival.Whole x ∷ xs ≡ arrival.Whole f ∷ ys → (x ≡ f) × (xs ≡ ys)
-same_whole x f xs ys e = (cc, cc)
-
 first_picked : (most n : ℕ) (long three whole : Bool) (f : Frame) (frames : List Frame) (a : Arrival) (rest : List Arrival) → nat_lt most (length_of f) ≡ long → nat_le 3 n ≡ three → nat_le (3 + length_of f) n ≡ whole → a ∷ rest ≡ pick long three whole f (crossed most (n - (3 + length_of f)) frames) → IsFirstOf most n f frames a rest
-first_picked most n true true whole f frames (arrival.Whole x) rest l t w e = absurd (cc)
-first_picked most n true true whole f frames arrival.TooLong rest l t w e = (grind (arith, nat_tests), grind (arith, nat_tests), cc)
-first_picked most n true false whole f frames a rest l t w e = absurd (cc)
-first_picked most n false three true f frames (arrival.Whole x) rest l t w e = let s = same_whole x f rest (crossed most (n - (3 + length_of f)) frames) e in (s.0, grind (arith, nat_tests), s.1, grind (arith, nat_tests))
-first_picked most n false three true f frames arrival.TooLong rest l t w e = absurd (cc)
-first_picked most n false three false f frames a rest l t w e = absurd (cc)
+first_picked most n long three whole f frames a rest h1 h2 h3 h4 = grind (arith, common_steps, nat_tests)
 
 pub first_of_crossed : (most n : ℕ) (f : Frame) (frames : List Frame) (a : Arrival) (rest : List Arrival) → a ∷ rest ≡ crossed most n (f ∷ frames) → IsFirstOf most n f frames a rest
 unfolding crossed
@@ -124,16 +117,7 @@ pub record Behind (n : ℕ) (frames came : List Frame) : Type 0 where
   pub bytes_are : take n (framed_all frames) ≡ framed_all came ++ take left (framed_all others)
 
 behind_one : (n : ℕ) (f x : Frame) (frames came : List Frame) → x ≡ f → 3 + length_of f ≤ n → Behind (n - (3 + length_of f)) frames came → Behind n (f ∷ frames) (x ∷ came)
-behind_one n f x frames came is le b = record {
-  left = b.left;
-  others = b.others;
-  frames_are = ap (λ (l : List Frame). f ∷ l) b.frames_are ∙ ap (λ (y : Frame). y ∷ (came ++ b.others)) (sym is);
-  bytes_are = cut_front n f frames le
-      ∙ (ap (λ (l : List ℕ). framed_frame f ++ l) b.bytes_are
-      ∙ (sym (append_assoc (framed_frame f) (framed_all came) (take b.left (framed_all b.others)))
-      ∙ (ap (λ (l : List ℕ). l ++ take b.left (framed_all b.others)) (sym (flat_map-cons framed_frame f came))
-      ∙ ap (λ (y : Frame). framed_all (y ∷ came) ++ take b.left (framed_all b.others)) (sym is))));
-}
+behind_one n f x frames came h1 h2 h3 = grind (arith, common_steps, cut_front, flat_map-cons)
 
 -- the frames behind, of what is left
 pub behind : (most n : ℕ) (frames came : List Frame) (rest : List Arrival) → wholes came ++ rest ≡ crossed most n frames → (b : Behind n frames came) × (rest ≡ crossed most b.left b.others)
@@ -162,22 +146,11 @@ spelled_behind [] ys h = h
 spelled_behind (x ∷ xs) ys h = spelled_behind xs ys h.1
 
 drop_seam : (xs ys : List ℕ) → drop (length xs) (xs ++ ys) ≡ ys
-drop_seam [] ys = refl
-drop_seam (x ∷ xs) ys = drop_seam xs ys
+drop_seam xs ys = grind (arith, common_steps)
 
 bad_of : (most n : ℕ) (frames came : List Frame) (bad : Option ℕ) (rest : List Arrival) → AreSpellable frames → IsTen bad → wholes came ++ (ended bad ++ rest) ≡ crossed most n frames → BadFits bad most (framed_all came) (take n (framed_all frames))
-bad_of most n frames came None rest h ten e = tt
-bad_of most n frames came (Some rule) rest h ten e =
-    let b = behind most n frames came (arrival.TooLong ∷ rest) e in
-    let front = too_long_front most b.0.left b.0.others rest (spelled_behind came b.0.others (subst AreSpellable b.0.frames_are h)) b.1 in
-    (ten, subst (λ (l : List ℕ). IsTooLong l most) (sym (ap (λ (l : List ℕ). drop (length (framed_all came)) l) b.0.bytes_are ∙ drop_seam (framed_all came) (take b.0.left (framed_all b.0.others)))) front)
+bad_of most n frames came bad rest h1 h2 h3 = grind (arith, behind, too_long_front, spelled_behind, drop_seam)
 
 -- the bytes of what came crossed
 pub crossed_bytes : (most n : ℕ) (frames came : List Frame) (bad : Option ℕ) → AreSpellable frames → Heard most n frames came bad → Crossed (framed_all came) bad most (take n (framed_all frames))
-crossed_bytes most n frames came bad h p =
-    let e : wholes came ++ (ended bad ++ p.rest) ≡ crossed most n frames = sym (append_assoc (wholes came) (ended bad) p.rest) ∙ p.parts in
-    let b = behind most n frames came (ended bad ++ p.rest) e in
-    record {
-      begins = (take b.0.left (framed_all b.0.others), sym b.0.bytes_are);
-      bad_fits = bad_of most n frames came bad p.rest h p.ten e;
-    }
+crossed_bytes most n frames came bad h1 h2 = grind (arith, common_steps, behind, bad_of)

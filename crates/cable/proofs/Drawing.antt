@@ -1,4 +1,5 @@
 -- Draws, one behind the other.
+use Rattle.std.proofs.lemmas.Grind.{common_steps}
 use Rattle.std.proofs.Common.{◌≡◌, ◌≤◌, ◌<◌, ◌+◌, ◌-◌, ◌==◌, ◌^◌, ℕ, Bool, true, false, cond, min, List, [], ◌∷◌, ◌++◌, length, take, drop, refl, ap, subst, sym, ◌∙◌, arith, append_assoc, append-nil}
 use Rattle.std.proofs.lemmas.Bool.Decides.{nat_tests}
 use Rattle.std.proofs.lemmas.Bool.{eq-eqb, ne_eqb}
@@ -22,44 +23,30 @@ use Rattle.cable.specs.declared.carrying.Most.{Most}
 use Rattle.cable.specs.declared.carrying.Most.TheVariants as most
 use Rattle.cable.specs.Played.{DrawInSum, DrawsWhere, IsDraw, at_most}
 use Rattle.cable.specs.Hearing.{Carried, Filled, IsNoWant, IsStale}
-use Rattle.cable.proofs.Following.{is_right, noted}
+use Rattle.cable.proofs.Following.{noted}
 
 -- ---- answers to draws
 
 filling : (here : Bool) (room q m : ℕ) → here ≡ true → 0 < room → room ≤ q → cond here (cond (q == 0) answer.NotYet (answer.Drawn (min room q))) (answer.Stale m) ≡ answer.Drawn room
-filling false room q m h some fits = absurd (cc)
-filling true room q m h some fits =
-    let more : (q == 0) ≡ false = ne_eqb q 0 (λ e. absurd (omega (arith, e, some, fits))) in
-    let all : min room q ≡ room = omega (arith, fits) in
-    ap (λ (b : Bool). cond b answer.NotYet (answer.Drawn (min room q))) more ∙ ap answer.Drawn all
+filling here room q m h1 h2 h3 = grind (arith, common_steps, ne_eqb)
 
 fills : (g : Settings) (past : List Entry) (c room : ℕ) → is_live (live past) c ≡ true → 0 < room → room ≤ queued g past → answer_to g past (event.Draw c room) ≡ answer.Drawn room
 unfolding facts
 fills g past c room here some fits = filling (is_live (live past) c) room (queued g past) (live past) here some fits
-
-is_stale : (g : Settings) (past : List Entry) (c room : ℕ) → is_live (live past) c ≡ false → answer_to g past (event.Draw c room) ≡ answer.Stale (live past)
-unfolding facts
-is_stale g past c room out = ap (λ (b : Bool). cond b (cond (queued g past == 0) answer.NotYet (answer.Drawn (min room (queued g past)))) (answer.Stale (live past))) out
 
 pub filled : (v w : Seen) (c room : ℕ) (a : Answer) (buffer : List ℕ) → is_live (live v.entries) c ≡ true → 0 < room → room ≤ queued v.settings v.entries → IsNoWant a
     → IsUnlessWant a (answer_to v.settings v.entries (event.Draw c room))
     → IfDrawn a (λ k. take k buffer ≡ take k (drop (drawn v.entries c) (framed_all (due v.settings v.entries c))))
     → w ≡ record v { entries = entries_after 0 (event.Draw c room) a v.entries; spare = w.spare }
     → Filled c v w room buffer
-filled v w c room a buffer here some fits no_want right bytes after =
-    let is : a ≡ answer.Drawn room = is_right a _ no_want right ∙ fills v.settings v.entries c room here some fits in
-    record {
-      entries = ap (λ (u : Seen). u.entries) after ∙ ap (λ (b : Answer). entries_after 0 (event.Draw c room) b v.entries) is;
-      bytes = subst (λ (b : Answer). IfDrawn b (λ k. take k buffer ≡ take k (drop (drawn v.entries c) (framed_all (due v.settings v.entries c))))) is bytes;
-    }
+filled v w c room a buffer h1 h2 h3 h4 h5 h6 h7 = grind (arith, common_steps, fills)
 
 pub staled : (v w : Seen) (c room : ℕ) (a : Answer) → is_live (live v.entries) c ≡ false → IsNoWant a
     → IsUnlessWant a (answer_to v.settings v.entries (event.Draw c room))
     → w ≡ record v { entries = entries_after 0 (event.Draw c room) a v.entries; spare = w.spare }
     → IsStale c v w room
-staled v w c room a out no_want right after =
-    let is : a ≡ answer.Stale (live v.entries) = is_right a _ no_want right ∙ is_stale v.settings v.entries c room out in
-    ap (λ (u : Seen). u.entries) after ∙ ap (λ (b : Answer). entries_after 0 (event.Draw c room) b v.entries) is
+unfolding facts
+staled v w c room a h1 h2 h3 h4 = grind (arith, common_steps)
 
 -- ---- the entries of draws
 
@@ -75,22 +62,7 @@ drawn_here past c n = ap (λ (k : ℕ). drawn past c + k) (here_draws c n (event
 
 given_here : (g : Settings) (past : List Entry) (c n : ℕ) → given g (noted (event.Draw c n) (answer.Drawn n) ∷ past) c ≡ given g past c ++ take n (drop (drawn past c) (framed_all (due g past c)))
 unfolding due drawn
-given_here g past c n =
-    ap (λ (k : ℕ). take (drawn past c + k) (framed_all (due g past c ++ owes g past c (answer.Drawn n) (event.Draw c n)))) (here_draws c n (event.Draw c n) n refl)
-    ∙ more_front (drawn past c) n (due g past c) (owes g past c (answer.Drawn n) (event.Draw c n)) (drawn_owes g past c n (event.Draw c n))
-
-either_none : (b : Bool) → cond {A = List Frame} b [] [] ≡ []
-either_none true = refl
-either_none false = refl
-
-plus_none : (n : ℕ) → n + 0 ≡ n
-plus_none n = omega arith
-
-given_stale : (g : Settings) (past : List Entry) (c room m : ℕ) → given g (noted (event.Draw c room) (answer.Stale m) ∷ past) c ≡ given g past c ++ []
-unfolding due drawn
-given_stale g past c room m =
-    ap (λ (fs : List Frame). take (drawn past c + 0) (framed_all (due g past c ++ fs))) (either_none (is_live (live past) c))
-    ∙ (ap (λ (fs : List Frame). take (drawn past c + 0) (framed_all fs)) (append-nil (due g past c)) ∙ (ap (λ (k : ℕ). take k (framed_all (due g past c))) (plus_none (drawn past c)) ∙ sym (append-nil (given g past c))))
+given_here g past c n = grind (arith, common_steps, here_draws, more_front, drawn_owes)
 
 live_same : (past : List Entry) (c n : ℕ) → live (noted (event.Draw c n) (answer.Drawn n) ∷ past) ≡ live past
 unfolding live
@@ -164,31 +136,11 @@ drew_one g c past now start rest rest' n room buffer d some few fits bytes fed =
 
 pub drew_more : (u v w : Seen) (c : ℕ) (start rest rest' : Rest) (n room : ℕ) (buffer : List ℕ) → v ≡ record u { entries = v.entries; spare = v.spare } → Drew u.settings c u.entries v.entries start rest n → 0 < room → room < 2 ^ 32 → room ≤ queued u.settings v.entries
     → Filled c v w room buffer → rest' ≡ record rest { bytes = rest.bytes ++ take room buffer } → Drew u.settings c u.entries w.entries start rest' (n + room)
-drew_more u v w c start rest rest' n room buffer same d some few fits f fed =
-    let bytes = f.bytes ∙ ap (λ (x : Seen). take room (drop (drawn v.entries c) (framed_all (due x.settings v.entries c)))) same in
-    subst (λ (l : List Entry). Drew u.settings c u.entries l start rest' (n + room)) (sym f.entries) (drew_one u.settings c u.entries v.entries start rest rest' n room buffer d some few fits bytes fed)
-
-pub carried_all : (u v : Seen) (c : ℕ) (m : Most) (start rest : Rest) (n : ℕ) → is_live (live u.entries) c ≡ true → n ≡ at_most m (queued u.settings u.entries) → Drew u.settings c u.entries v.entries start rest n → Carried c m u v start rest
-carried_all u v c m start rest n here total d = record {
-  draws = subst (λ (b : Bool). DrawsWhere b u.settings c m u.entries v.entries) (sym here) (d.drawing, subst (DrawInSum u.settings c d.drawing u.entries) total d.sum, d.now_is);
-  piece = d.piece;
-  gave = d.gave;
-  crossed = d.crossed;
-}
+drew_more u v w c start rest rest' n room buffer h1 h2 h3 h4 h5 h6 h7 = grind (arith, common_steps, drew_one)
 
 pub carried_stale : (u v : Seen) (c : ℕ) (m : Most) (rest : Rest) (room : ℕ) → is_live (live u.entries) c ≡ false → 0 < room → room < 2 ^ 32 → IsStale c u v room → Carried c m u v rest rest
-carried_stale u v c m rest room out some few s =
-    let g = u.settings in
-    let past = u.entries in
-    let x : Entry = noted (event.Draw c room) (answer.Stale (live past)) in
-    let one : IsDraw g c past x (answer.Stale (live past)) = record { room = room; some = some; few = few; entry = refl; right = sym (is_stale g past c room out) } in
-    record {
-      draws = subst (λ (b : Bool). DrawsWhere b g c m past v.entries) (sym out) (x, one, s);
-      piece = [];
-      gave = ap (λ (l : List Entry). given g l c) s ∙ given_stale g past c room (live past);
-      crossed = ap (λ (l : List ℕ). record rest { bytes = l }) (sym (append-nil rest.bytes));
-    }
+unfolding drawn due facts
+carried_stale u v c m rest room h1 h2 h3 h4 = grind (arith, common_steps)
 
 pub lesser_below : (m : Most) (n waits : ℕ) → n ≡ at_most m waits → n ≤ waits
-lesser_below (most.Bytes k) n waits e = omega (arith, e)
-lesser_below most.All n waits e = omega (arith, e)
+lesser_below m n waits h1 = grind (arith, common_steps)

@@ -1,5 +1,6 @@
 -- What an end answers, and its entries after it.
-use Rattle.std.proofs.Common.{◌≡◌, ◌+◌, ℕ, Bool, true, false, cond, List, ◌∷◌, Option, Some, None, refl, ap, subst}
+use Rattle.std.proofs.lemmas.Grind.{common_steps}
+use Rattle.std.proofs.Common.{◌≡◌, ◌+◌, ℕ, Bool, true, false, cond, List, ◌∷◌, Option, Some, None, refl, ap, subst, arith}
 use Rattle.rs_wire.specs.declared.fault.Cause.{Cause}
 use Rattle.rs_wire.specs.declared.fault.SetupFault.{SetupFault}
 use Rattle.rs_wire.specs.declared.fault.SetupFault.TheVariants as fault
@@ -22,20 +23,8 @@ use Rattle.cable.specs.Hearing.{IsNoWant}
 abbrev pub noted : Event → Answer → Entry
 noted e a = record { who = 0; event = e; answer = a }
 
-pub is_right : (a b : Answer) → IsNoWant a → IsUnlessWant a b → a ≡ b
-is_right answer.TapeFull b n h = absurd n
-is_right answer.OutOfMemory b n h = absurd n
-is_right _ b n h = h
-
 after : (past : List Entry) (e : Event) (a : Answer) → entries_after 0 e a past ≡ cond (leaves a) (noted e a ∷ past) past
-after past e answer.NotYet = refl
-after past e (answer.OutBusy waiting) = refl
-after past e answer.TapeFull = refl
-after past e answer.OutOfMemory = refl
-after past e _ = refl
-
-pub brought : (g : Settings) (past : List Entry) (e : Event) (a : Answer) → IsNoWant a → IsUnlessWant a (answer_to g past e) → entries_after 0 e a past ≡ adds g past e
-brought g past e a no_want right = subst (λ (b : Answer). entries_after 0 e a past ≡ cond (leaves b) (noted e b ∷ past) past) (is_right a (answer_to g past e) no_want right) (after past e a)
+after past e a = grind (arith, common_steps)
 
 pub adds_none : (g : Settings) (past : List Entry) (e : Event) → leaves (answer_to g past e) ≡ false → adds g past e ≡ past
 adds_none g past e l = ap (λ (b : Bool). cond b (answered g past e ∷ past) past) l
@@ -44,10 +33,7 @@ pub adds_one : (g : Settings) (past : List Entry) (e : Event) → leaves (answer
 adds_one g past e l = ap (λ (b : Bool). cond b (answered g past e ∷ past) past) l
 
 opening_leaves : (c : Option Cause) (started : Bool) (o : Option SetupFault) (n : ℕ) → leaves (unless_closed c (cond started (answer.SetupRefused fault.TokenTaken) (opened_unless o n))) ≡ true
-opening_leaves (Some why) started o n = refl
-opening_leaves None true o n = refl
-opening_leaves None false None n = refl
-opening_leaves None false (Some f) n = refl
+opening_leaves c started o n = grind (arith, common_steps)
 
 -- the opening of a server always leaves an entry
 pub open_leaves : (g : Settings) (past : List Entry) (f : Frame) → leaves (answer_to g past (event.Open (Some f) false)) ≡ true

@@ -1,4 +1,5 @@
 -- The first frame of a connection.
+use Rattle.std.proofs.lemmas.Grind.{common_steps}
 use Rattle.std.proofs.Common.{◌≡◌, ◌≤◌, ◌<◌, ◌+◌, ◌-◌, ◌&&◌, ℕ, Bool, true, false, is_some, nat_lt, nat_le, List, [], ◌∷◌, ◌++◌, take, Option, Some, None, Result, Ok, Err, OnOk, IfOk, refl, ap, subst, sym, ◌∙◌, arith, append-nil}
 use Rattle.std.proofs.lemmas.Bool.Decides.{nat_tests}
 use Rattle.std.proofs.lemmas.List.Concat.{flat_map-cons}
@@ -85,20 +86,8 @@ next_frame rest None f e h = absurd (cc)
 
 -- no whole frame is in front
 pub meets_none : (n : ℕ) (frames : List Frame) (v : Seen) (x : Crossing) (o : Option Arrival) → Nears n frames v x → IsNextOf x.rest o → None ≡ whole_in o → IsMet n frames v v x known.Nothing
-meets_none n frames v x (Some (arrival.Whole f)) h front out = absurd (cc)
-meets_none n frames v x (Some arrival.TooLong) h front out =
-    met_by v.settings.max_in n frames v v x known.Nothing (arrival.TooLong ∷ [])
-    (front_too_long v.settings.max_in n frames h.ahead.spellable (subst (λ (bs : List ℕ). IsTooLong bs v.settings.max_in) (sym h.bytes) (subst (λ (m : ℕ). IsTooLong x.rest.bytes m) h.ahead.longest front))) (refl, refl, h)
-meets_none n frames v x None h front out =
-    met_by v.settings.max_in n frames v v x known.Nothing []
-    (front_none v.settings.max_in n frames h.ahead.spellable
-    (λ w. front.0 (subst (λ (m : ℕ). IsWhole x.rest.bytes m) (sym h.ahead.longest) (subst (λ (bs : List ℕ). IsWhole bs v.settings.max_in) h.bytes w)))
-    (λ w. front.1 (subst (λ (m : ℕ). IsTooLong x.rest.bytes m) (sym h.ahead.longest) (subst (λ (bs : List ℕ). IsTooLong bs v.settings.max_in) h.bytes w)))) (refl, refl, h)
+meets_none n frames v x o h1 h2 h3 = grind (arith, common_steps, met_by, front_too_long, front_none)
 
 -- an opening came
 pub opened_so : {E : Type 0} (f : Frame) (v w : Seen) (e : Event) (r : Result Known E) → e ≡ event.Open (Some f) false → OnOk r (w.entries ≡ adds v.settings v.entries e) → IfOk r (λ k. k ≡ known_of (answer_to v.settings v.entries e)) → IfOk r (IsOpenedBy f v w)
-opened_so f v w e (Ok k) is noted known = (
-  noted ∙ (ap (adds v.settings v.entries) is ∙ adds_one v.settings v.entries (event.Open (Some f) false) (open_leaves v.settings v.entries f)),
-  known ∙ ap (λ (x : Event). known_of (answer_to v.settings v.entries x)) is,
-)
-opened_so f v w e (Err x) is noted known = tt
+opened_so f v w e r h1 h2 h3 = grind (arith, common_steps, adds_one, open_leaves)

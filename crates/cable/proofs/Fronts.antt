@@ -1,4 +1,5 @@
 -- What stands in front of the bytes that crossed.
+use Rattle.std.proofs.lemmas.Grind.{common_steps}
 use Rattle.std.proofs.Common.{◌≡◌, ◌≤◌, ◌<◌, ◌+◌, ◌-◌, ℕ, Bool, true, false, nat_lt, nat_le, List, [], ◌∷◌, length, take, drop, refl, ap, ◌∙◌, arith, length-append}
 use Rattle.std.proofs.lemmas.Bool.Decides.{nat_tests}
 use Rattle.std.proofs.lemmas.List.{length-take, take-append-drop}
@@ -15,9 +16,6 @@ use Rattle.cable.specs.Played.{crossed}
 use Rattle.cable.proofs.Begun.{first_frame_is, first_length_is}
 use Rattle.cable.proofs.Crosses.{first_of_crossed, pick, too_long_front}
 
-long_all : (f : Frame) (fs : List Frame) → length (framed_all (f ∷ fs)) ≡ (3 + length_of f) + length (framed_all fs)
-long_all f fs = ap (λ (l : List ℕ). length l) (flat_map-cons framed_frame f fs) ∙ omega (arith, length-append (framed_frame f) (framed_all fs), length-framed_frame f)
-
 length_front : (n : ℕ) (f : Frame) (fs : List Frame) → IsSpellable f → 3 ≤ length (take n (framed_all (f ∷ fs))) → first_length (take n (framed_all (f ∷ fs))) ≡ length_of f
 length_front n f fs h long = first_length_is (take n (framed_all (f ∷ fs))) (drop n (framed_all (f ∷ fs))) f fs h (take-append-drop n (framed_all (f ∷ fs))) long ∙ length-canonical f
 
@@ -26,14 +24,10 @@ unfolding crossed
 crossed_cons most n f fs = refl
 
 picked_whole : (long three whole : Bool) (f : Frame) (rest : List Arrival) → long ≡ false → whole ≡ true → pick long three whole f rest ≡ arrival.Whole f ∷ rest
-picked_whole false three true f rest l w = refl
-picked_whole true three whole f rest l w = absurd (cc)
-picked_whole false three false f rest l w = absurd (cc)
+picked_whole long three whole f rest h1 h2 = grind (arith, common_steps)
 
 picked_long : (long three whole : Bool) (f : Frame) (rest : List Arrival) → long ≡ true → three ≡ true → pick long three whole f rest ≡ arrival.TooLong ∷ []
-picked_long true true whole f rest l w = refl
-picked_long false three whole f rest l w = absurd (cc)
-picked_long true false whole f rest l w = absurd (cc)
+picked_long long three whole f rest h1 h2 = grind (arith, common_steps)
 
 pub record WholeFront (most n : ℕ) (frames : List Frame) : Type 0 where
   pub f : Frame
@@ -74,11 +68,7 @@ front_too_long most n (f ∷ fs) h w =
     crossed_cons most n f fs ∙ picked_long (nat_lt most (length_of f)) (nat_le 3 n) (nat_le (3 + length_of f) n) f (crossed most (n - (3 + length_of f)) fs) a b
 
 whole_back : (most n : ℕ) (f : Frame) (fs : List Frame) → IsSpellable f → 3 + length_of f ≤ n → length_of f ≤ most → IsWhole (take n (framed_all (f ∷ fs))) most
-whole_back most n f fs h fits short =
-    let all = framed_all (f ∷ fs) in
-    let three : 3 ≤ length (take n all) = omega (arith, fits, length-take n all, long_all f fs) in
-    let len = length_front n f fs h three in
-    ((three, omega (arith, len, fits, length-take n all, long_all f fs)), omega (arith, len, short))
+whole_back most n f fs h1 h2 h3 = grind (arith, common_steps, length-take, length_front)
 
 no_items : (most n : ℕ) (x : Frame) (rest : List Arrival) → arrival.Whole x ∷ rest ≡ crossed most n [] → ⊥
 unfolding crossed

@@ -1,4 +1,5 @@
 -- What more entries change of what an end sends, and of what it heard.
+use Rattle.std.proofs.lemmas.Grind.{common_steps}
 use Rattle.std.proofs.Common.{◌≡◌, ◌≢◌, ◌≤◌, ◌==◌, ◌&&◌, ◌||◌, ℕ, suc, Bool, true, false, cond, nat_lt, nat_le, is_none, List, [], ◌∷◌, ◌++◌, length, drop, Option, Some, None, refl, ap, subst, sym, ◌∙◌, arith, append_assoc, append-nil}
 use Rattle.std.proofs.lemmas.Bool.{eq-eqb, ne_eqb}
 use Rattle.std.proofs.Math.Seq.{drop-append_seam}
@@ -36,19 +37,10 @@ pub record Goes (g : Settings) (past past' : List Entry) : Type 0 where
   pub openings_most : openings past ≤ openings past'
 
 pub goes_not : (g : Settings) (past : List Entry) → Goes g past past
-goes_not g past = record {
-  sends = λ c. record { more = []; due_is = sym (append-nil (due g past c)); drawn_most = omega arith };
-  accepted = λ c h. h;
-  openings_most = omega arith;
-}
+goes_not g past = grind (arith, common_steps)
 
 or_true : (a b : Bool) → a ≡ true → (a || b) ≡ true
-or_true true b h = refl
-or_true false b h = absurd (cc)
-
-pub or_second : (a b : Bool) → b ≡ true → (a || b) ≡ true
-or_second true b h = refl
-or_second false b h = h
+or_true a b h1 = grind (arith, common_steps)
 
 pub goes_one : (g : Settings) (x : Entry) (past : List Entry) → Goes g past (x ∷ past)
 unfolding due drawn is_accepted openings
@@ -59,11 +51,7 @@ goes_one g x past = record {
 }
 
 sends_on : (g : Settings) (c : ℕ) (a b d : List Entry) → Sends g c a b → Sends g c b d → Sends g c a d
-sends_on g c a b d h k = record {
-  more = h.more ++ k.more;
-  due_is = k.due_is ∙ (ap (λ (l : List Frame). l ++ k.more) h.due_is ∙ append_assoc (due g a c) h.more k.more);
-  drawn_most = omega (arith, h.drawn_most, k.drawn_most);
-}
+sends_on g c a b d h1 h2 = grind (arith, common_steps)
 
 pub goes_on : (g : Settings) (a b d : List Entry) → Goes g a b → Goes g b d → Goes g a d
 goes_on g a b d h k = record {
@@ -93,16 +81,9 @@ quiet_not past = record { same = λ c. record { came_is = refl; bad_is = refl };
 quiet_on : (a b d : List Entry) → Quiet a b → Quiet b d → Quiet a d
 quiet_on a b d h k = record { same = λ c. same_on c a b d (h.same c) (k.same c); openings_are = k.openings_are ∙ h.openings_are }
 
-none_after : (o : Option ℕ) → first_of o None ≡ o
-none_after (Some r) = refl
-none_after None = refl
-
 pub same_step : (c : ℕ) (x : Entry) (past : List Entry) → brings past c x.event ≡ [] → bad_in past c x.event ≡ None → Same c past (x ∷ past)
 unfolding came first_bad
-same_step c x past b d = record {
-  came_is = ap (λ (l : List Frame). came past c ++ l) b ∙ append-nil (came past c);
-  bad_is = ap (λ (o : Option ℕ). first_of (first_bad past c) o) d ∙ none_after (first_bad past c);
-}
+same_step c x past h1 h2 = grind (arith, common_steps)
 
 -- an entry of a call or a draw
 pub quiet_one : (x : Entry) (past : List Entry) → ((c : ℕ) → brings past c x.event ≡ []) → ((c : ℕ) → bad_in past c x.event ≡ None) → openings_in x.event ≡ 0 → Quiet past (x ∷ past)
@@ -138,35 +119,21 @@ drew_where false g c m past past' d = subst (DrewQuietly g past) (sym d.2) (draw
 -- ---- what comes
 
 here : (c : ℕ) (was : Bool) (bad : Option ℕ) (f : Frame) → was ≡ true → bad ≡ None → cond {A = List Frame} (((c == c) && was) && is_none bad) (f ∷ []) [] ≡ f ∷ []
-here c was bad f o b =
-    ap (λ (v : Bool). cond {A = List Frame} ((v && was) && is_none bad) (f ∷ []) []) (eq-eqb c c refl)
-    ∙ (ap (λ (v : Bool). cond {A = List Frame} ((true && v) && is_none bad) (f ∷ []) []) o
-    ∙ ap (λ (v : Option ℕ). cond {A = List Frame} ((true && true) && is_none v) (f ∷ []) []) b)
+here c was bad f h1 h2 = grind (arith, common_steps, eq-eqb)
 
 pub came_here : (c : ℕ) (past : List Entry) (x : Entry) (f : Frame) → x.event ≡ event.Came c f → was_opened past c ≡ true → first_bad past c ≡ None → (came (x ∷ past) c ≡ came past c ++ f ∷ []) × (first_bad (x ∷ past) c ≡ None)
 unfolding came first_bad
-came_here c past x f e o b = (
-  ap (λ (v : Event). came past c ++ brings past c v) e ∙ ap (λ (l : List Frame). came past c ++ l) (here c (was_opened past c) (first_bad past c) f o b),
-  ap (λ (v : Event). first_of (first_bad past c) (bad_in past c v)) e ∙ ap (λ (v : Option ℕ). first_of v None) b,
-)
+came_here c past x f h1 h2 h3 = grind (arith, common_steps, here)
 
 pub bad_here : (c : ℕ) (past : List Entry) (x : Entry) → x.event ≡ event.Bad c 10 → was_opened past c ≡ true → first_bad past c ≡ None → (came (x ∷ past) c ≡ came past c) × (first_bad (x ∷ past) c ≡ Some 10)
 unfolding came first_bad
-bad_here c past x e o b = (
-  ap (λ (v : Event). came past c ++ brings past c v) e ∙ append-nil (came past c),
-  ap (λ (v : Event). first_of (first_bad past c) (bad_in past c v)) e
-      ∙ (ap (λ (v : Option ℕ). first_of v (cond ((c == c) && was_opened past c) (Some 10) None)) b
-      ∙ (ap (λ (v : Bool). cond {A = Option ℕ} (v && was_opened past c) (Some 10) None) (eq-eqb c c refl) ∙ ap (λ (v : Bool). cond {A = Option ℕ} (true && v) (Some 10) None) o)),
-)
+bad_here c past x h1 h2 h3 = grind (arith, common_steps, eq-eqb)
 
 elsewhere : (c e : ℕ) (a : Arrival) (past : List Entry) → e ≢ c → (brings past e (event_of c a) ≡ []) × (bad_in past e (event_of c a) ≡ None)
-elsewhere c e (arrival.Whole f) past far =
-    (ap (λ (v : Bool). cond {A = List Frame} ((v && was_opened past e) && is_none (first_bad past e)) (f ∷ []) []) (ne_eqb c e (λ same. far (sym same))), refl)
-elsewhere c e arrival.TooLong past far = (refl, ap (λ (v : Bool). cond {A = Option ℕ} (v && was_opened past e) (Some 10) None) (ne_eqb c e (λ same. far (sym same))))
+elsewhere c e a past h1 = grind (arith, common_steps, ne_eqb)
 
 no_opening : (c : ℕ) (a : Arrival) → openings_in (event_of c a) ≡ 0
-no_opening c (arrival.Whole f) = refl
-no_opening c arrival.TooLong = refl
+no_opening c a = grind (arith, common_steps)
 
 pub opened_still : (c : ℕ) (past past' : List Entry) → openings past' ≡ openings past → was_opened past c ≡ true → was_opened past' c ≡ true
 opened_still c past past' same h = ap (λ (n : ℕ). nat_lt 0 c && nat_le c n) same ∙ h
@@ -192,8 +159,7 @@ heard_one g c a past = record {
 }
 
 pub either : (P : List Entry → Type 0) (b : Bool) (x y : List Entry) → (b ≡ true → P x) → (b ≡ false → P y) → P (cond b x y)
-either P true x y h k = h refl
-either P false x y h k = k refl
+either P b x y h1 h2 = grind (arith, common_steps)
 
 pub takes_on : (g : Settings) (c : ℕ) (items : List Arrival) (past : List Entry) → HeardOn g c past (takes g c items past)
 unfolding takes
@@ -204,13 +170,11 @@ takes_on g c (a ∷ more) past =
     (λ t. heard_on g c past next (takes g c more next) (heard_one g c a past) (takes_on g c more next)) (λ f. heard_not g c past)
 
 pub whole_on : (xs : List Frame) (f : Frame) (rest : List Arrival) → wholes xs ++ (arrival.Whole f ∷ rest) ≡ wholes (xs ++ f ∷ []) ++ rest
-whole_on [] f rest = refl
-whole_on (x ∷ xs) f rest = ap (λ (l : List Arrival). arrival.Whole x ∷ l) (whole_on xs f rest)
+whole_on xs f rest = grind (arith, common_steps)
 
 takes_none : (g : Settings) (c : ℕ) (items : List Arrival) (past : List Entry) → items ≡ [] → takes g c items past ≡ past
 unfolding takes
-takes_none g c [] past e = refl
-takes_none g c (x ∷ items) past e = absurd (cc)
+takes_none g c items past h1 = grind (arith, common_steps)
 
 heard_so_far : (most n c : ℕ) (frames : List Frame) (past : List Entry) (rest : List Arrival) → first_bad past c ≡ None → wholes (came past c) ++ rest ≡ crossed most n frames → Heard most n frames (came past c) (first_bad past c)
 heard_so_far most n c frames past rest b e =
@@ -248,24 +212,9 @@ hears_on g c n frames past =
     either (HeardOn g c past) (is_none (first_bad past c)) (takes g c (drop (length (came past c)) (crossed g.max_in n frames)) past) past
     (λ t. takes_on g c (drop (length (came past c)) (crossed g.max_in n frames)) past) (λ f. heard_not g c past)
 
-none_is : (o : Option ℕ) → is_none o ≡ true → o ≡ None
-none_is None h = refl
-none_is (Some r) h = absurd (cc)
-
-pub length_wholes : (xs : List Frame) → length (wholes xs) ≡ length xs
-length_wholes [] = refl
-length_wholes (x ∷ xs) = ap suc (length_wholes xs)
-
 left_of : (most n : ℕ) (frames came : List Frame) (bad : Option ℕ) → bad ≡ None → Heard most n frames came bad → wholes came ++ drop (length came) (crossed most n frames) ≡ crossed most n frames
-left_of most n frames came (Some r) e h = absurd (cc)
-left_of most n frames came None e h =
-    let parts : wholes came ++ h.rest ≡ crossed most n frames = ap (λ (l : List Arrival). l ++ h.rest) (sym (append-nil (wholes came))) ∙ h.parts in
-    let left : drop (length came) (crossed most n frames) ≡ h.rest = ap (λ (k : ℕ). drop k (crossed most n frames)) (sym (length_wholes came)) ∙ (ap (λ (l : List Arrival). drop (length (wholes came)) l) (sym parts) ∙ drop-append_seam (wholes came) h.rest) in
-    ap (λ (l : List Arrival). wholes came ++ l) left ∙ parts
+left_of most n frames came bad h1 h2 = grind (arith, common_steps, drop-append_seam)
 
 pub hears_heard : (g : Settings) (c n : ℕ) (frames : List Frame) (past : List Entry) → was_opened past c ≡ true → IsHeard g.max_in n c frames past → IsHeard g.max_in n c frames (hears g c n frames past)
-hears_heard g c n frames past o h =
-    either (IsHeard g.max_in n c frames) (is_none (first_bad past c)) (takes g c (drop (length (came past c)) (crossed g.max_in n frames)) past) past
-    (λ t. let b = none_is (first_bad past c) t in
-    takes_heard g g.max_in n c frames (drop (length (came past c)) (crossed g.max_in n frames)) past o b (left_of g.max_in n frames (came past c) (first_bad past c) b h))
-    (λ f. h)
+unfolding takes
+hears_heard g c n frames past h1 h2 = grind (arith, common_steps, either, takes_heard, left_of)

@@ -1,4 +1,5 @@
 -- What an end hears, arrival by arrival.
+use Rattle.std.proofs.lemmas.Grind.{common_steps}
 use Rattle.std.proofs.Common.{◌≡◌, ◌<◌, ◌+◌, ◌-◌, ◌^◌, ℕ, Bool, true, false, cond, is_none, is_some, List, [], ◌∷◌, ◌++◌, length, take, drop, Option, Some, None, refl, ap, subst, sym, ◌∙◌, arith, append_assoc, append-nil}
 use Rattle.std.proofs.Math.Seq.{drop-append_seam}
 use Rattle.std.proofs.lemmas.List.{append_cancel_left}
@@ -29,7 +30,7 @@ use Rattle.cable.specs.declared.hearing.Crossing.{Crossing}
 use Rattle.cable.specs.Hearing.{Ahead, CrossedTo, Crosses, IsHearer, IsNextOf, IsOnly, IsSpelledInFront, too_long}
 use Rattle.cable.proofs.Crosses.{behind, last_is_too_long, wholes}
 use Rattle.cable.proofs.Fronts.{front_none, front_too_long, front_whole}
-use Rattle.cable.proofs.Grows.{bad_here, came_here, length_wholes, opened_still, whole_on}
+use Rattle.cable.proofs.Grows.{bad_here, came_here, opened_still, whole_on}
 
 -- where nothing too long came, what crossed behind what came
 pub record Left (g : Settings) (c n : ℕ) (frames : List Frame) (past : List Entry) (rest : Rest) : Type 0 where
@@ -41,36 +42,18 @@ pub record Left (g : Settings) (c n : ℕ) (frames : List Frame) (past : List En
   pub bytes : rest.bytes ≡ take left (framed_all others)
 
 not_bad : (o : Option ℕ) → false ≡ is_some o → o ≡ None
-not_bad None e = refl
-not_bad (Some r) e = absurd (cc)
+not_bad o h1 = grind (arith, common_steps)
 
 spelled_behind : (xs ys : List Frame) → AreSpellable (xs ++ ys) → AreSpellable ys
 spelled_behind [] ys h = h
 spelled_behind (x ∷ xs) ys h = spelled_behind xs ys h.1
 
 pub left_now : (g : Settings) (c n : ℕ) (frames : List Frame) (past : List Entry) (rest : Rest) → CrossedTo g c n frames past rest false → Left g c n frames past rest
-left_now g c n frames past rest x =
-    let none = not_bad (first_bad past c) x.bad in
-    let items = x.parts none in
-    let b = behind g.max_in n frames (came past c) items.0 items.1 in
-    record {
-      none_bad = none;
-      left = b.0.left;
-      others = b.0.others;
-      spellable = spelled_behind (came past c) b.0.others (subst AreSpellable b.0.frames_are x.ahead.spellable);
-      parts = ap (λ (l : List Arrival). wholes (came past c) ++ l) (sym b.1) ∙ items.1;
-      bytes = append_cancel_left (framed_all (came past c)) rest.bytes (take b.0.left (framed_all b.0.others)) (sym x.bytes ∙ b.0.bytes_are);
-    }
+left_now g c n frames past rest h1 = grind (arith, common_steps, not_bad, behind, spelled_behind, append_cancel_left)
 
 -- where nothing too long came, an end hears what is left
 pub hears_left : (g : Settings) (c n : ℕ) (frames : List Frame) (past : List Entry) (items : List Arrival) → first_bad past c ≡ None → wholes (came past c) ++ items ≡ crossed g.max_in n frames → hears g c n frames past ≡ takes g c items past
-hears_left g c n frames past items none parts =
-    let left : drop (length (came past c)) (crossed g.max_in n frames) ≡ items = ap (λ (k : ℕ). drop k (crossed g.max_in n frames)) (sym (length_wholes (came past c))) ∙ (ap (λ (l : List Arrival). drop (length (wholes (came past c))) l) (sym parts) ∙ drop-append_seam (wholes (came past c)) items) in
-    ap (λ (o : Option ℕ). cond (is_none o) (takes g c (drop (length (came past c)) (crossed g.max_in n frames)) past) past) none ∙ ap (λ (l : List Arrival). takes g c l past) left
-
-takes_first : (g : Settings) (c : ℕ) (a : Arrival) (more : List Arrival) (past : List Entry) → leaves (answer_to g past (event_of c a)) ≡ true → takes g c (a ∷ more) past ≡ takes g c more (answered g past (event_of c a) ∷ past)
-unfolding takes
-takes_first g c a more past l = ap (λ (b : Bool). cond b (takes g c more (answered g past (event_of c a) ∷ past)) past) l
+hears_left g c n frames past items h1 h2 = grind (arith, common_steps, drop-append_seam)
 
 takes_stays : (g : Settings) (c : ℕ) (a : Arrival) (more : List Arrival) (past : List Entry) → leaves (answer_to g past (event_of c a)) ≡ false → takes g c (a ∷ more) past ≡ past
 unfolding takes
@@ -91,15 +74,10 @@ hears_nothing g c n frames past rest x w l =
     hears_left g c n frames past (crossed g.max_in b.left b.others) b.none_bad b.parts ∙ (ap (λ (l : List Arrival). takes g c l past) none ∙ takes_nothing g c past)
 
 over : (o : Option ℕ) → true ≡ is_some o → (more past : List Entry) → cond (is_none o) more past ≡ past
-over None e more past = absurd (cc)
-over (Some r) e more past = refl
+over o h1 more past = grind (arith, common_steps)
 
 some_none : (r : ℕ) → Some r ≡ None → ⊥
 some_none r e = absurd (cc)
-
--- nothing more is heard where something too long came
-pub hears_over : (g : Settings) (c n : ℕ) (frames : List Frame) (past : List Entry) (rest : Rest) → CrossedTo g c n frames past rest true → hears g c n frames past ≡ past
-hears_over g c n frames past rest x = over (first_bad past c) x.bad (takes g c (drop (length (came past c)) (crossed g.max_in n frames)) past) past
 
 -- ---- what is in front stays, or comes
 
@@ -130,8 +108,7 @@ too_long_in_front g c n frames past rest x w =
     record { none_bad = b.none_bad; more = []; parts = ap (λ (l : List Arrival). wholes (came past c) ++ l) (sym front) ∙ b.parts }
 
 pub in_front : (g : Settings) (c n : ℕ) (frames : List Frame) (past : List Entry) (rest : Rest) (a : Arrival) → CrossedTo g c n frames past rest false → IsNextOf rest (Some a) → InFront g c n frames past rest a
-in_front g c n frames past rest (arrival.Whole f) x h = (whole_in_front g c n frames past rest f x h.0 h.2).0
-in_front g c n frames past rest arrival.TooLong x h = too_long_in_front g c n frames past rest x h
+in_front g c n frames past rest a h1 h2 = grind (arith, common_steps, whole_in_front, too_long_in_front)
 
 pub hears_stays : (g : Settings) (c n : ℕ) (frames : List Frame) (past : List Entry) (rest : Rest) (a : Arrival) → InFront g c n frames past rest a → leaves (answer_to g past (event_of c a)) ≡ false → hears g c n frames past ≡ past
 hears_stays g c n frames past rest a i l = hears_left g c n frames past (a ∷ i.more) i.none_bad i.parts ∙ takes_stays g c a i.more past l
@@ -157,12 +134,8 @@ hears_whole g c n frames past rest rest' f x h most cut =
     }
 
 pub hears_same : (g : Settings) (c n : ℕ) (frames : List Frame) (past : List Entry) (rest rest' : Rest) (f : Frame) → InFront g c n frames past rest (arrival.Whole f) → CrossedTo g c n frames (next_past g c (arrival.Whole f) past) rest' false → was_opened past c ≡ true → leaves (answer_to g past (event.Came c f)) ≡ true → hears g c n frames past ≡ hears g c n frames (next_past g c (arrival.Whole f) past)
-hears_same g c n frames past rest rest' f i x o l =
-    let next = next_past g c (arrival.Whole f) past in
-    let here = came_here c past (answered g past (event.Came c f)) f refl o i.none_bad in
-    hears_left g c n frames past (arrival.Whole f ∷ i.more) i.none_bad i.parts
-    ∙ (takes_first g c (arrival.Whole f) i.more past l
-    ∙ sym (hears_left g c n frames next i.more here.1 (ap (λ (k : List Frame). wholes k ++ i.more) here.0 ∙ (sym (whole_on (came past c) f i.more) ∙ i.parts))))
+unfolding takes
+hears_same g c n frames past rest rest' f h1 h2 h3 h4 = grind (arith, common_steps, came_here, hears_left, whole_on)
 
 -- a length came that is too long
 pub hears_too_long : (g : Settings) (c n : ℕ) (frames : List Frame) (past : List Entry) (rest : Rest) → CrossedTo g c n frames past rest false → InFront g c n frames past rest arrival.TooLong → CrossedTo g c n frames (next_past g c arrival.TooLong past) rest true
@@ -178,11 +151,8 @@ hears_too_long g c n frames past rest x i =
     }
 
 pub hears_ends : (g : Settings) (c n : ℕ) (frames : List Frame) (past : List Entry) (rest : Rest) → InFront g c n frames past rest arrival.TooLong → leaves (answer_to g past (event.Bad c 10)) ≡ true → hears g c n frames past ≡ next_past g c arrival.TooLong past
-hears_ends g c n frames past rest i l =
-    let none : i.more ≡ [] = last_is_too_long g.max_in n frames (came past c) i.more i.parts in
-    hears_left g c n frames past (arrival.TooLong ∷ i.more) i.none_bad i.parts
-    ∙ (takes_first g c arrival.TooLong i.more past l
-    ∙ (ap (λ (k : List Arrival). takes g c k (next_past g c arrival.TooLong past)) none ∙ takes_nothing g c (next_past g c arrival.TooLong past)))
+unfolding takes
+hears_ends g c n frames past rest h1 h2 = grind (arith, common_steps, last_is_too_long, hears_left, takes_nothing)
 
 -- ---- so far
 
@@ -191,25 +161,12 @@ pub record SoFar (g : Settings) (c n : ℕ) (frames : List Frame) (past now : Li
   pub crosses : CrossedTo g c n frames now rest false
   pub same : hears g c n frames past ≡ hears g c n frames now
 
-pub none_so_far : (c n : ℕ) (frames : List Frame) (v : Seen) (x : Crossing) → x.over ≡ false → Crosses c n frames v x → SoFar v.settings c n frames v.entries v.entries x.rest
-none_so_far c n frames v x is h = record { crosses = subst (CrossedTo v.settings c n frames v.entries x.rest) is h; same = refl }
-
 finish : (c n : ℕ) (frames : List Frame) (u w : Seen) (x : Crossing) (rest : Rest) (over : Bool) (end : List Entry) → x ≡ record { rest = rest; over = over } → hears u.settings c n frames u.entries ≡ end → w.entries ≡ end → CrossedTo u.settings c n frames end rest over → IsHearer c n frames u w x
-finish c n frames u w x rest over end x_is is now h = record {
-  entries = now ∙ sym is;
-  crosses = subst (λ (y : Crossing). CrossedTo u.settings c n frames w.entries y.rest y.over) (sym x_is) (subst (λ (p : List Entry). CrossedTo u.settings c n frames p rest over) (sym now) h);
-}
-
--- something too long came before
-pub over_before : (c n : ℕ) (frames : List Frame) (v : Seen) (x : Crossing) → x.over ≡ true → Crosses c n frames v x → IsHearer c n frames v v x
-over_before c n frames v x is h =
-    let over = subst (CrossedTo v.settings c n frames v.entries x.rest) is h in
-    record { entries = sym (hears_over v.settings c n frames v.entries x.rest over); crosses = h }
+finish c n frames u w x rest over end h1 h2 h3 h4 = grind (arith, common_steps)
 
 -- nothing is in front
 pub none_now : (c n : ℕ) (frames : List Frame) (u w : Seen) (x : Crossing) → x.over ≡ false → IsNextOf x.rest None → SoFar u.settings c n frames u.entries w.entries x.rest → IsHearer c n frames u w x
-none_now c n frames u w x is h s =
-    finish c n frames u w x x.rest false w.entries (ap (λ (b : Bool). record { rest = x.rest; over = b }) is) (s.same ∙ hears_nothing u.settings c n frames w.entries x.rest s.crosses h.0 h.1) refl s.crosses
+none_now c n frames u w x h1 h2 h3 = grind (arith, common_steps, finish, over, hears_nothing)
 
 -- what is in front stays
 pub stays_now : (c n : ℕ) (frames : List Frame) (u v w : Seen) (x : Crossing) (a : Arrival) → v ≡ record u { entries = v.entries; spare = v.spare } → x.over ≡ false → IsNextOf x.rest (Some a) → SoFar u.settings c n frames u.entries v.entries x.rest → false ≡ leaves (answer_to v.settings v.entries (event_of c a)) → w.entries ≡ adds v.settings v.entries (event_of c a) → IsHearer c n frames u w x
@@ -222,10 +179,7 @@ stays_now c n frames u v w x a settled is h s l now =
     (now ∙ (ap (λ (k : Settings). adds k v.entries (event_of c a)) same ∙ adds_none g v.entries (event_of c a) stays)) s.crosses
 
 added : (u v w : Seen) (e : Event) → v ≡ record u { entries = v.entries; spare = v.spare } → true ≡ leaves (answer_to v.settings v.entries e) → w.entries ≡ adds v.settings v.entries e → (leaves (answer_to u.settings v.entries e) ≡ true) × (w.entries ≡ answered u.settings v.entries e ∷ v.entries)
-added u v w e settled l now =
-    let same : v.settings ≡ u.settings = ap (λ (y : Seen). y.settings) settled in
-    let comes : leaves (answer_to u.settings v.entries e) ≡ true = subst (λ (k : Settings). leaves (answer_to k v.entries e) ≡ true) same (sym l) in
-    (comes, now ∙ (ap (λ (k : Settings). adds k v.entries e) same ∙ adds_one u.settings v.entries e comes))
+added u v w e h1 h2 h3 = grind (arith, common_steps)
 
 -- what is in front is too long, and came
 pub ends_now : (c n : ℕ) (frames : List Frame) (u v w : Seen) (x : Crossing) (a : Arrival) → v ≡ record u { entries = v.entries; spare = v.spare } → true ≡ too_long a → IsNextOf x.rest (Some a) → SoFar u.settings c n frames u.entries v.entries x.rest → true ≡ leaves (answer_to v.settings v.entries (event_of c a)) → w.entries ≡ adds v.settings v.entries (event_of c a) → IsHearer c n frames u w (record x { over = true })
@@ -259,21 +213,6 @@ pub spelled_now : (g : Settings) (c n : ℕ) (frames : List Frame) (past : List 
 spelled_now g c n frames past rest x =
     let b = left_now g c n frames past rest x in
     spelled g b.left b.others rest (record { longest = x.ahead.longest; below = x.ahead.below; spellable = b.spellable }) b.bytes
-
-pub longest_now : (g : Settings) (frames : List Frame) (rest : Rest) → Ahead g frames rest → rest.max_in < 2 ^ 24
-longest_now g frames rest a = omega (arith, a.longest, a.below)
-
-pub fair_now : (h : Settings) (c : ℕ) (rest : Rest) (a : Arrival) → IsNextOf rest (Some a) → IsFair h (event_of c a)
-fair_now h c rest (arrival.Whole f) i = i.1
-fair_now h c rest arrival.TooLong i = (omega arith, omega arith)
-
-pub no_draw_now : (c : ℕ) (a : Arrival) → IsNoDrawEvent (event_of c a)
-no_draw_now c (arrival.Whole f) = tt
-no_draw_now c arrival.TooLong = tt
-
-pub whole_now : (rest : Rest) (a : Arrival) → too_long a ≡ false → IsNextOf rest (Some a) → IsWhole rest.bytes rest.max_in
-whole_now rest (arrival.Whole f) is i = i.0
-whole_now rest arrival.TooLong is i = absurd (cc)
 
 pub next_is : (rest : Rest) (o : Option Arrival) (a : Arrival) → o ≡ Some a → IsNextOf rest o → IsNextOf rest (Some a)
 next_is rest o a e h = subst (IsNextOf rest) e h

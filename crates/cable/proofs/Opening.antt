@@ -1,4 +1,5 @@
 -- A connection is opened, at the client and then at the server.
+use Rattle.std.proofs.lemmas.Grind.{common_steps}
 use Rattle.std.proofs.Common.{◌≡◌, ◌≤◌, ◌<◌, ◌+◌, ◌==◌, ◌&&◌, ◌⊎◌, inl, inr, ℕ, suc, Bool, true, false, cond, is_none, List, [], ◌∷◌, ◌++◌, length, Option, Some, None, refl, ap, subst, sym, ◌∙◌, arith}
 use Rattle.std.proofs.lemmas.Bool.Decides.{nat_tests, eqb_tells}
 use Rattle.std.proofs.lemmas.Bool.{eq-eqb, ne_eqb}
@@ -23,26 +24,14 @@ use Rattle.cable.specs.declared.arrival.Arrival.TheVariants as arrival
 use Rattle.cable.specs.Played.{There, Ends, Link, Sides, answered, crossed_up, hears_if_accepted, link_of, meets, opened_by, opens, pair_of, there_of, with_client, with_link}
 use Rattle.tape.specs.Answers.{leaves}
 use Rattle.cable.proofs.Crosses.{Heard, heard_nothing}
-use Rattle.cable.proofs.Grows.{Same, goes_one, or_second, same_step}
+use Rattle.cable.proofs.Grows.{Same, goes_one, same_step}
 use Rattle.cable.proofs.Pairing.{DownHeard, Linked, LinkedThere, Paired, UpHeard, more_opening, paired_up, quiet_client, same_heard, sends_heard}
 
 -- ---- the number of an opening
 
-numbered : (d n m : ℕ) (c : Option Cause) (started : Bool) (o : Option SetupFault) → answer.Opened d ≡ unless_closed c (cond started (answer.SetupRefused fault.TokenTaken) (opened_unless o n)) → d ≡ n
-numbered d n m (Some why) started o e = absurd (cc)
-numbered d n m None true o e = absurd (cc)
-numbered d n m None false (Some f) e = absurd (cc)
-numbered d n m None false None e = cc
-
-numbered_first : (d n m : ℕ) (c : Option Cause) (started : Bool) → answer.Opened d ≡ unless_closed c (cond started (answer.Stale m) (answer.Opened n)) → d ≡ n
-numbered_first d n m (Some why) started e = absurd (cc)
-numbered_first d n m None true e = absurd (cc)
-numbered_first d n m None false e = cc
-
 pub number_is : (g : Settings) (past : List Entry) (first : Option Frame) (d : ℕ) → answer.Opened d ≡ answer_to g past (event.Open first false) → d ≡ openings past + 1
 unfolding facts
-number_is g past None d e = numbered_first d (openings past + 1) (live past) (closed g past) (begun past) e
-number_is g past (Some f) d e = numbered d (openings past + 1) 0 (closed g past) (begun past) (setup_fault f g false) e
+number_is g past first d h1 = grind (arith, common_steps)
 
 -- ---- at the client
 
@@ -62,8 +51,7 @@ as_it_is s r p = record { count = p.count; accepted = p.accepted; within = p.wit
 
 one_more : (x : Entry) (past : List Entry) (n : ℕ) → x.answer ≡ answer.Opened n → x.event ≡ event.Open None false → (is_accepted (x ∷ past) n ≡ true) × (openings (x ∷ past) ≡ openings past + 1)
 unfolding is_accepted openings
-one_more x past n a e =
-    (or_second (is_accepted past n) (opens_as n x.answer) (ap (opens_as n) a ∙ eq-eqb n n refl), ap (λ (v : Event). openings past + openings_in v) e)
+one_more x past n h1 h2 = grind (arith, common_steps, eq-eqb)
 
 paired_with : (s : Sides) (r : Ends) (a : Answer) → a ≡ answer_to s.client r.client (event.Open None false) → Paired s r → Paired s (opened_with a r)
 paired_with s r (answer.Opened n) is p =
@@ -111,25 +99,8 @@ pair_old : (c d : ℕ) (pairs : List ℕ) → d ≤ length pairs → pair_of (c 
 unfolding pair_of
 pair_old c d pairs le = ap (λ (v : Bool). cond v c (pair_of pairs d)) (ne_eqb d (suc (length pairs)) (λ e. absurd (omega (arith, le, e))))
 
-closed_out : (a b c : Bool) (f : Frame) → b ≡ false → cond {A = List Frame} ((a && b) && c) (f ∷ []) [] ≡ []
-closed_out true b c f e = ap (λ (v : Bool). cond {A = List Frame} (v && c) (f ∷ []) []) e
-closed_out false b c f e = refl
-
-closed_bad : (a b : Bool) (rule : ℕ) → b ≡ false → cond {A = Option ℕ} (a && b) (Some rule) None ≡ None
-closed_bad true b rule e = ap (λ (v : Bool). cond {A = Option ℕ} v (Some rule) None) e
-closed_bad false b rule e = refl
-
 unheard_one : (x : Entry) (past : List Entry) (d : ℕ) (e : Event) → openings past + openings_in e < d → (brings past d e ≡ []) × (bad_in past d e ≡ None)
-unheard_one x past d (event.Open None taken) lt = (refl, refl)
-unheard_one x past d (event.Open (Some f) taken) lt = (ap (λ (v : Bool). cond {A = List Frame} v (f ∷ []) []) (ne_eqb (openings past + 1) d (λ same. absurd (omega (arith, lt, same)))), refl)
-unheard_one x past d (event.Came conn f) lt =
-    let out : was_opened past d ≡ false = grind (arith, nat_tests) in
-    (closed_out (conn == d) (was_opened past d) (is_none (first_bad past d)) f out, refl)
-unheard_one x past d (event.Bad conn rule) lt =
-    let out : was_opened past d ≡ false = grind (arith, nat_tests) in
-    (refl, closed_bad (conn == d) (was_opened past d) rule out)
-unheard_one x past d (event.Draw conn room) lt = (refl, refl)
-unheard_one x past d (event.Asked asked) lt = (refl, refl)
+unheard_one x past d e h1 = grind (arith, common_steps, ne_eqb, nat_tests)
 
 -- nothing came on an opening that is still to come
 pub unheard : (past : List Entry) (d : ℕ) → openings past < d → (came past d ≡ []) × (first_bad past d ≡ None)
@@ -158,22 +129,12 @@ first_elsewhere x past f d e le =
 abbrev IsNewOrOld : List Entry → ℕ → Type 0
 IsNewOrOld past d = IsOpening past d ⊎ (d ≡ openings past + 1)
 
-new_or_old : (x : Entry) (past : List Entry) (d : ℕ) → openings (x ∷ past) ≡ openings past + 1 → IsOpening (x ∷ past) d → IsNewOrOld past d
-new_or_old x past d is o = elim (eqb_tells d (openings past + 1)) [
-  | inl same ↦ inr same.1
-  | inr other ↦ inl (record { above = o.above; within = omega (arith, o.within, is, other.1) })
-]
-
 by_case : (P : ℕ → ℕ → Type 0) (x : Entry) (past : List Entry) (c : ℕ) (pairs : List ℕ) → length pairs ≡ openings past → openings (x ∷ past) ≡ openings past + 1
     → ((d : ℕ) → IsOpening past d → P d (pair_of pairs d)) → P (openings past + 1) c → (d : ℕ) → IsOpening (x ∷ past) d → P d (pair_of (c ∷ pairs) d)
-by_case P x past c pairs count more old new d o = elim (new_or_old x past d more o) [
-  | inl was ↦ subst (P d) (sym (pair_old c d pairs (omega (arith, was.within, count)))) (old d was)
-  | inr is ↦ subst (P d) (sym (pair_new c d pairs (omega (arith, is, count)))) (subst (λ (k : ℕ). P k c) (sym is) new)
-]
+by_case P x past c pairs h1 h2 h3 h4 d h5 = grind (arith, common_steps, pair_old, pair_new)
 
 linked_new : (a : Answer) (c n : ℕ) (r : Ends) → ((d : ℕ) → answer.Opened d ≡ a → d ≡ n) → IsOpening r.server n → pair_of r.pairs n ≡ c → LinkedThere (there_of a n) c r
-linked_new (answer.Opened d) c n r number o is = let same : n ≡ d = sym (number d refl) in (subst (IsOpening r.server) same o, subst (λ (k : ℕ). pair_of r.pairs k ≡ c) same is)
-linked_new _ c n r number o is = (o, is)
+linked_new a c n r h1 h2 h3 = grind (arith, common_steps)
 
 paired_opened : (s : Sides) (c : ℕ) (f : Frame) (more : List Arrival) (r : Ends) → is_accepted r.client c ≡ true → IsOpening r.client c → LinkedThere There.Nowhere c r → arrival.Whole f ∷ more ≡ crossed_up s c r → Paired s r → Paired s (opened_by s c f r)
 paired_opened s c f more r ac oc out front p =
@@ -208,9 +169,7 @@ paired_opened s c f more r ac oc out front p =
     }
 
 paired_accepted : (s : Sides) (c : ℕ) (t : There) (r : Ends) → LinkedThere t c r → Paired s r → Paired s (hears_if_accepted s c t r)
-paired_accepted s c There.Nowhere r h p = p
-paired_accepted s c (There.Accepted d) r h p = paired_up s c d r h.1 h.0 p
-paired_accepted s c (There.Refused d n) r h p = p
+paired_accepted s c t r h1 h2 = grind (arith, paired_up)
 
 there_linked : (s : Sides) (c : ℕ) (t : There) (r : Ends) → r.link ≡ Some (record { client = c; there = t }) → Paired s r → LinkedThere t c r
 there_linked s c t r is p = (subst (λ (o : Option Link). Linked o r) is p.link).there

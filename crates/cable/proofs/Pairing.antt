@@ -1,4 +1,5 @@
 -- What was played joins the two ends, opening by opening.
+use Rattle.std.proofs.lemmas.Grind.{common_steps}
 use Rattle.std.proofs.Common.{◌≡◌, ◌≢◌, ◌≤◌, ◌<◌, ◌&&◌, inl, inr, ℕ, true, nat_lt, nat_le, List, [], length, Option, Some, None, refl, ap, subst, sym, ◌∙◌, arith}
 use Rattle.std.proofs.lemmas.Bool.Decides.{nat_tests, eqb_tells}
 use Rattle.rs_wire.specs.declared.settings.Settings.{Settings}
@@ -55,12 +56,10 @@ opened_is past d o = numbers d (openings past) o.above o.within
 
 -- what one end sends goes on
 pub sends_heard : (g : Settings) (most c k : ℕ) (past past' hearing : List Entry) → Sends g c past past' → IsHeard most (drawn past c) k (due g past c) hearing → IsHeard most (drawn past' c) k (due g past' c) hearing
-sends_heard g most c k past past' hearing z h =
-    subst (λ (fs : List Frame). IsHeard most (drawn past' c) k fs hearing) (sym z.due_is) (heard_more most (drawn past c) (drawn past' c) (due g past c) z.more (came hearing k) (first_bad hearing k) z.drawn_most h)
+sends_heard g most c k past past' hearing h1 h2 = grind (arith, common_steps, heard_more)
 
 pub same_heard : (most n c : ℕ) (frames : List Frame) (past past' : List Entry) → Same c past past' → IsHeard most n c frames past → IsHeard most n c frames past'
-same_heard most n c frames past past' m h =
-    subst (λ (fs : List Frame). Heard most n frames fs (first_bad past' c)) (sym m.came_is) (subst (λ (b : Option ℕ). Heard most n frames (came past c) b) (sym m.bad_is) h)
+same_heard most n c frames past past' h1 h2 = grind (arith, common_steps)
 
 still_opening : (past past' : List Entry) (d : ℕ) → openings past' ≡ openings past → IsOpening past' d → IsOpening past d
 still_opening past past' d same o = record { above = o.above; within = omega (arith, o.within, same) }
@@ -68,14 +67,8 @@ still_opening past past' d same o = record { above = o.above; within = omega (ar
 pub more_opening : (past past' : List Entry) (d : ℕ) → openings past ≤ openings past' → IsOpening past d → IsOpening past' d
 more_opening past past' d le o = record { above = o.above; within = omega (arith, o.within, le) }
 
-linked_there : (t : There) (c : ℕ) (r r' : Ends) → r'.pairs ≡ r.pairs → openings r'.server ≡ openings r.server → LinkedThere t c r → LinkedThere t c r'
-linked_there There.Nowhere c r r' p o h = λ d k e. h d (still_opening r.server r'.server d o k) (ap (λ (l : List ℕ). pair_of l d) (sym p) ∙ e)
-linked_there (There.Accepted d) c r r' p o h = (more_opening r.server r'.server d (omega (arith, o)) h.0, ap (λ (l : List ℕ). pair_of l d) p ∙ h.1)
-linked_there (There.Refused d n) c r r' p o h = (more_opening r.server r'.server d (omega (arith, o)) h.0, ap (λ (l : List ℕ). pair_of l d) p ∙ h.1)
-
 linked : (l : Option Link) (g : Settings) (r r' : Ends) → r'.pairs ≡ r.pairs → openings r'.server ≡ openings r.server → Goes g r.client r'.client → Linked l r → Linked l r'
-linked None g r r' p o k h = tt
-linked (Some l) g r r' p o k h = record { accepted = k.accepted l.client h.accepted; opening = more_opening r.client r'.client l.client k.openings_most h.opening; there = linked_there l.there l.client r r' p o h.there }
+linked l g r r' h1 h2 h3 h4 = grind (arith, common_steps, more_opening)
 
 -- the client goes on, and nothing comes at it
 pub quiet_client : (s : Sides) (r : Ends) (C : List Entry) → ((c : ℕ) → Same c r.client C) → Goes s.client r.client C → Paired s r → Paired s (with_client r C)

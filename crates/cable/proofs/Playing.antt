@@ -1,4 +1,5 @@
 -- Lines, one after the other.
+use Rattle.std.proofs.lemmas.Grind.{common_steps}
 use Rattle.std.proofs.Common.{suc, zero, drop-cons, ◌≡◌, ◌≤◌, ◌<◌, ◌+◌, ℕ, List, [], ◌∷◌, length, drop, get_or, Result, Ok, Err, OnOk, is_err, None, false, refl, ap, subst, sym, ◌∙◌, arith}
 use Rattle.std.specs.List.{AllByRecursion}
 use Rattle.std.proofs.lemmas.List.{drop_all}
@@ -24,111 +25,38 @@ use Rattle.cable.specs.Wires.{At, Keeps, Reaches, Wires, sides_of, IsOfSession}
 abbrev pub IsLeft : Sides → List Line → ℕ → Ends → Ends → Type 0
 IsLeft s lines i r now = (r' : Ends) → PlaysLines s (drop i lines) now r' → PlaysLines s lines r r'
 
-drop_next : (lines : List Line) (i : ℕ) (x : Line) → i < length lines → x ≡ get_or lines i x → drop i lines ≡ x ∷ drop (i + 1) lines
-drop_next lines i x below is =
-    let next : suc i ≡ i + 1 = omega arith in
-    drop-cons lines i x below ∙ (ap (λ (y : Line). y ∷ drop (suc i) lines) (sym is) ∙ ap (λ (n : ℕ). x ∷ drop n lines) next)
-
-plays_one : (s : Sides) (x : Line) (lines : List Line) (r now r' : Ends) → PlaysLine s x r now → PlaysLines s lines now r' → PlaysLines s (x ∷ lines) r r'
-unfolding PlaysLines
-plays_one s x lines r now r' p q = (now, p, q)
-
 none_left : (s : Sides) (lines : List Line) (r : Ends) → lines ≡ [] → PlaysLines s lines r r
 unfolding PlaysLines
 none_left s lines r none = subst (λ (ls : List Line). PlaysLines s ls r r) (sym none) refl
 
--- every line has what all have
-pub line_at : (lines : List Line) (i : ℕ) (x : Line) → AllByRecursion IsLine lines → i < length lines → x ≡ get_or lines i x → IsLine x
-line_at [] i x all below is = absurd (omega (arith, below))
-line_at (y ∷ lines) zero x all below is = subst IsLine (sym is) all.0
-line_at (y ∷ lines) (suc i) x all below is = line_at lines i x all.1 (omega (arith, below)) is
-
-sides_same : (v w : Wires) → Keeps v w → sides_of w ≡ sides_of v
-sides_same v w k = ap (λ (u : Seen). record { client = u.settings; server = w.server.settings }) k.client ∙ ap (λ (u : Seen). record { client = v.client.settings; server = u.settings }) k.server
-
 pub keeps_on : (u v w : Wires) → Keeps u v → Keeps v w → Keeps u w
 keeps_on u v w h k = record { client = same_trans u.client v.client w.client h.client k.client; server = same_trans u.server v.server w.server h.server k.server }
 
-pub none_played : (v : Wires) (lines : List Line) (r : Ends) → At v r → Reaches v (IsLeft (sides_of v) lines 0 r)
-none_played v lines r at = record { ends = r; at = at; holds = λ r' p. p }
-
 pub line_played : (u v w : Wires) (lines : List Line) (i : ℕ) (x : Line) (r : Ends) → Keeps u v → i < length lines → x ≡ get_or lines i x → (b : Reaches v (IsLeft (sides_of u) lines i r)) → Reaches w (PlaysLine (sides_of v) x b.ends) → Reaches w (IsLeft (sides_of u) lines (i + 1) r)
-line_played u v w lines i x r kept below is b one =
-    let s = sides_of u in
-    let line : PlaysLine s x b.ends one.ends = subst (λ (k : Sides). PlaysLine k x b.ends one.ends) (sides_same u v kept) one.holds in
-    record { ends = one.ends; at = one.at; holds = λ r' p. b.holds r' (subst (λ (ls : List Line). PlaysLines s ls b.ends r') (sym (drop_next lines i x below is)) (plays_one s x (drop (i + 1) lines) b.ends one.ends r' line p)) }
+unfolding PlaysLines
+line_played u v w lines i x r h1 h2 h3 b h4 = grind (arith, common_steps)
 
 pub all_played : (u v : Wires) (lines : List Line) (i : ℕ) (r : Ends) → length lines ≤ i → Reaches v (IsLeft (sides_of u) lines i r) → Reaches v (PlaysLines (sides_of u) lines r)
 all_played u v lines i r past b = record { ends = b.ends; at = b.at; holds = b.holds b.ends (none_left (sides_of u) (drop i lines) b.ends (drop_all i lines past)) }
 
--- a line is one of these
-pub askable : (side : Side) (asked : Call) → IsLine (lines.Ask side asked) → IsAskable asked
-askable side asked h = subst IsAskable (sym h.1) (refl, refl, refl, refl)
-
 -- ---- from the first line to the last
 
 pub played_none : (v : Wires) (lines : List Line) → length lines ≡ 0 → At v nothing → Reaches v (PlaysLines (sides_of v) lines (begins (sides_of v) lines))
-played_none v [] none at = record { ends = nothing; at = at; holds = none_left (sides_of v) [] nothing refl }
-played_none v (x ∷ lines) none at = absurd (omega (arith, none))
-
-begun_some : (s : Sides) (lines : List Line) → 0 < length lines → opens s nothing ≡ begins s lines
-begun_some s [] some = absurd (omega (arith, some))
-begun_some s (x ∷ lines) some = refl
-
-pub played_some : (u v w : Wires) (lines : List Line) → 0 < length lines → Keeps u v → (b : Reaches v (λ r. r ≡ opens (sides_of u) nothing)) → Reaches w (PlaysLines (sides_of v) lines b.ends) → Reaches w (PlaysLines (sides_of u) lines (begins (sides_of u) lines))
-played_some u v w lines some kept b p =
-    record { ends = p.ends; at = p.at; holds = subst (λ (r : Ends). PlaysLines (sides_of u) lines r p.ends) (b.holds ∙ begun_some (sides_of u) lines some) (subst (λ (s : Sides). PlaysLines s lines b.ends p.ends) (sides_same u v kept) p.holds) }
+played_none v lines h1 h2 = grind (arith, common_steps, none_left)
 
 pub some_at : (v : Wires) (Holds : Ends → Type 0) → Reaches v Holds → (r : Ends) × At v r
 some_at v Holds b = (b.ends, b.at)
 
 -- ---- a run
 
-usual_right : (side : Side) → fault_of (usual side) ≡ None
-usual_right Client = refl
-usual_right Server = refl
-
 usual_checked : (side : Side) → IsChecked (usual side)
-usual_checked side = record {
-  no_fault = usual_right side;
-  keepalive = record { above = omega arith; below = omega arith };
-  lifetime = record { above = omega arith; below = omega arith };
-  mtu = omega arith;
-  hold = omega arith;
-  slack = omega arith;
-  max_in = record { above = omega arith; below = omega arith };
-  max_payload = record { above = omega arith; below = omega arith };
-  max_streams = record { above = omega arith; below = omega arith };
-  last_id = record { above = omega arith; below = omega arith };
-  top_position = omega arith;
-  session_hold = omega arith;
-  token = omega arith;
-  metadata_mime = omega arith;
-  content_mime = omega arith;
-}
+usual_checked side = grind (arith, common_steps)
 
 usual_plain : (side : Side) → IsPlain (usual side)
 usual_plain side = record { checked = usual_checked side; no_resumption = refl; no_leases = refl; no_fragments = refl }
 
 pub ok_holds : {A B : Type 0} (P : Type 0) (r : Result A B) → is_err r ≡ false → OnOk r P → P
-ok_holds P (Ok x) fine h = h
-ok_holds P (Err e) fine h = absurd (cc)
-
-legal_none : (s : Seen) → s.entries ≡ [] → IsOfSession s.settings s.entries
-unfolding Legal Fair
-legal_none s none = subst (IsOfSession s.settings) (sym none) (tt, tt)
-
--- two ends with the usual settings, of which nothing happened yet
-pub usual_at : (client server : Seen) (v : Wires) → v ≡ record { client = client; server = server; wire = None } → client.settings ≡ usual Client → server.settings ≡ usual Server → client.entries ≡ [] → server.entries ≡ [] → At v nothing
-usual_at client server v is c s c_none s_none = subst (λ (u : Wires). At u nothing) (sym is) (record {
-  client_side = ap (λ g. g.side) c;
-  server_side = ap (λ g. g.side) s;
-  plain = subst IsPlain (sym c) (usual_plain Client);
-  legal = legal_none client c_none;
-  client = sym c_none;
-  server = sym s_none;
-  wire = refl;
-})
+ok_holds P r h1 h2 = grind (arith, common_steps)
 
 -- the ends of a run
 pub usual_ends : (C S : List Entry) → IsOfSession (usual Client) C → IsOfSession (usual Server) S → AreEnds (usual Client) (usual Server) C S
@@ -137,14 +65,7 @@ usual_ends C S c s = record { client = refl; server = refl; client_plain = usual
 -- the lines of the script were played
 pub run_played : (client server : Seen) (v w : Wires) (C S : Seen) (script lines : List Line) → v ≡ record { client = client; server = server; wire = None } → client.settings ≡ usual Client → server.settings ≡ usual Server → C ≡ w.client → S ≡ w.server → lines ≡ script
     → Reaches w (PlaysLines (sides_of v) lines (begins (sides_of v) lines)) → Played usual_sides script C.entries S.entries
-run_played client server v w C S script lines is c s c_is s_is same b =
-    let sides : sides_of v ≡ usual_sides = ap sides_of is ∙ (ap (λ (g : Settings). record { client = g; server = server.settings }) c ∙ ap (λ (g : Settings). record { client = usual Client; server = g }) s) in
-    record {
-      ends = b.ends;
-      played = subst (λ (ls : List Line). PlaysLines usual_sides ls (begins usual_sides ls) b.ends) same (subst (λ (k : Sides). PlaysLines k lines (begins k lines) b.ends) sides b.holds);
-      client_is = b.at.client ∙ ap (λ (u : Seen). u.entries) (sym c_is);
-      server_is = b.at.server ∙ ap (λ (u : Seen). u.entries) (sym s_is);
-    }
+run_played client server v w C S script lines h1 h2 h3 h4 h5 h6 h7 = grind (arith, common_steps)
 
 pub run_client : (client server : Seen) (v w : Wires) (C : Seen) → v ≡ record { client = client; server = server; wire = None } → Keeps v w → C ≡ w.client → C ≡ record client { entries = C.entries; spare = C.spare }
 run_client client server v w C is k c_is = c_is ∙ (k.client ∙ (ap (λ (u : Wires). record u.client { entries = w.client.entries; spare = w.client.spare }) is ∙ ap (λ (u : Seen). record client { entries = u.entries; spare = u.spare }) (sym c_is)))

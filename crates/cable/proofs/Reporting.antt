@@ -1,5 +1,6 @@
 -- What a report is made of.
-use Rattle.std.proofs.Common.{◌≡◌, ℕ, Bool, true, false, List, [], ◌∷◌, ◌++◌, reverse, Some, None, ap, subst, sym, ◌∙◌, append_assoc}
+use Rattle.std.proofs.lemmas.Grind.{common_steps}
+use Rattle.std.proofs.Common.{◌≡◌, ℕ, Bool, true, false, List, [], ◌∷◌, ◌++◌, reverse, Some, None, ap, subst, sym, ◌∙◌, append_assoc, arith}
 use Rattle.std.specs.List.{AllByRecursion}
 use Rattle.std.proofs.lemmas.List.{reverse-append, reverse-reverse}
 use Rattle.rs_wire.specs.declared.words.Side.TheVariants as side
@@ -13,12 +14,7 @@ use Rattle.cable.specs.Lines.{AreTellable, CanBeTold}
 use Rattle.cable.specs.Report.{counts_of, report_of, told_lines}
 
 fair_told : (g : Settings) (e : Event) → IsFair g e → CanBeTold e
-fair_told g (event.Open None taken) h = tt
-fair_told g (event.Open (Some f) taken) h = h.1
-fair_told g (event.Draw conn room) h = tt
-fair_told g (event.Came conn f) h = h
-fair_told g (event.Bad conn number) h = tt
-fair_told g (event.Asked asked) h = tt
+fair_told g e h1 = grind (arith, common_steps)
 
 all_fair : (g : Settings) (past : List Entry) → Fair g past → AreTellable past
 unfolding Fair
@@ -26,8 +22,7 @@ all_fair g [] h = tt
 all_fair g (x ∷ past) h = (fair_told g x.event h.1, all_fair g past h.0)
 
 all_behind : {X : Type 0} (P : X → Type 0) (xs ys : List X) → AllByRecursion P xs → AllByRecursion P ys → AllByRecursion P (xs ++ ys)
-all_behind {X} P [] ys h k = k
-all_behind {X} P (x ∷ xs) ys h k = (h.0, all_behind P xs ys h.1 k)
+all_behind P xs ys h1 h2 = grind (arith, common_steps)
 
 all_back : {X : Type 0} (P : X → Type 0) (xs : List X) → AllByRecursion P xs → AllByRecursion P (reverse xs)
 all_back {X} P [] h = tt
@@ -39,13 +34,10 @@ tellable g T h = subst AreTellable (reverse-reverse T) (all_back (λ (x : Entry)
 
 -- what a tape tells is its entries
 pub told_list : (tells : Bool) (past entries : List Entry) → told_by tells past ≡ Some entries → reverse entries ≡ past
-told_list true past entries h = let is : entries ≡ reverse past = cc in ap reverse is ∙ reverse-reverse past
-told_list false past entries h = absurd (cc)
+told_list tells past entries h1 = grind (arith, common_steps, reverse-reverse)
 
 four : (a b c d e u v w z : List ℕ) → b ≡ a ++ u → c ≡ b ++ v → d ≡ c ++ w → e ≡ d ++ z → e ≡ a ++ (u ++ (v ++ (w ++ z)))
-four a b c d e u v w z p q r s =
-    s ∙ (ap (λ (l : List ℕ). l ++ z) (r ∙ ap (λ (l : List ℕ). l ++ w) (q ∙ ap (λ (l : List ℕ). l ++ v) p))
-    ∙ (append_assoc ((a ++ u) ++ v) w z ∙ (append_assoc (a ++ u) v (w ++ z) ∙ append_assoc a u (v ++ (w ++ z)))))
+four a b c d e u v w z h1 h2 h3 h4 = grind (arith, common_steps)
 
 -- the four parts of a report
 pub parts : (a b c d e : List ℕ) (client server : Seen) → b ≡ a ++ counts_of side.Client client.settings client.entries → c ≡ b ++ counts_of side.Server server.settings server.entries → d ≡ c ++ told_lines side.Client (told_by client.tells client.entries) → e ≡ d ++ told_lines side.Server (told_by server.tells server.entries) → e ≡ a ++ report_of client server

@@ -1,5 +1,6 @@
 -- What crosses, while both ends go on.
-use Rattle.std.proofs.Common.{◌≡◌, ◌≤◌, ℕ, Bool, is_some, List, [], ◌++◌, length, take, ap, sym, ◌∙◌, append_assoc, append-nil}
+use Rattle.std.proofs.lemmas.Grind.{common_steps}
+use Rattle.std.proofs.Common.{◌≡◌, ◌≤◌, ℕ, Bool, is_some, List, [], ◌++◌, length, take, ap, sym, ◌∙◌, append_assoc, append-nil, arith}
 use Rattle.std.proofs.lemmas.List.{take-append-le}
 use Rattle.rs_wire.specs.declared.settings.Settings.{Settings}
 use Rattle.rs_frame.specs.declared.frame.Frame.{Frame}
@@ -33,19 +34,6 @@ crosses_more g h c d C C' S rest rest' over piece z spelled gave fed x = record 
 
 -- it goes on, and draws nothing
 pub still_given : (g : Settings) (c : ℕ) (C C' : List Entry) → Sends g c C C' → drawn C' c ≡ drawn C c → drawn C c ≤ length (framed_all (due g C c)) → given g C' c ≡ given g C c ++ []
-still_given g c C C' z same fits =
-    ap (λ (n : ℕ). take n (framed_all (due g C' c))) same ∙ (ap (λ (fs : List Frame). take (drawn C c) (framed_all fs)) z.due_is ∙ (ap (λ (l : List ℕ). take (drawn C c) l) (framed_all-append (due g C c) z.more)
-    ∙ (take-append-le (drawn C c) (framed_all (due g C c)) (framed_all z.more) fits ∙ sym (append-nil (given g C c)))))
+still_given g c C C' h1 h2 h3 = grind (arith, common_steps, framed_all-append, take-append-le)
 
 -- ---- the hearer goes on, and nothing comes
-
-pub crosses_quiet : (h : Settings) (d n : ℕ) (frames : List Frame) (S S' : List Entry) (rest : Rest) (over : Bool) → Quiet S S' → CrossedTo h d n frames S rest over → CrossedTo h d n frames S' rest over
-crosses_quiet h d n frames S S' rest over q x =
-    let m = q.same d in
-    record {
-      ahead = x.ahead;
-      opened = opened_still d S S' q.openings_are x.opened;
-      bytes = x.bytes ∙ ap (λ (l : List Frame). framed_all l ++ rest.bytes) (sym m.came_is);
-      bad = x.bad ∙ ap is_some (sym m.bad_is);
-      parts = λ none. let items = x.parts (sym m.bad_is ∙ none) in (items.0, ap (λ (l : List Frame). wholes l ++ items.0) m.came_is ∙ items.1);
-    }

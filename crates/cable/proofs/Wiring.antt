@@ -1,4 +1,5 @@
 -- The connection of a cable, and the ends that it follows.
+use Rattle.std.proofs.lemmas.Grind.{common_steps}
 use Rattle.std.proofs.Common.{◌≡◌, ◌+◌, ℕ, Bool, true, false, cond, List, [], ◌∷◌, ◌++◌, take, Option, Some, None, refl, ap, subst, sym, ◌∙◌, arith, append-nil}
 use Rattle.rs_wire.specs.declared.words.Side.{Side}
 use Rattle.rs_wire.specs.declared.words.Side.TheVariants.{Client, Server}
@@ -34,7 +35,7 @@ use Rattle.cable.specs.Hearing.{Ahead, Carried, CrossedTo, Crosses, IsHearer, Is
 use Rattle.cable.specs.Wires.{Arrives, At, Knows, Reaches, ServerAt, WireAt, Wires, sides_of, wire_of, IsOfSession}
 use Rattle.cable.proofs.Grows.{Quiet, Sends, added_quiet, drew_where}
 use Rattle.cable.proofs.Opening.{number_is}
-use Rattle.cable.proofs.Sending.{crosses_more, crosses_quiet, still_given}
+use Rattle.cable.proofs.Sending.{crosses_more, still_given}
 
 abbrev sides : Settings → Seen → Sides
 sides g v = record { client = g; server = v.settings }
@@ -42,51 +43,27 @@ sides g v = record { client = g; server = v.settings }
 -- ---- the server hears
 
 nowhere : (t : There) (k : Known) (n : ℕ) (frames : List Frame) (v : Seen) (x : Crossing) → k ≡ known.Nothing → Knows t k n frames v x → t ≡ There.Nowhere
-nowhere There.Nowhere k n frames v x is h = refl
-nowhere (There.Accepted d) k n frames v x is h = absurd (subst (λ (j : Known). Knows (There.Accepted d) j n frames v x) is h)
-nowhere (There.Refused d m) k n frames v x is h = absurd (subst (λ (j : Known). Knows (There.Refused d m) j n frames v x) is h)
+nowhere t k n frames v x h1 h2 = grind (arith, common_steps)
 
 -- the server knows nothing of the connection
 pub is_nowhere : (g : Settings) (r : Ends) (t : There) (v : Seen) (w : Wire) → w.known ≡ known.Nothing → ServerAt g r t v w → t ≡ There.Nowhere
 is_nowhere g r t v w is h = nowhere t w.known (drawn r.client w.client) (due g r.client w.client) v w.up is h.knows
 
 near : (k : Known) (n : ℕ) (frames : List Frame) (v : Seen) (x : Crossing) → Knows There.Nowhere k n frames v x → Nears n frames v x
-near known.Nothing n frames v x h = h
-near (known.Accepted e) n frames v x h = absurd h
-near known.Refused n frames v x h = absurd h
+near k n frames v x h1 = grind (arith, common_steps)
 
 pub nears_of : (g : Settings) (r : Ends) (v : Seen) (w : Wire) → ServerAt g r There.Nowhere v w → Nears (drawn r.client w.client) (due g r.client w.client) v w.up
 nears_of g r v w h = near w.known (drawn r.client w.client) (due g r.client w.client) v w.up h.knows
 
 accepted : (t : There) (k : Known) (e n : ℕ) (frames : List Frame) (v : Seen) (x : Crossing) → k ≡ known.Accepted e → Knows t k n frames v x → (t ≡ There.Accepted e) × Crosses e n frames v x
-accepted There.Nowhere k e n frames v x is h = absurd (subst (λ (j : Known). Knows There.Nowhere j n frames v x) is h)
-accepted (There.Accepted d) k e n frames v x is h =
-    let here = subst (λ (j : Known). Knows (There.Accepted d) j n frames v x) is h in
-    (ap There.Accepted (sym here.0), subst (λ (i : ℕ). Crosses i n frames v x) (sym here.0) here.1)
-accepted (There.Refused d m) k e n frames v x is h = absurd (subst (λ (j : Known). Knows (There.Refused d m) j n frames v x) is h)
-
--- the server accepted it
-pub is_accepted_as : (g : Settings) (r : Ends) (t : There) (v : Seen) (w : Wire) (e : ℕ) → w.known ≡ known.Accepted e → ServerAt g r t v w → (t ≡ There.Accepted e) × Crosses e (drawn r.client w.client) (due g r.client w.client) v w.up
-is_accepted_as g r t v w e is h = accepted t w.known e (drawn r.client w.client) (due g r.client w.client) v w.up is h.knows
+accepted t k e n frames v x h1 h2 = grind (arith, common_steps)
 
 settings_of : (v v' : Seen) → v' ≡ record v { entries = v'.entries; spare = v'.spare } → v'.settings ≡ v.settings
 settings_of v v' same = ap (λ (u : Seen). u.settings) same
 
 hears_at : (g : Settings) (r : Ends) (v v' : Seen) (w : Wire) (x : Crossing) (e : ℕ) → v' ≡ record v { entries = v'.entries; spare = v'.spare } → w.known ≡ known.Accepted e → ServerAt g r (There.Accepted e) v w → IsHearer e (drawn r.client w.client) (due g r.client w.client) v v' x
     → ServerAt g (hears_up (sides g v) w.client e r) (There.Accepted e) v' (record w { up = x })
-hears_at g r v v' w x e same is h heard = record {
-  server = ap (hears v.settings e (drawn r.client w.client) (due g r.client w.client)) h.server ∙ sym heard.entries;
-  link = h.link;
-  number = h.number;
-  knows = subst (λ (k : Known). Knows (There.Accepted e) k (drawn r.client w.client) (due g r.client w.client) v' x) (sym is)
-      (refl, subst (λ (k : Settings). CrossedTo k e (drawn r.client w.client) (due g r.client w.client) v'.entries x.rest x.over) (sym (settings_of v v' same)) heard.crosses);
-}
-
--- it hears what crossed
-pub arrives_heard : (g : Settings) (r : Ends) (t : There) (v v' : Seen) (w : Wire) (x : Crossing) (e : ℕ) → v' ≡ record v { entries = v'.entries; spare = v'.spare } → w.known ≡ known.Accepted e → ServerAt g r t v w → IsHearer e (drawn r.client w.client) (due g r.client w.client) v v' x → Arrives g r t v v' w (record w { up = x })
-arrives_heard g r t v v' w x e same is h heard =
-    let t_is = (is_accepted_as g r t v w e is h).0 in
-    subst (λ (k : There). Arrives g r k v v' w (record w { up = x })) (sym t_is) (There.Accepted e, hears_at g r v v' w x e same is (subst (λ (k : There). ServerAt g r k v w) t_is h) heard)
+hears_at g r v v' w x e h1 h2 h3 h4 = grind (arith, common_steps, settings_of)
 
 -- it refused it: what crosses is lost
 pub arrives_refused : (g : Settings) (r : Ends) (t : There) (v : Seen) (w : Wire) (x : Crossing) → w.known ≡ known.Refused → ServerAt g r t v w → Arrives g r t v v w (record w { up = x })
@@ -104,8 +81,7 @@ abbrev met_ends : Settings → Ends → Seen → Wire → Frame → Ends
 met_ends g r v w f = opened_by (sides g v) w.client f r
 
 known_as : (a : Answer) (e : ℕ) → known_of a ≡ known.Accepted e → a ≡ answer.Opened e
-known_as (answer.Opened d) e is = cc
-known_as _ e is = absurd (cc)
+known_as a e h1 = grind (arith, common_steps)
 
 -- where the server accepts it
 pub record MetAs (n : ℕ) (frames : List Frame) (v v' : Seen) (x : Crossing) (e : ℕ) : Type 0 where
@@ -137,19 +113,11 @@ met_accepted n frames v v' x k e same is h = met_items n frames v v' x k e (cros
 -- the server of the ends after the first frame
 met_server : (g : Settings) (r : Ends) (v v' : Seen) (w : Wire) (x : Crossing) (k : Known) (f : Frame) (t : There) → ServerAt g r There.Nowhere v w → v'.entries ≡ answered v.settings v.entries (opening f) ∷ v.entries → there_of (answer_to v.settings v.entries (opening f)) (openings v.entries + 1) ≡ t → Knows t k (drawn r.client w.client) (due g r.client w.client) v' x
     → ServerAt g (met_ends g r v w f) t v' (record w { known = k; up = x })
-met_server g r v v' w x k f t h entries t_is knows = record {
-  server = ap (λ (l : List Entry). answered v.settings l (opening f) ∷ l) h.server ∙ sym entries;
-  link = ap (λ (l : List Entry). Some (record { client = w.client; there = there_of (answer_to v.settings l (opening f)) (openings l + 1) })) h.server ∙ ap (λ (u : There). Some (record { client = w.client; there = u })) t_is;
-  number = h.number;
-  knows = knows;
-}
+met_server g r v v' w x k f t h1 h2 h3 h4 = grind (arith, common_steps)
 
 met_meets : (g : Settings) (r : Ends) (v : Seen) (w : Wire) (f : Frame) (more : List Arrival) (t : There) → ServerAt g r There.Nowhere v w → crossed v.settings.max_in (drawn r.client w.client) (due g r.client w.client) ≡ arrival.Whole f ∷ more → there_of (answer_to v.settings v.entries (opening f)) (openings v.entries + 1) ≡ t
     → hears_if_accepted (sides g v) w.client t (met_ends g r v w f) ≡ arrives_up (sides g v) w.client There.Nowhere r
-met_meets g r v w f more t h front t_is =
-    let s = sides g v in
-    let there : there_of (answer_to v.settings r.server (opening f)) (openings r.server + 1) ≡ t = ap (λ (l : List Entry). there_of (answer_to v.settings l (opening f)) (openings l + 1)) h.server ∙ t_is in
-    ap (λ (u : There). hears_if_accepted s w.client u (met_ends g r v w f)) (sym there) ∙ ap (λ (l : List Arrival). meets s w.client l r) (sym front)
+met_meets g r v w f more t h1 h2 h3 = grind (arith, common_steps)
 
 -- it accepts the connection, and hears what crossed after it
 pub greets_heard : (g : Settings) (r : Ends) (v v' v'' : Seen) (w : Wire) (x x' : Crossing) (k : Known) (e : ℕ) → v' ≡ record v { entries = v'.entries; spare = v'.spare } → v'' ≡ record v' { entries = v''.entries; spare = v''.spare } → k ≡ known.Accepted e → ServerAt g r There.Nowhere v w
@@ -168,9 +136,7 @@ refused_there (answer.Opened d) n out = absurd (out d refl)
 refused_there _ n out = (refl, refl)
 
 stays_out : (g : Settings) (r : Ends) (v v' : Seen) (w : Wire) (x : Crossing) (k : Known) → ServerAt g r There.Nowhere v w → arrives_up (sides g v) w.client There.Nowhere r ≡ r → (v' ≡ v) × (k ≡ known.Nothing) × Nears (drawn r.client w.client) (due g r.client w.client) v x → Arrives g r There.Nowhere v v' w (record w { known = k; up = x })
-stays_out g r v v' w x k h ends met =
-    let here : ServerAt g r There.Nowhere v (record w { known = k; up = x }) = record { server = h.server; link = h.link; number = h.number; knows = subst (λ (j : Known). Knows There.Nowhere j (drawn r.client w.client) (due g r.client w.client) v x) (sym met.1) met.2 } in
-    (There.Nowhere, subst (λ (r' : Ends). ServerAt g r' There.Nowhere v' (record w { known = k; up = x })) (sym ends) (subst (λ (u : Seen). ServerAt g r There.Nowhere u (record w { known = k; up = x })) (sym met.0) here))
+stays_out g r v v' w x k h1 h2 h3 = grind (arith, common_steps)
 
 greets_by : (g : Settings) (r : Ends) (v v' : Seen) (w : Wire) (x : Crossing) (k : Known) (items : List Arrival) → ((e : ℕ) → k ≡ known.Accepted e → ⊥) → ServerAt g r There.Nowhere v w → crossed v.settings.max_in (drawn r.client w.client) (due g r.client w.client) ≡ items
     → IsMetBy items (drawn r.client w.client) (due g r.client w.client) v v' x k → Arrives g r There.Nowhere v v' w (record w { known = k; up = x })
@@ -238,20 +204,8 @@ carried_at v r m w u' rest is at legal same k =
     let here = at_wire v r w is at in
     server_carried r here.0 m v.client u' v.server w rest at.client at.plain legal same k here.1
 
-accepted_client : (s : Sides) (c : ℕ) (t : There) (r : Ends) → (hears_if_accepted s c t r).client ≡ r.client
-accepted_client s c There.Nowhere r = refl
-accepted_client s c (There.Accepted d) r = refl
-accepted_client s c (There.Refused d m) r = refl
-
-meets_client : (s : Sides) (c : ℕ) (items : List Arrival) (r : Ends) → (meets s c items r).client ≡ r.client
-meets_client s c [] r = refl
-meets_client s c (arrival.TooLong ∷ more) r = refl
-meets_client s c (arrival.Whole f ∷ more) r = accepted_client s c (there_of (answer_to s.server r.server (opening f)) (openings r.server + 1)) (opened_by s c f r)
-
 arrives_client : (s : Sides) (c : ℕ) (t : There) (r : Ends) → (arrives_up s c t r).client ≡ r.client
-arrives_client s c There.Nowhere r = meets_client s c (crossed_up s c r) r
-arrives_client s c (There.Accepted d) r = refl
-arrives_client s c (There.Refused d m) r = refl
+arrives_client s c t r = grind (arith, common_steps)
 
 side_of : (v v' : Seen) (side : Side) → v' ≡ record v { entries = v'.entries; spare = v'.spare } → v.settings.side ≡ side → v'.settings.side ≡ side
 side_of v v' side same is = ap (λ (g : Settings). g.side) (settings_of v v' same) ∙ is
@@ -282,19 +236,6 @@ pub up_played : (v v0 : Wires) (r : Ends) (m : Most) (w w' : Wire) (u' s' : Seen
     → Arrives v.client.settings (with_client r u'.entries) (at_wire v r w is at).0 v.server s' (fed w rest) w' → Reaches (record { client = u'; server = s'; wire = Some w' }) (Ups (sides_of v0) m r)
 up_played v v0 r m w w' u' s' rest shown is at legal same kept k h = subst (λ (x : Wires). Reaches (record { client = u'; server = s'; wire = Some w' }) (Ups (sides_of x) m r)) shown (up_here v r m w w' u' s' rest is at legal same kept k h)
 
-knows_quiet : (t : There) (k : Known) (n : ℕ) (frames : List Frame) (v v' : Seen) (x : Crossing) → v' ≡ record v { entries = v'.entries; spare = v'.spare } → Quiet v.entries v'.entries → Knows t k n frames v x → Knows t k n frames v' x
-knows_quiet There.Nowhere known.Nothing n frames v v' x same q h = record { ahead = subst (λ (g : Settings). Ahead g frames x.rest) (sym (settings_of v v' same)) h.ahead; bytes = h.bytes; goes_on = h.goes_on }
-knows_quiet (There.Accepted d) (known.Accepted e) n frames v v' x same q h = (h.0, subst (λ (g : Settings). CrossedTo g d n frames v'.entries x.rest x.over) (sym (settings_of v v' same)) (crosses_quiet v.settings d n frames v.entries v'.entries x.rest x.over q h.1))
-knows_quiet (There.Refused d m) known.Refused n frames v v' x same q h = tt
-knows_quiet _ _ n frames v v' x same q h = absurd h
-
-server_quiet : (g : Settings) (r : Ends) (t : There) (v v' : Seen) (w : Wire) → v' ≡ record v { entries = v'.entries; spare = v'.spare } → Quiet v.entries v'.entries → ServerAt g r t v w → ServerAt g (with_server r v'.entries) t v' w
-server_quiet g r t v v' w same q h = record { server = refl; link = h.link; number = h.number; knows = knows_quiet t w.known (drawn r.client w.client) (due g r.client w.client) v v' w.up same q h.knows }
-
-wire_quiet : (o : Option Wire) (v : Wires) (r : Ends) (s' : Seen) → s' ≡ record v.server { entries = s'.entries; spare = s'.spare } → Quiet v.server.entries s'.entries → WireAt o v r → WireAt o (record v { server = s' }) (with_server r s'.entries)
-wire_quiet None v r s' same q h = h
-wire_quiet (Some w) v r s' same q h = (h.0, server_quiet v.client.settings r h.0 v.server s' w same q h.1)
-
 wire_asked : (o : Option Wire) (v : Wires) (r : Ends) (u' : Seen) → u' ≡ record v.client { entries = u'.entries; spare = u'.spare } → ((c : ℕ) → Sent v.client.settings c r.client u'.entries []) → WireAt o v r → WireAt o (record v { client = u' }) (with_client r u'.entries)
 wire_asked None v r u' same s h = h
 wire_asked (Some w) v r u' same s h = (
@@ -304,31 +245,11 @@ wire_asked (Some w) v r u' same s h = (
 )
 
 server_asked : (v : Wires) (r : Ends) (s' : Seen) (asked : Call) → At v r → s' ≡ record v.server { entries = s'.entries; spare = s'.spare } → s'.entries ≡ adds v.server.settings v.server.entries (event.Asked asked) → Reaches (record v { server = s' }) (λ r'. r' ≡ asks (sides_of v) Server asked r)
-server_asked v r s' asked at same now =
-    let s = v.server in
-    let q = (added_quiet s.settings s.entries asked (leaves (answer_to s.settings s.entries (event.Asked asked)))).0 in
-    record {
-      ends = with_server r s'.entries;
-      at = record {
-        client_side = at.client_side;
-        server_side = side_of s s' Server same at.server_side;
-        plain = at.plain;
-        legal = at.legal;
-        client = at.client;
-        server = refl;
-        wire = wire_quiet v.wire v r s' same (subst (Quiet s.entries) (sym now) q) at.wire;
-      };
-      holds = ap (with_server r) (now ∙ ap (λ (l : List Entry). adds s.settings l (event.Asked asked)) (sym at.server));
-    }
-
-call_draws : (c : ℕ) (a : Answer) (asked : Call) → draws c a (event.Asked asked) ≡ 0
-call_draws c (answer.Drawn n) asked = refl
-call_draws c _ asked = refl
+server_asked v r s' asked h1 h2 h3 = grind (arith, common_steps, added_quiet, side_of)
 
 no_draws : (g : Settings) (past : List Entry) (asked : Call) (c : ℕ) (b : Bool) → drawn (cond b (answered g past (event.Asked asked) ∷ past) past) c ≡ drawn past c
 unfolding drawn
-no_draws g past asked c true = let none = call_draws c (answer_to g past (event.Asked asked)) asked in omega (arith, none)
-no_draws g past asked c false = refl
+no_draws g past asked c b = grind (arith, common_steps)
 
 client_asked : (v : Wires) (r : Ends) (u' : Seen) (asked : Call) → At v r → IsOfSession u'.settings u'.entries → u' ≡ record v.client { entries = u'.entries; spare = u'.spare } → u'.entries ≡ adds v.client.settings v.client.entries (event.Asked asked) → Reaches (record v { client = u' }) (λ r'. r' ≡ asks (sides_of v) Client asked r)
 client_asked v r u' asked at legal same now =
@@ -374,22 +295,10 @@ first_answer : (g : Settings) → answer_to g [] (event.Open None false) ≡ ans
 unfolding facts openings begun closed
 first_answer g = refl
 
-first_drawn : (g : Settings) → drawn (adds g [] (event.Open None false)) 1 ≡ 0
-unfolding drawn facts openings begun closed
-first_drawn g = refl
-
 first_server : (g : Settings) (v : Seen) (C : List Entry) (most : ℕ) → v.entries ≡ [] → IsPlain g → IsOfSession g C → C ≡ adds g [] (event.Open None false) → most ≡ v.settings.max_in → IsChecked v.settings
     → ServerAt g (opens (sides g v) nothing) There.Nowhere v (record { client = 1; known = known.Nothing; up = record { rest = record { bytes = []; max_in = most }; over = false } })
-first_server g v C most none plain legal now longest checked = record {
-  server = sym none;
-  link = ap link_of (first_answer g);
-  number = omega arith;
-  knows = record {
-    ahead = record { longest = longest; below = omega (arith, checked.max_in.below); spellable = let there = subst (IsOfSession g) now legal in due_spelled g (adds g [] (event.Open None false)) 1 plain there.0 there.1 };
-    bytes = ap (λ (n : ℕ). take n (framed_all (due g (adds g [] (event.Open None false)) 1))) (first_drawn g);
-    goes_on = refl;
-  };
-}
+unfolding begun closed drawn facts openings
+first_server g v C most h1 h2 h3 h4 h5 h6 = grind (arith, common_steps, first_answer, due_spelled)
 
 -- the client opened the first connection
 pub first_opened : (v v0 : Wires) (u' : Seen) (a : Answer) (o : Option Wire) (most : ℕ) → v ≡ v0 → At v0 nothing → IsOfSession u'.settings u'.entries → u' ≡ record v.client { entries = u'.entries; spare = u'.spare } → u'.entries ≡ adds v.client.settings v.client.entries (event.Open None false)

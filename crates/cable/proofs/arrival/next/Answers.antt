@@ -6,12 +6,6 @@ use Rattle.std.proofs.Common.{drop, ap, ℕ, List}
 use Rattle.cable.proofs.Results.{only_want, same_found}
 use Rattle.cable.proofs.arrival.next.Goals as goal
 
-pub decode-requires : goal.decode-requires
-decode-requires c =
-    let bytes = c.args.crossing.now.bytes in
-    let len : length c.in-Whole.bytes.now ≡ length (first_frame bytes) = ap (λ (l : List ℕ). length l) c.in-Whole.ensures.front.1 in
-    omega (arith, len, c.requires.longest, c.in-Whole.ensures.front.0.1, length-take (first_length bytes) (drop 3 bytes))
-
 pub returns-in-Ok : goal.returns-in-Ok
 returns-in-Ok c = (c.in-Whole.ensures.front.0, c.in-Ok.ensures.spellable, λ d spells. same_found d c.in-Ok.frame (c.in-Ok.ensures.only d (subst (Spells d) (sym c.in-Whole.ensures.front.1) spells)))
 

@@ -6,7 +6,7 @@ use Rattle.session_model.specs.Frames.{queued}
 use Rattle.session_core.specs.Seen.{Seen}
 use Rattle.cable.specs.Played.{at_most}
 use Rattle.cable.specs.Hearing.{Filled}
-use Rattle.cable.proofs.Drawing.{Drew, carried_all, carried_stale, drew_more, lesser_below, none_drew, same_trans}
+use Rattle.cable.proofs.Drawing.{Drew, carried_stale, drew_more, lesser_below, none_drew, same_trans}
 use Rattle.cable.proofs.Results.{on_ok}
 use Rattle.cable.proofs.carrying.carry.Goals as goal
 
@@ -60,15 +60,3 @@ loop-left-preserved g c =
       drew = subst (Drew end.settings c.args.conn end.entries c.fill.new.end.entries c.args.rest.now c.feed.new.self) sum
           (drew_more end l.end c.fill.new.end c.args.conn c.args.rest.now l.rest c.feed.new.self (total - l.left) count c.fill.new.buffer l.invariant.end d some few fits fill fed);
     }
-
-pub returns-clause-carried : goal.returns-clause-carried
-returns-clause-carried g c =
-    let l = c.loop-left in
-    let end = c.args.end.now in
-    let total = at_most c.args.most (queued end.settings end.entries) in
-    let known = c.live.ensures in
-    let test = c.if-live-conn.false in
-    let some = c.requires.number in
-    let here : is_live (live end.entries) c.args.conn ≡ true = grind (arith, nat_tests) in
-    let all : total - l.left ≡ total = omega (arith, c.loop-left-test.false) in
-    carried_all end l.end c.args.conn c.args.most c.args.rest.now l.rest total here refl (subst (Drew end.settings c.args.conn end.entries l.end.entries c.args.rest.now l.rest) all l.invariant.drew)

@@ -1,14 +1,8 @@
 use Rattle.std.proofs.Common.{rules, ◌≡◌, ◌∙◌, None, sym, ap}
 use Rattle.rs_chunk.specs.Rest.{Rest}
 use Rattle.cable.proofs.Drawing.{same_trans}
-use Rattle.cable.proofs.Heard.{ends_now, goes_now, longest_now, next_is, next_none, none_now, spelled_now, stays_now}
+use Rattle.cable.proofs.Heard.{ends_now, goes_now, next_is, next_none, none_now, spelled_now, stays_now}
 use Rattle.cable.proofs.hearing.hear.Goals as goal
-
-pub next-requires-clause-longest : goal.next-requires-clause-longest
-next-requires-clause-longest g c =
-    let r = c.requires.crossing in
-    let s = c.loop-next.invariant.heard r.n r.frames r.crosses in
-    longest_now c.args.end.now.settings r.frames c.loop-next.crossing.rest s.crosses.ahead
 
 pub next-requires-clause-spelled : goal.next-requires-clause-spelled
 next-requires-clause-spelled g c =

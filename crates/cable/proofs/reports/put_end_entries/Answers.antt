@@ -7,6 +7,3 @@ use Rattle.cable.proofs.reports.put_end_entries.Goals as goal
 
 pub put_entries-requires : goal.put_entries-requires
 put_entries-requires g c = λ entries is. tellable c.args.end.now.settings entries (subst (Fair c.args.end.now.settings) (sym (told_list c.args.end.now.tells c.args.end.now.entries entries (sym c.tape.ensures.told ∙ is))) c.legal.ensures.fair)
-
-pub returns : goal.returns
-returns g c = subst (λ (told : Option (List Entry)). OnOk c.put_entries.result (c.put_entries.new.out.items ≡ c.args.out.now.items ++ told_lines c.args.side told)) c.tape.ensures.told c.put_entries.ensures
