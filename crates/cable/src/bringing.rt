@@ -8,7 +8,6 @@ ghost use Rattle.session_core.specs.Seen.{IsNoDrawEvent};
 ghost use Rattle.cable.specs.Played.{adds};
 ghost use Rattle.cable.specs.Hearing.{IsNoWant};
 
-use rs_frame::Frame;
 use rs_wire::{Call, OutOfMemory};
 use session_core::Session;
 use std::alloc::Global;
@@ -21,10 +20,10 @@ pub(crate) const CALLER: u32 = 0;
 pub(crate) fn wanted(answer: &Answer) -> Result<(), OutOfMemory>
     ensures { OnOk result (IsNoWant answer.now) }
 {
-    match answer {
-        Answer::TapeFull | Answer::OutOfMemory => Err(OutOfMemory),
-        _ => Ok(()),
+    if answer.is_out_of_memory() {
+        return Err(OutOfMemory);
     }
+    Ok(())
 }
 
 /// Brings an event to an end: its answer.
@@ -41,16 +40,6 @@ pub(crate) fn tell<T: Tape>(end: &mut Session<T>, event: &Event) -> Result<Answe
     Ok(answer)
 }
 
-/// The event of an opening, with a first frame on a server.
-pub(crate) fn opening(first: Option<Frame>) -> Event
-    ensures { result ≡ Event.Open first false }
-{
-    Event::Open {
-        first,
-        taken: false,
-    }
-}
-
 /// A client opens a connection: its answer.
 pub(crate) fn connect<T: Tape>(end: &mut Session<T>) -> Result<Answer, OutOfMemory>
     requires { end.old.settings.side ≡ Client }
@@ -60,7 +49,7 @@ pub(crate) fn connect<T: Tape>(end: &mut Session<T>) -> Result<Answer, OutOfMemo
     ensures answer { IfOk result (λ a. a ≡
         answer_to end.old.settings end.old.entries (Event.Open None false)) }
 {
-    tell(end, &opening(None))
+    tell(end, &Event::opening())
 }
 
 fn asked(call: Call) -> Event

@@ -12,7 +12,7 @@ ghost use Rattle.tape.specs.Answers.{leaves};
 ghost use Rattle.cable.specs.Hearing.{Crosses, IsCrossing, IsHearer, IsMet, IsNear, IsNoWant, IsOpenedBy, Nears, known_of};
 
 use crate::arrival::{Arrival, event_of, is_too_long, next, whole};
-use crate::bringing::{opening, tell};
+use crate::bringing::tell;
 use rs_chunk::Reader;
 use rs_frame::Frame;
 use rs_wire::OutOfMemory;
@@ -39,15 +39,6 @@ pub(crate) enum Known {
     Refused,
 }
 
-fn leaves_entry(answer: &Answer) -> bool
-    ensures { result ≡ leaves answer.now }
-{
-    !matches!(
-        answer,
-        Answer::NotYet | Answer::OutBusy(_) | Answer::TapeFull | Answer::OutOfMemory
-    )
-}
-
 // Brings an event to an end: whether its answer leaves an entry.
 fn brings<T: Tape>(end: &mut Session<T>, event: &Event) -> Result<bool, OutOfMemory>
     requires fair { IsFair end.old.settings event.now }
@@ -59,7 +50,7 @@ fn brings<T: Tape>(end: &mut Session<T>, event: &Event) -> Result<bool, OutOfMem
         leaves (answer_to end.old.settings end.old.entries event.now)) }
 {
     let answer = tell(end, event)?;
-    Ok(leaves_entry(&answer))
+    Ok(answer.leaves_entry())
 }
 
 // Brings what stands in front: whether its answer leaves an entry.
@@ -133,7 +124,7 @@ fn open_by<T: Tape>(end: &mut Session<T>, frame: Frame) -> Result<Known, OutOfMe
     ensures end { end.new ≡ record end.old { entries = end.new.entries; spare = end.new.spare } }
     ensures opened { IfOk result (IsOpenedBy frame end.old end.new) }
 {
-    opens(end, &opening(Some(frame)))
+    opens(end, &Event::opened_by(frame))
 }
 
 /// Brings the first frame that crossed, which opens the connection. Where it is longer than the end
