@@ -1,5 +1,5 @@
 -- What was read, where it is all of the input.
-use Rattle.std.proofs.Common.{◌≡◌, ℕ, ◌≤◌, ◌+◌, List, [], ◌++◌, length, Option, Result, Err, IfErr, refl, sym, subst, ◌∙◌, arith, true, false}
+use Rattle.std.proofs.Common.{◌≡◌, ℕ, List, [], ◌++◌, Option, refl, sym, subst, ◌∙◌, arith, true, false}
 use Rattle.rs_frame.specs.declared.frame.Frame.{Frame}
 use Rattle.rs_frame.specs.Framed.{framed_all}
 use Rattle.capture.specs.Captured.{IsBadAt, IsCapture, all_lines}
@@ -9,7 +9,6 @@ use Rattle.capture.specs.declared.back.LineFault.TheVariants as texts
 use Rattle.capture.specs.declared.lines.CaptureFault.{CaptureFault}
 use Rattle.capture.specs.declared.lines.CaptureFault.TheVariants as captures
 use Rattle.command_line.specs.declared.task.Task.TheVariants as tasks
-use Rattle.rsocket_run.specs.declared.stop.Stop.{Stop}
 use Rattle.rsocket_run.specs.Run.{HasBadCapture, HasWrongText, RanBack, RanFrames}
 use Rattle.rsocket_run.specs.Stops.{StoppedBy, of_capture, of_text}
 use Rattle.rsocket_run.specs.Streams.{IsReadTo}
