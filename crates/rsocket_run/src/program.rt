@@ -32,9 +32,9 @@ fn work<I: Source, H: Shelf>(
     ensures stopped { OfTask words.now (I.shown input.old) (λ task text.
         IfErr result (λ stop. StoppedBy task text (I.shown input.new).told stop out.new.items)) }
     ensures usage { result ≡ Err Stop.Usage → AskNothing words.now }
-    ensures no_task { AskNothing words.now  →
+    ensures no_task { AskNothing words.now →
         (result ≡ Err Stop.Usage) ⊎ (result ≡ Err Stop.OutOfMemory) }
-    ensures read { (task : Task) → Asks words.now task  →
+    ensures read { (task : Task) → Asks words.now task →
         HasRead (most_of task) (I.shown input.old).told (I.shown input.new).told }
     ensures unread { AskNothing words.now → I.shown input.new ≡ I.shown input.old }
     ensures faults { (I.shown input.new).faults ≡
@@ -73,14 +73,14 @@ pub fn run<I: Source, O: Sink, H: Shelf>(
     ensures status { IsStatus result }
     ensures usage { result ≡ 2 → AskNothing words.now }
     ensures no_task { AskNothing words.now → (result ≡ 2) ⊎ (result ≡ 6) }
-    ensures complete { OfTask words.now (I.shown input.old) (λ task text. IsRightInput task text  →
-        ¬ (Rose (I.shown input.old).faults (I.shown input.new).faults)  →
-        ¬ (Rose (O.shown output.old).faults (O.shown output.new).faults)  →
+    ensures complete { OfTask words.now (I.shown input.old) (λ task text. IsRightInput task text →
+        ¬ (Rose (I.shown input.old).faults (I.shown input.new).faults) →
+        ¬ (Rose (O.shown output.old).faults (O.shown output.new).faults) →
         (result ≡ 0) ⊎ (result ≡ 6)) }
 
     // What is read, on every status: a prefix of the input, at most one byte more than it may have,
     // and nothing where the words ask for nothing. A failed read is the last one.
-    ensures read { (task : Task) → Asks words.now task  →
+    ensures read { (task : Task) → Asks words.now task →
         HasRead (most_of task) (I.shown input.old).told (I.shown input.new).told }
     ensures unread { AskNothing words.now → I.shown input.new ≡ I.shown input.old }
     ensures failed_reads { FailedReads
