@@ -27,9 +27,13 @@ struct SetupNumbers {
 
 #[tactic(auto, unfolding(crate::specs::Reading::setup_numbers_at))]
 fn setup_numbers(line: Option<&[u8]>) -> Result<(SetupNumbers, Option<&[u8]>), Wrong>
-    ensures told { result_map_both (λ x. option_map (λ y. y.now) x.1) (λ e. e) result ≡ setup_numbers_at (option_map (λ y. y.now) line.entry) }
-    ensures words { IfOk result (λ x. after_word (option_map (λ y. y.now) line.entry) ≡ (32 ∷ decimal x.0.major) ++ ((32 ∷ decimal x.0.minor) ++ ((32 ∷ decimal x.0.keepalive) ++ ((32 ∷ decimal x.0.lifetime) ++ after_word (option_map (λ y. y.now) x.1))))) }
-    ensures fits { IfOk result (λ x. (x.0.major < 2 ^ 16) × (x.0.minor < 2 ^ 16) × IsStream x.0.keepalive × IsStream x.0.lifetime) }
+    ensures told { result_map_both (λ x. option_map (λ y. y.now) x.1) (λ e. e) result ≡
+        setup_numbers_at (option_map (λ y. y.now) line.entry) }
+    ensures words { IfOk result (λ x. after_word (option_map (λ y. y.now) line.entry) ≡ (32 ∷
+        decimal x.0.major) ++ ((32 ∷ decimal x.0.minor) ++ ((32 ∷ decimal x.0.keepalive) ++ ((32 ∷
+        decimal x.0.lifetime) ++ after_word (option_map (λ y. y.now) x.1))))) }
+    ensures fits { IfOk result (λ x. (x.0.major < 2 ^ 16) × (x.0.minor < 2 ^ 16) ×
+        IsStream x.0.keepalive × IsStream x.0.lifetime) }
 {
     let (major, line) = taken::number_16(3, 65_535, line)?;
     let (minor, line) = taken::number_16(4, 65_535, line)?;
@@ -56,10 +60,18 @@ struct SetupNames<'a> {
 
 #[tactic(auto, unfolding(crate::specs::Reading::setup_names_at))]
 fn setup_names(asked: bool, line: Option<&[u8]>) -> Result<(SetupNames<'_>, Option<&[u8]>), Wrong>
-    ensures told { result_map_both (λ x. option_map (λ y. y.now) x.1) (λ e. e) result ≡ setup_names_at asked (option_map (λ y. y.now) line.entry) }
-    ensures words { IfOk result (λ x. after_word (option_map (λ y. y.now) line.entry) ≡ (32 ∷ option_word (option_of x.0.token.now)) ++ ((32 ∷ blob_word (bytes_of x.0.metadata_mime.now)) ++ ((32 ∷ blob_word (bytes_of x.0.content_mime.now)) ++ after_word (option_map (λ y. y.now) x.1)))) }
-    ensures token { IfOk result (λ x. IsOption x.0.token.now × IfSome (option_of x.0.token.now) (λ bytes. length bytes < 2 ^ 16) × (is_some (option_of x.0.token.now) ≡ asked)) }
-    ensures names { IfOk result (λ x. IsTrue (is_blob x.0.metadata_mime.now) × (length (bytes_of x.0.metadata_mime.now) < 2 ^ 8) × IsTrue (is_blob x.0.content_mime.now) × (length (bytes_of x.0.content_mime.now) < 2 ^ 8)) }
+    ensures told { result_map_both (λ x. option_map (λ y. y.now) x.1) (λ e. e) result ≡
+        setup_names_at asked (option_map (λ y. y.now) line.entry) }
+    ensures words { IfOk result (λ x. after_word (option_map (λ y. y.now) line.entry) ≡ (32 ∷
+        option_word (option_of x.0.token.now)) ++ ((32 ∷
+        blob_word (bytes_of x.0.metadata_mime.now)) ++ ((32 ∷
+        blob_word (bytes_of x.0.content_mime.now)) ++ after_word (option_map (λ y. y.now) x.1)))) }
+    ensures token { IfOk result (λ x. IsOption x.0.token.now ×
+        IfSome (option_of x.0.token.now) (λ bytes. length bytes < 2 ^ 16) ×
+        (is_some (option_of x.0.token.now) ≡ asked)) }
+    ensures names { IfOk result (λ x. IsTrue (is_blob x.0.metadata_mime.now) ×
+        (length (bytes_of x.0.metadata_mime.now) < 2 ^ 8) ×
+        IsTrue (is_blob x.0.content_mime.now) × (length (bytes_of x.0.content_mime.now) < 2 ^ 8)) }
 {
     let (token, line) = taken::token(7, asked, line)?;
     let (metadata_mime, line) = taken::short(8, 255, line)?;
@@ -76,8 +88,10 @@ fn setup_names(asked: bool, line: Option<&[u8]>) -> Result<(SetupNames<'_>, Opti
 
 /// The fields of a SETUP line.
 pub fn setup(line: Option<&[u8]>) -> Result<Fields<'_>, Wrong>
-    ensures told { result_map_both (λ w. tt) (λ e. e) result ≡ setup_row (option_map (λ y. y.now) line.entry) }
-    ensures line { IfOk result (λ w. codes "SETUP" ++ after_word (option_map (λ y. y.now) line.entry) ≡ line_of (frame_of w)) }
+    ensures told { result_map_both (λ w. tt) (λ e. e) result ≡
+        setup_row (option_map (λ y. y.now) line.entry) }
+    ensures line { IfOk result (λ w. codes "SETUP" ++
+        after_word (option_map (λ y. y.now) line.entry) ≡ line_of (frame_of w)) }
     ensures fits { IfOk result (λ w. FieldsFit (frame_of w) × AreBlobs w) }
 {
     let line = taken::no_stream(line)?;
@@ -107,8 +121,10 @@ pub fn setup(line: Option<&[u8]>) -> Result<Fields<'_>, Wrong>
 
 /// The fields of a LEASE line.
 pub fn lease(line: Option<&[u8]>) -> Result<Fields<'_>, Wrong>
-    ensures told { result_map_both (λ w. tt) (λ e. e) result ≡ lease_row (option_map (λ y. y.now) line.entry) }
-    ensures line { IfOk result (λ w. codes "LEASE" ++ after_word (option_map (λ y. y.now) line.entry) ≡ line_of (frame_of w)) }
+    ensures told { result_map_both (λ w. tt) (λ e. e) result ≡
+        lease_row (option_map (λ y. y.now) line.entry) }
+    ensures line { IfOk result (λ w. codes "LEASE" ++
+        after_word (option_map (λ y. y.now) line.entry) ≡ line_of (frame_of w)) }
     ensures fits { IfOk result (λ w. FieldsFit (frame_of w) × AreBlobs w) }
 {
     let line = taken::no_stream(line)?;
@@ -125,8 +141,10 @@ pub fn lease(line: Option<&[u8]>) -> Result<Fields<'_>, Wrong>
 
 /// The fields of a KEEPALIVE line.
 pub fn keepalive(line: Option<&[u8]>) -> Result<Fields<'_>, Wrong>
-    ensures told { result_map_both (λ w. tt) (λ e. e) result ≡ keepalive_row (option_map (λ y. y.now) line.entry) }
-    ensures line { IfOk result (λ w. codes "KEEPALIVE" ++ after_word (option_map (λ y. y.now) line.entry) ≡ line_of (frame_of w)) }
+    ensures told { result_map_both (λ w. tt) (λ e. e) result ≡
+        keepalive_row (option_map (λ y. y.now) line.entry) }
+    ensures line { IfOk result (λ w. codes "KEEPALIVE" ++
+        after_word (option_map (λ y. y.now) line.entry) ≡ line_of (frame_of w)) }
     ensures fits { IfOk result (λ w. FieldsFit (frame_of w) × AreBlobs w) }
 {
     let line = taken::no_stream(line)?;
@@ -143,8 +161,10 @@ pub fn keepalive(line: Option<&[u8]>) -> Result<Fields<'_>, Wrong>
 
 /// The fields of a METADATA_PUSH line.
 pub fn metadata_push(line: Option<&[u8]>) -> Result<Fields<'_>, Wrong>
-    ensures told { result_map_both (λ w. tt) (λ e. e) result ≡ metadata_push_row (option_map (λ y. y.now) line.entry) }
-    ensures line { IfOk result (λ w. codes "METADATA_PUSH" ++ after_word (option_map (λ y. y.now) line.entry) ≡ line_of (frame_of w)) }
+    ensures told { result_map_both (λ w. tt) (λ e. e) result ≡
+        metadata_push_row (option_map (λ y. y.now) line.entry) }
+    ensures line { IfOk result (λ w. codes "METADATA_PUSH" ++
+        after_word (option_map (λ y. y.now) line.entry) ≡ line_of (frame_of w)) }
     ensures fits { IfOk result (λ w. FieldsFit (frame_of w) × AreBlobs w) }
 {
     let line = taken::no_stream(line)?;
@@ -155,8 +175,10 @@ pub fn metadata_push(line: Option<&[u8]>) -> Result<Fields<'_>, Wrong>
 
 /// The fields of a RESUME line.
 pub fn resume(line: Option<&[u8]>) -> Result<Fields<'_>, Wrong>
-    ensures told { result_map_both (λ w. tt) (λ e. e) result ≡ resume_row (option_map (λ y. y.now) line.entry) }
-    ensures line { IfOk result (λ w. codes "RESUME" ++ after_word (option_map (λ y. y.now) line.entry) ≡ line_of (frame_of w)) }
+    ensures told { result_map_both (λ w. tt) (λ e. e) result ≡
+        resume_row (option_map (λ y. y.now) line.entry) }
+    ensures line { IfOk result (λ w. codes "RESUME" ++
+        after_word (option_map (λ y. y.now) line.entry) ≡ line_of (frame_of w)) }
     ensures fits { IfOk result (λ w. FieldsFit (frame_of w) × AreBlobs w) }
 {
     let line = taken::no_stream(line)?;
@@ -177,8 +199,10 @@ pub fn resume(line: Option<&[u8]>) -> Result<Fields<'_>, Wrong>
 
 /// The fields of a RESUME_OK line.
 pub fn resume_ok(line: Option<&[u8]>) -> Result<Fields<'_>, Wrong>
-    ensures told { result_map_both (λ w. tt) (λ e. e) result ≡ resume_ok_row (option_map (λ y. y.now) line.entry) }
-    ensures line { IfOk result (λ w. codes "RESUME_OK" ++ after_word (option_map (λ y. y.now) line.entry) ≡ line_of (frame_of w)) }
+    ensures told { result_map_both (λ w. tt) (λ e. e) result ≡
+        resume_ok_row (option_map (λ y. y.now) line.entry) }
+    ensures line { IfOk result (λ w. codes "RESUME_OK" ++
+        after_word (option_map (λ y. y.now) line.entry) ≡ line_of (frame_of w)) }
     ensures fits { IfOk result (λ w. FieldsFit (frame_of w) × AreBlobs w) }
 {
     let line = taken::no_stream(line)?;

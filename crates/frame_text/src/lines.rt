@@ -14,21 +14,25 @@ use rs_frame::{Frame, Request, Resume, Setup};
 use rs_wire::{Blob, Message, OutOfMemory};
 
 fn write_message(out: &mut Vec<u8>, message: &Message) -> Result<(), OutOfMemory>
-    ensures { OnOk result (out.new.items ≡ out.old.items ++ spaced (option_word message.now.metadata ∷ blob_word message.now.content ∷ [])) }
+    ensures { OnOk result (out.new.items ≡ out.old.items ++
+        spaced (option_word message.now.metadata ∷ blob_word message.now.content ∷ [])) }
 {
     write_option(out, &message.metadata)?;
     write_blob(out, &message.content)
 }
 
 fn write_numbers(out: &mut Vec<u8>, first: u64, second: u64) -> Result<(), OutOfMemory>
-    ensures { OnOk result (out.new.items ≡ out.old.items ++ spaced (decimal first ∷ decimal second ∷ [])) }
+    ensures { OnOk result (out.new.items ≡ out.old.items ++ spaced (decimal first ∷
+        decimal second ∷ [])) }
 {
     write_number_word(out, first)?;
     write_number_word(out, second)
 }
 
 fn write_setup_numbers(out: &mut Vec<u8>, fields: &Setup) -> Result<(), OutOfMemory>
-    ensures { OnOk result (out.new.items ≡ out.old.items ++ spaced (codes "0" ∷ setup_flags fields.now ∷ decimal fields.now.major ∷ decimal fields.now.minor ∷ decimal fields.now.keepalive ∷ decimal fields.now.lifetime ∷ [])) }
+    ensures { OnOk result (out.new.items ≡ out.old.items ++ spaced (codes "0" ∷
+        setup_flags fields.now ∷ decimal fields.now.major ∷ decimal fields.now.minor ∷
+        decimal fields.now.keepalive ∷ decimal fields.now.lifetime ∷ [])) }
 {
     write_word(out, "0")?;
     write_word(out, resume_lease(fields.resume.is_some(), fields.lease))?;
@@ -41,7 +45,9 @@ fn write_setup_numbers(out: &mut Vec<u8>, fields: &Setup) -> Result<(), OutOfMem
 }
 
 fn write_setup_names(out: &mut Vec<u8>, fields: &Setup) -> Result<(), OutOfMemory>
-    ensures { OnOk result (out.new.items ≡ out.old.items ++ spaced (option_word fields.now.resume ∷ blob_word fields.now.metadata_mime ∷ blob_word fields.now.content_mime ∷ [])) }
+    ensures { OnOk result (out.new.items ≡ out.old.items ++
+        spaced (option_word fields.now.resume ∷ blob_word fields.now.metadata_mime ∷
+        blob_word fields.now.content_mime ∷ [])) }
 {
     write_option(out, &fields.resume)?;
     write_blob(out, &fields.metadata_mime)?;
@@ -49,7 +55,8 @@ fn write_setup_names(out: &mut Vec<u8>, fields: &Setup) -> Result<(), OutOfMemor
 }
 
 fn write_setup(out: &mut Vec<u8>, fields: &Setup) -> Result<(), OutOfMemory>
-    ensures { OnOk result (out.new.items ≡ out.old.items ++ spaced (fields_of (Frame.Setup fields.now))) }
+    ensures { OnOk result (out.new.items ≡ out.old.items ++
+        spaced (fields_of (Frame.Setup fields.now))) }
 {
     write_setup_numbers(out, fields)?;
     write_setup_names(out, fields)?;
@@ -62,7 +69,8 @@ fn write_lease(
     count: u32,
     metadata: &Option<Blob>,
 ) -> Result<(), OutOfMemory>
-    ensures { OnOk result (out.new.items ≡ out.old.items ++ spaced (fields_of (Frame.Lease ttl count metadata.now))) }
+    ensures { OnOk result (out.new.items ≡ out.old.items ++
+        spaced (fields_of (Frame.Lease ttl count metadata.now))) }
 {
     write_word(out, "0")?;
     write_numbers(out, u64::from(ttl), u64::from(count))?;
@@ -75,7 +83,8 @@ fn write_keepalive(
     position: u64,
     content: &Blob,
 ) -> Result<(), OutOfMemory>
-    ensures { OnOk result (out.new.items ≡ out.old.items ++ spaced (fields_of (Frame.Keepalive is_wanted position content.now))) }
+    ensures { OnOk result (out.new.items ≡ out.old.items ++
+        spaced (fields_of (Frame.Keepalive is_wanted position content.now))) }
 {
     write_word(out, "0")?;
     write_word(out, respond(is_wanted))?;
@@ -84,14 +93,16 @@ fn write_keepalive(
 }
 
 fn write_push(out: &mut Vec<u8>, metadata: &Blob) -> Result<(), OutOfMemory>
-    ensures { OnOk result (out.new.items ≡ out.old.items ++ spaced (fields_of (Frame.MetadataPush metadata.now))) }
+    ensures { OnOk result (out.new.items ≡ out.old.items ++
+        spaced (fields_of (Frame.MetadataPush metadata.now))) }
 {
     write_word(out, "0")?;
     write_blob(out, metadata)
 }
 
 fn write_initial(out: &mut Vec<u8>, fields: &Request) -> Result<(), OutOfMemory>
-    ensures { OnOk result (out.new.items ≡ out.old.items ++ spaced (number_words fields.now.initial)) }
+    ensures { OnOk result (out.new.items ≡ out.old.items ++
+        spaced (number_words fields.now.initial)) }
 {
     match fields.initial {
         None => Ok(()),
@@ -100,7 +111,8 @@ fn write_initial(out: &mut Vec<u8>, fields: &Request) -> Result<(), OutOfMemory>
 }
 
 fn write_request(out: &mut Vec<u8>, fields: &Request) -> Result<(), OutOfMemory>
-    ensures { OnOk result (out.new.items ≡ out.old.items ++ spaced (fields_of (Frame.Request fields.now))) }
+    ensures { OnOk result (out.new.items ≡ out.old.items ++
+        spaced (fields_of (Frame.Request fields.now))) }
 {
     write_number_word(out, u64::from(fields.stream))?;
     write_word(out, follows_complete(fields.follows, fields.complete))?;
@@ -114,7 +126,8 @@ fn write_payload(
     letters: &str,
     message: &Message,
 ) -> Result<(), OutOfMemory>
-    ensures { OnOk result (out.new.items ≡ out.old.items ++ spaced (decimal stream ∷ letters.now ∷ option_word message.now.metadata ∷ blob_word message.now.content ∷ [])) }
+    ensures { OnOk result (out.new.items ≡ out.old.items ++ spaced (decimal stream ∷ letters.now ∷
+        option_word message.now.metadata ∷ blob_word message.now.content ∷ [])) }
 {
     write_number_word(out, u64::from(stream))?;
     write_word(out, letters)?;
@@ -122,14 +135,16 @@ fn write_payload(
 }
 
 fn write_error(out: &mut Vec<u8>, stream: u32, code: u32, content: &Blob) -> Result<(), OutOfMemory>
-    ensures { OnOk result (out.new.items ≡ out.old.items ++ spaced (fields_of (Frame.Error stream code content.now))) }
+    ensures { OnOk result (out.new.items ≡ out.old.items ++
+        spaced (fields_of (Frame.Error stream code content.now))) }
 {
     write_numbers(out, u64::from(stream), u64::from(code))?;
     write_blob(out, content)
 }
 
 fn write_resume(out: &mut Vec<u8>, fields: &Resume) -> Result<(), OutOfMemory>
-    ensures { OnOk result (out.new.items ≡ out.old.items ++ spaced (fields_of (Frame.Resume fields.now))) }
+    ensures { OnOk result (out.new.items ≡ out.old.items ++
+        spaced (fields_of (Frame.Resume fields.now))) }
 {
     write_word(out, "0")?;
     write_numbers(out, u64::from(fields.major), u64::from(fields.minor))?;
@@ -138,7 +153,8 @@ fn write_resume(out: &mut Vec<u8>, fields: &Resume) -> Result<(), OutOfMemory>
 }
 
 fn write_resume_ok(out: &mut Vec<u8>, position: u64) -> Result<(), OutOfMemory>
-    ensures { OnOk result (out.new.items ≡ out.old.items ++ spaced (fields_of (Frame.ResumeOk position))) }
+    ensures { OnOk result (out.new.items ≡ out.old.items ++
+        spaced (fields_of (Frame.ResumeOk position))) }
 {
     write_word(out, "0")?;
     write_number_word(out, position)
@@ -151,7 +167,8 @@ fn write_kept(
     third: u64,
     rest: &Blob,
 ) -> Result<(), OutOfMemory>
-    ensures { OnOk result (out.new.items ≡ out.old.items ++ spaced (decimal stream ∷ decimal second ∷ decimal third ∷ blob_word rest.now ∷ [])) }
+    ensures { OnOk result (out.new.items ≡ out.old.items ++ spaced (decimal stream ∷
+        decimal second ∷ decimal third ∷ blob_word rest.now ∷ [])) }
 {
     write_number_word(out, u64::from(stream))?;
     write_numbers(out, second, third)?;

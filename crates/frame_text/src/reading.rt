@@ -22,8 +22,10 @@ use std::alloc::Global;
 // The fields of a line with this name in front.
 #[tactic(auto, unfolding(crate::specs::Reading::other_row))]
 fn other_fields<'a>(name: &[u8], line: Option<&'a [u8]>) -> Result<Fields<'a>, Wrong>
-    ensures told { result_map_both (λ w. tt) (λ e. e) result ≡ other_row name.now (option_map (λ y. y.now) line.entry) }
-    ensures line { IfOk result (λ w. name.now ++ after_word (option_map (λ y. y.now) line.entry) ≡ line_of (frame_of w)) }
+    ensures told { result_map_both (λ w. tt) (λ e. e) result ≡
+        other_row name.now (option_map (λ y. y.now) line.entry) }
+    ensures line { IfOk result (λ w. name.now ++ after_word (option_map (λ y. y.now) line.entry) ≡
+        line_of (frame_of w)) }
     ensures fits { IfOk result (λ w. FieldsFit (frame_of w) × AreBlobs w) }
 {
     if is(name, "REQUEST_N") {
@@ -59,8 +61,10 @@ fn other_fields<'a>(name: &[u8], line: Option<&'a [u8]>) -> Result<Fields<'a>, W
 // The fields of a line with this name in front.
 #[tactic(auto, unfolding(crate::specs::Reading::named_row))]
 fn fields_of<'a>(name: &[u8], line: Option<&'a [u8]>) -> Result<Fields<'a>, Wrong>
-    ensures told { result_map_both (λ w. tt) (λ e. e) result ≡ named_row name.now (option_map (λ y. y.now) line.entry) }
-    ensures line { IfOk result (λ w. name.now ++ after_word (option_map (λ y. y.now) line.entry) ≡ line_of (frame_of w)) }
+    ensures told { result_map_both (λ w. tt) (λ e. e) result ≡
+        named_row name.now (option_map (λ y. y.now) line.entry) }
+    ensures line { IfOk result (λ w. name.now ++ after_word (option_map (λ y. y.now) line.entry) ≡
+        line_of (frame_of w)) }
     ensures fits { IfOk result (λ w. FieldsFit (frame_of w) × AreBlobs w) }
 {
     if is(name, "SETUP") {

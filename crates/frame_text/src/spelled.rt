@@ -99,7 +99,8 @@ pub fn respond(word: &[u8]) -> Option<bool>
 /// The flag F.
 pub fn follows(word: &[u8]) -> Option<bool>
     ensures value { result ≡ meaning_in follows_words word.now }
-    ensures spelled { IfSome result (λ f. word.now ≡ letters_word (letter_if f (codes "F") ++ letter_if false (codes "C"))) }
+    ensures spelled { IfSome result (λ f. word.now ≡ letters_word (letter_if f (codes "F") ++
+        letter_if false (codes "C"))) }
 {
     if is(word, "-") {
         return Some(false);
@@ -113,7 +114,8 @@ pub fn follows(word: &[u8]) -> Option<bool>
 /// The flags R and L.
 pub fn resume_lease(word: &[u8]) -> Option<(bool, bool)>
     ensures value { result ≡ meaning_in setup_words word.now }
-    ensures spelled { IfSome result (λ f. word.now ≡ letters_word (letter_if f.0 (codes "R") ++ letter_if f.1 (codes "L"))) }
+    ensures spelled { IfSome result (λ f. word.now ≡ letters_word (letter_if f.0 (codes "R") ++
+        letter_if f.1 (codes "L"))) }
 {
     if is(word, "-") {
         return Some((false, false));
@@ -133,7 +135,8 @@ pub fn resume_lease(word: &[u8]) -> Option<(bool, bool)>
 /// The flags F and C.
 pub fn follows_complete(word: &[u8]) -> Option<(bool, bool)>
     ensures value { result ≡ meaning_in channel_words word.now }
-    ensures spelled { IfSome result (λ f. word.now ≡ letters_word (letter_if f.0 (codes "F") ++ letter_if f.1 (codes "C"))) }
+    ensures spelled { IfSome result (λ f. word.now ≡ letters_word (letter_if f.0 (codes "F") ++
+        letter_if f.1 (codes "C"))) }
 {
     if is(word, "-") {
         return Some((false, false));
@@ -153,7 +156,8 @@ pub fn follows_complete(word: &[u8]) -> Option<(bool, bool)>
 /// The flags F, C and N.
 pub fn follows_complete_next(word: &[u8]) -> Option<(bool, bool, bool)>
     ensures value { result ≡ meaning_in payload_words word.now }
-    ensures spelled { IfSome result (λ f. word.now ≡ letters_word (letter_if f.0 (codes "F") ++ (letter_if f.1 (codes "C") ++ letter_if f.2 (codes "N")))) }
+    ensures spelled { IfSome result (λ f. word.now ≡ letters_word (letter_if f.0 (codes "F") ++
+        (letter_if f.1 (codes "C") ++ letter_if f.2 (codes "N")))) }
 {
     if is(word, "-") {
         return Some((false, false, false));

@@ -19,8 +19,11 @@ use rs_wire::{Amount, Kind};
 #[tactic(auto, unfolding(crate::specs::Reading::message_at))]
 pub fn message(place: u32, line: Option<&[u8]>) -> Result<(MessageWords<'_>, Option<&[u8]>), Wrong>
     requires { place < 100 }
-    ensures told { result_map_both (λ x. option_map (λ y. y.now) x.1) (λ e. e) result ≡ message_at place (option_map (λ y. y.now) line.entry) }
-    ensures words { IfOk result (λ x. after_word (option_map (λ y. y.now) line.entry) ≡ (32 ∷ option_word (option_of x.0.metadata.now)) ++ ((32 ∷ blob_word (bytes_of x.0.content.now)) ++ after_word (option_map (λ y. y.now) x.1))) }
+    ensures told { result_map_both (λ x. option_map (λ y. y.now) x.1) (λ e. e) result ≡
+        message_at place (option_map (λ y. y.now) line.entry) }
+    ensures words { IfOk result (λ x. after_word (option_map (λ y. y.now) line.entry) ≡ (32 ∷
+        option_word (option_of x.0.metadata.now)) ++ ((32 ∷
+        blob_word (bytes_of x.0.content.now)) ++ after_word (option_map (λ y. y.now) x.1))) }
     ensures fits { IfOk result (λ x. MessageFits (message_from x.0) × IsMessage x.0) }
 {
     let (metadata, line) = taken::short_option(place, 16_777_215, line)?;
@@ -30,8 +33,10 @@ pub fn message(place: u32, line: Option<&[u8]>) -> Result<(MessageWords<'_>, Opt
 
 /// The fields of a REQUEST_N line.
 pub fn request_n(line: Option<&[u8]>) -> Result<Fields<'_>, Wrong>
-    ensures told { result_map_both (λ w. tt) (λ e. e) result ≡ request_n_row (option_map (λ y. y.now) line.entry) }
-    ensures line { IfOk result (λ w. codes "REQUEST_N" ++ after_word (option_map (λ y. y.now) line.entry) ≡ line_of (frame_of w)) }
+    ensures told { result_map_both (λ w. tt) (λ e. e) result ≡
+        request_n_row (option_map (λ y. y.now) line.entry) }
+    ensures line { IfOk result (λ w. codes "REQUEST_N" ++
+        after_word (option_map (λ y. y.now) line.entry) ≡ line_of (frame_of w)) }
     ensures fits { IfOk result (λ w. FieldsFit (frame_of w) × AreBlobs w) }
 {
     let (stream, line) = taken::number_32(1, 1, 2_147_483_647, line)?;
@@ -45,8 +50,10 @@ pub fn request_n(line: Option<&[u8]>) -> Result<Fields<'_>, Wrong>
 
 /// The fields of a CANCEL line.
 pub fn cancel(line: Option<&[u8]>) -> Result<Fields<'_>, Wrong>
-    ensures told { result_map_both (λ w. tt) (λ e. e) result ≡ cancel_row (option_map (λ y. y.now) line.entry) }
-    ensures line { IfOk result (λ w. codes "CANCEL" ++ after_word (option_map (λ y. y.now) line.entry) ≡ line_of (frame_of w)) }
+    ensures told { result_map_both (λ w. tt) (λ e. e) result ≡
+        cancel_row (option_map (λ y. y.now) line.entry) }
+    ensures line { IfOk result (λ w. codes "CANCEL" ++
+        after_word (option_map (λ y. y.now) line.entry) ≡ line_of (frame_of w)) }
     ensures fits { IfOk result (λ w. FieldsFit (frame_of w) × AreBlobs w) }
 {
     let (stream, line) = taken::number_32(1, 1, 2_147_483_647, line)?;
@@ -56,8 +63,10 @@ pub fn cancel(line: Option<&[u8]>) -> Result<Fields<'_>, Wrong>
 
 /// The fields of an ERROR line.
 pub fn error(line: Option<&[u8]>) -> Result<Fields<'_>, Wrong>
-    ensures told { result_map_both (λ w. tt) (λ e. e) result ≡ error_row (option_map (λ y. y.now) line.entry) }
-    ensures line { IfOk result (λ w. codes "ERROR" ++ after_word (option_map (λ y. y.now) line.entry) ≡ line_of (frame_of w)) }
+    ensures told { result_map_both (λ w. tt) (λ e. e) result ≡
+        error_row (option_map (λ y. y.now) line.entry) }
+    ensures line { IfOk result (λ w. codes "ERROR" ++
+        after_word (option_map (λ y. y.now) line.entry) ≡ line_of (frame_of w)) }
     ensures fits { IfOk result (λ w. FieldsFit (frame_of w) × AreBlobs w) }
 {
     let (stream, line) = taken::number_32(1, 0, 2_147_483_647, line)?;
@@ -73,8 +82,10 @@ pub fn error(line: Option<&[u8]>) -> Result<Fields<'_>, Wrong>
 
 /// The fields of a PAYLOAD line.
 pub fn payload(line: Option<&[u8]>) -> Result<Fields<'_>, Wrong>
-    ensures told { result_map_both (λ w. tt) (λ e. e) result ≡ payload_row (option_map (λ y. y.now) line.entry) }
-    ensures line { IfOk result (λ w. codes "PAYLOAD" ++ after_word (option_map (λ y. y.now) line.entry) ≡ line_of (frame_of w)) }
+    ensures told { result_map_both (λ w. tt) (λ e. e) result ≡
+        payload_row (option_map (λ y. y.now) line.entry) }
+    ensures line { IfOk result (λ w. codes "PAYLOAD" ++
+        after_word (option_map (λ y. y.now) line.entry) ≡ line_of (frame_of w)) }
     ensures fits { IfOk result (λ w. FieldsFit (frame_of w) × AreBlobs w) }
 {
     let (stream, line) = taken::number_32(1, 1, 2_147_483_647, line)?;
@@ -92,8 +103,10 @@ pub fn payload(line: Option<&[u8]>) -> Result<Fields<'_>, Wrong>
 
 /// The fields of a REQUEST_RESPONSE line.
 pub fn response(line: Option<&[u8]>) -> Result<Fields<'_>, Wrong>
-    ensures told { result_map_both (λ w. tt) (λ e. e) result ≡ plain_row (option_map (λ y. y.now) line.entry) }
-    ensures line { IfOk result (λ w. codes "REQUEST_RESPONSE" ++ after_word (option_map (λ y. y.now) line.entry) ≡ line_of (frame_of w)) }
+    ensures told { result_map_both (λ w. tt) (λ e. e) result ≡
+        plain_row (option_map (λ y. y.now) line.entry) }
+    ensures line { IfOk result (λ w. codes "REQUEST_RESPONSE" ++
+        after_word (option_map (λ y. y.now) line.entry) ≡ line_of (frame_of w)) }
     ensures fits { IfOk result (λ w. FieldsFit (frame_of w) × AreBlobs w) }
 {
     let (stream, line) = taken::number_32(1, 1, 2_147_483_647, line)?;
@@ -112,8 +125,10 @@ pub fn response(line: Option<&[u8]>) -> Result<Fields<'_>, Wrong>
 
 /// The fields of a REQUEST_FNF line.
 pub fn fnf(line: Option<&[u8]>) -> Result<Fields<'_>, Wrong>
-    ensures told { result_map_both (λ w. tt) (λ e. e) result ≡ plain_row (option_map (λ y. y.now) line.entry) }
-    ensures line { IfOk result (λ w. codes "REQUEST_FNF" ++ after_word (option_map (λ y. y.now) line.entry) ≡ line_of (frame_of w)) }
+    ensures told { result_map_both (λ w. tt) (λ e. e) result ≡
+        plain_row (option_map (λ y. y.now) line.entry) }
+    ensures line { IfOk result (λ w. codes "REQUEST_FNF" ++
+        after_word (option_map (λ y. y.now) line.entry) ≡ line_of (frame_of w)) }
     ensures fits { IfOk result (λ w. FieldsFit (frame_of w) × AreBlobs w) }
 {
     let (stream, line) = taken::number_32(1, 1, 2_147_483_647, line)?;
@@ -132,8 +147,10 @@ pub fn fnf(line: Option<&[u8]>) -> Result<Fields<'_>, Wrong>
 
 /// The fields of a REQUEST_STREAM line.
 pub fn stream(line: Option<&[u8]>) -> Result<Fields<'_>, Wrong>
-    ensures told { result_map_both (λ w. tt) (λ e. e) result ≡ counted_row follows_words (option_map (λ y. y.now) line.entry) }
-    ensures line { IfOk result (λ w. codes "REQUEST_STREAM" ++ after_word (option_map (λ y. y.now) line.entry) ≡ line_of (frame_of w)) }
+    ensures told { result_map_both (λ w. tt) (λ e. e) result ≡
+        counted_row follows_words (option_map (λ y. y.now) line.entry) }
+    ensures line { IfOk result (λ w. codes "REQUEST_STREAM" ++
+        after_word (option_map (λ y. y.now) line.entry) ≡ line_of (frame_of w)) }
     ensures fits { IfOk result (λ w. FieldsFit (frame_of w) × AreBlobs w) }
 {
     let (stream, line) = taken::number_32(1, 1, 2_147_483_647, line)?;
@@ -156,8 +173,10 @@ pub fn stream(line: Option<&[u8]>) -> Result<Fields<'_>, Wrong>
 
 /// The fields of a REQUEST_CHANNEL line.
 pub fn channel(line: Option<&[u8]>) -> Result<Fields<'_>, Wrong>
-    ensures told { result_map_both (λ w. tt) (λ e. e) result ≡ counted_row channel_words (option_map (λ y. y.now) line.entry) }
-    ensures line { IfOk result (λ w. codes "REQUEST_CHANNEL" ++ after_word (option_map (λ y. y.now) line.entry) ≡ line_of (frame_of w)) }
+    ensures told { result_map_both (λ w. tt) (λ e. e) result ≡
+        counted_row channel_words (option_map (λ y. y.now) line.entry) }
+    ensures line { IfOk result (λ w. codes "REQUEST_CHANNEL" ++
+        after_word (option_map (λ y. y.now) line.entry) ≡ line_of (frame_of w)) }
     ensures fits { IfOk result (λ w. FieldsFit (frame_of w) × AreBlobs w) }
 {
     let (stream, line) = taken::number_32(1, 1, 2_147_483_647, line)?;
@@ -180,8 +199,10 @@ pub fn channel(line: Option<&[u8]>) -> Result<Fields<'_>, Wrong>
 
 /// The fields of an EXT line.
 pub fn ext(line: Option<&[u8]>) -> Result<Fields<'_>, Wrong>
-    ensures told { result_map_both (λ w. tt) (λ e. e) result ≡ ext_row (option_map (λ y. y.now) line.entry) }
-    ensures line { IfOk result (λ w. codes "EXT" ++ after_word (option_map (λ y. y.now) line.entry) ≡ line_of (frame_of w)) }
+    ensures told { result_map_both (λ w. tt) (λ e. e) result ≡
+        ext_row (option_map (λ y. y.now) line.entry) }
+    ensures line { IfOk result (λ w. codes "EXT" ++
+        after_word (option_map (λ y. y.now) line.entry) ≡ line_of (frame_of w)) }
     ensures fits { IfOk result (λ w. FieldsFit (frame_of w) × AreBlobs w) }
 {
     let (stream, line) = taken::number_32(1, 0, 2_147_483_647, line)?;
@@ -199,8 +220,10 @@ pub fn ext(line: Option<&[u8]>) -> Result<Fields<'_>, Wrong>
 
 /// The fields of an UNKNOWN line.
 pub fn unknown(line: Option<&[u8]>) -> Result<Fields<'_>, Wrong>
-    ensures told { result_map_both (λ w. tt) (λ e. e) result ≡ unknown_row (option_map (λ y. y.now) line.entry) }
-    ensures line { IfOk result (λ w. codes "UNKNOWN" ++ after_word (option_map (λ y. y.now) line.entry) ≡ line_of (frame_of w)) }
+    ensures told { result_map_both (λ w. tt) (λ e. e) result ≡
+        unknown_row (option_map (λ y. y.now) line.entry) }
+    ensures line { IfOk result (λ w. codes "UNKNOWN" ++
+        after_word (option_map (λ y. y.now) line.entry) ≡ line_of (frame_of w)) }
     ensures fits { IfOk result (λ w. FieldsFit (frame_of w) × AreBlobs w) }
 {
     let (stream, line) = taken::number_32(1, 0, 2_147_483_647, line)?;

@@ -17,8 +17,10 @@ use plain_text::read_number;
 
 // The next word.
 fn take(place: u32, line: Option<&[u8]>) -> Result<(&[u8], Option<&[u8]>), Wrong>
-    ensures told { result_map_both (λ x. (x.0.now, option_map (λ y. y.now) x.1)) (λ e. e) result ≡ next_at place (option_map (λ y. y.now) line.entry) }
-    ensures word { IfOk result (λ x. after_word (option_map (λ y. y.now) line.entry) ≡ (32 ∷ x.0.now) ++ after_word (option_map (λ y. y.now) x.1)) }
+    ensures told { result_map_both (λ x. (x.0.now, option_map (λ y. y.now) x.1)) (λ e. e) result ≡
+        next_at place (option_map (λ y. y.now) line.entry) }
+    ensures word { IfOk result (λ x. after_word (option_map (λ y. y.now) line.entry) ≡ (32 ∷
+        x.0.now) ++ after_word (option_map (λ y. y.now) x.1)) }
 {
     match line {
         None => Err(Wrong::Word(place)),
@@ -34,8 +36,10 @@ pub fn number(
     high: u64,
     line: Option<&[u8]>,
 ) -> Result<(u64, Option<&[u8]>), Wrong>
-    ensures told { result_map_both (λ x. option_map (λ y. y.now) x.1) (λ e. e) result ≡ decimal_at place low high (option_map (λ y. y.now) line.entry) }
-    ensures word { IfOk result (λ x. after_word (option_map (λ y. y.now) line.entry) ≡ (32 ∷ decimal x.0) ++ after_word (option_map (λ y. y.now) x.1)) }
+    ensures told { result_map_both (λ x. option_map (λ y. y.now) x.1) (λ e. e) result ≡
+        decimal_at place low high (option_map (λ y. y.now) line.entry) }
+    ensures word { IfOk result (λ x. after_word (option_map (λ y. y.now) line.entry) ≡ (32 ∷
+        decimal x.0) ++ after_word (option_map (λ y. y.now) x.1)) }
     ensures fits { IfOk result (λ x. (low ≤ x.0) × (x.0 ≤ high)) }
 {
     let (word, rest) = take(place, line)?;
@@ -52,8 +56,10 @@ pub fn number_32(
     high: u32,
     line: Option<&[u8]>,
 ) -> Result<(u32, Option<&[u8]>), Wrong>
-    ensures told { result_map_both (λ x. option_map (λ y. y.now) x.1) (λ e. e) result ≡ decimal_at place low high (option_map (λ y. y.now) line.entry) }
-    ensures word { IfOk result (λ x. after_word (option_map (λ y. y.now) line.entry) ≡ (32 ∷ decimal x.0) ++ after_word (option_map (λ y. y.now) x.1)) }
+    ensures told { result_map_both (λ x. option_map (λ y. y.now) x.1) (λ e. e) result ≡
+        decimal_at place low high (option_map (λ y. y.now) line.entry) }
+    ensures word { IfOk result (λ x. after_word (option_map (λ y. y.now) line.entry) ≡ (32 ∷
+        decimal x.0) ++ after_word (option_map (λ y. y.now) x.1)) }
     ensures fits { IfOk result (λ x. (low ≤ x.0) × (x.0 ≤ high)) }
 {
     let (n, rest) = number(place, u64::from(low), u64::from(high), line)?;
@@ -62,8 +68,10 @@ pub fn number_32(
 
 /// A number of at most `high`, in 16 bits.
 pub fn number_16(place: u32, high: u16, line: Option<&[u8]>) -> Result<(u16, Option<&[u8]>), Wrong>
-    ensures told { result_map_both (λ x. option_map (λ y. y.now) x.1) (λ e. e) result ≡ decimal_at place 0 high (option_map (λ y. y.now) line.entry) }
-    ensures word { IfOk result (λ x. after_word (option_map (λ y. y.now) line.entry) ≡ (32 ∷ decimal x.0) ++ after_word (option_map (λ y. y.now) x.1)) }
+    ensures told { result_map_both (λ x. option_map (λ y. y.now) x.1) (λ e. e) result ≡
+        decimal_at place 0 high (option_map (λ y. y.now) line.entry) }
+    ensures word { IfOk result (λ x. after_word (option_map (λ y. y.now) line.entry) ≡ (32 ∷
+        decimal x.0) ++ after_word (option_map (λ y. y.now) x.1)) }
     ensures fits { IfOk result (λ x. x.0 ≤ high) }
 {
     let (n, rest) = number(place, 0, u64::from(high), line)?;
@@ -73,8 +81,10 @@ pub fn number_16(place: u32, high: u16, line: Option<&[u8]>) -> Result<(u16, Opt
 /// The stream 0 of a connection's frame.
 #[tactic(auto, unfolding(crate::specs::Reading::zero_at))]
 pub fn no_stream(line: Option<&[u8]>) -> Result<Option<&[u8]>, Wrong>
-    ensures told { result_map_both (λ x. option_map (λ y. y.now) x) (λ e. e) result ≡ zero_at (option_map (λ y. y.now) line.entry) }
-    ensures word { IfOk result (λ x. after_word (option_map (λ y. y.now) line.entry) ≡ (32 ∷ codes "0") ++ after_word (option_map (λ y. y.now) x)) }
+    ensures told { result_map_both (λ x. option_map (λ y. y.now) x) (λ e. e) result ≡
+        zero_at (option_map (λ y. y.now) line.entry) }
+    ensures word { IfOk result (λ x. after_word (option_map (λ y. y.now) line.entry) ≡ (32 ∷
+        codes "0") ++ after_word (option_map (λ y. y.now) x)) }
 {
     let (word, rest) = take(1, line)?;
     if !spelled::is(word, "0") {
@@ -86,8 +96,10 @@ pub fn no_stream(line: Option<&[u8]>) -> Result<Option<&[u8]>, Wrong>
 /// A type number below 64 that the standard does not name.
 #[tactic(auto, unfolding(crate::specs::Reading::unnamed_at))]
 pub fn unnamed(place: u32, line: Option<&[u8]>) -> Result<(u8, Option<&[u8]>), Wrong>
-    ensures told { result_map_both (λ x. option_map (λ y. y.now) x.1) (λ e. e) result ≡ unnamed_at place (option_map (λ y. y.now) line.entry) }
-    ensures word { IfOk result (λ x. after_word (option_map (λ y. y.now) line.entry) ≡ (32 ∷ decimal x.0) ++ after_word (option_map (λ y. y.now) x.1)) }
+    ensures told { result_map_both (λ x. option_map (λ y. y.now) x.1) (λ e. e) result ≡
+        unnamed_at place (option_map (λ y. y.now) line.entry) }
+    ensures word { IfOk result (λ x. after_word (option_map (λ y. y.now) line.entry) ≡ (32 ∷
+        decimal x.0) ++ after_word (option_map (λ y. y.now) x.1)) }
     ensures fits { IfOk result (λ x. (x.0 < 64) × (row_of x.0 ≡ rows.Unknown)) }
 {
     let (word, rest) = take(place, line)?;
@@ -109,8 +121,10 @@ fn is_unnamed(n: u64) -> bool
 /// The flag R.
 #[tactic(auto, unfolding(crate::specs::Reading::flags_at))]
 pub fn respond(line: Option<&[u8]>) -> Result<(bool, Option<&[u8]>), Wrong>
-    ensures told { result_map_both (λ x. option_map (λ y. y.now) x.1) (λ e. e) result ≡ flags_at 2 respond_words (option_map (λ y. y.now) line.entry) }
-    ensures word { IfOk result (λ x. after_word (option_map (λ y. y.now) line.entry) ≡ (32 ∷ letters_word (letter_if x.0 (codes "R"))) ++ after_word (option_map (λ y. y.now) x.1)) }
+    ensures told { result_map_both (λ x. option_map (λ y. y.now) x.1) (λ e. e) result ≡
+        flags_at 2 respond_words (option_map (λ y. y.now) line.entry) }
+    ensures word { IfOk result (λ x. after_word (option_map (λ y. y.now) line.entry) ≡ (32 ∷
+        letters_word (letter_if x.0 (codes "R"))) ++ after_word (option_map (λ y. y.now) x.1)) }
 {
     let (word, rest) = take(2, line)?;
     match spelled::respond(word) {
@@ -122,8 +136,11 @@ pub fn respond(line: Option<&[u8]>) -> Result<(bool, Option<&[u8]>), Wrong>
 /// The flag F.
 #[tactic(auto, unfolding(crate::specs::Reading::flags_at))]
 pub fn follows(line: Option<&[u8]>) -> Result<(bool, Option<&[u8]>), Wrong>
-    ensures told { result_map_both (λ x. option_map (λ y. y.now) x.1) (λ e. e) result ≡ flags_at 2 follows_words (option_map (λ y. y.now) line.entry) }
-    ensures word { IfOk result (λ x. after_word (option_map (λ y. y.now) line.entry) ≡ (32 ∷ letters_word (letter_if x.0 (codes "F") ++ letter_if false (codes "C"))) ++ after_word (option_map (λ y. y.now) x.1)) }
+    ensures told { result_map_both (λ x. option_map (λ y. y.now) x.1) (λ e. e) result ≡
+        flags_at 2 follows_words (option_map (λ y. y.now) line.entry) }
+    ensures word { IfOk result (λ x. after_word (option_map (λ y. y.now) line.entry) ≡ (32 ∷
+        letters_word (letter_if x.0 (codes "F") ++ letter_if false (codes "C"))) ++
+        after_word (option_map (λ y. y.now) x.1)) }
 {
     let (word, rest) = take(2, line)?;
     match spelled::follows(word) {
@@ -135,8 +152,11 @@ pub fn follows(line: Option<&[u8]>) -> Result<(bool, Option<&[u8]>), Wrong>
 /// The flags R and L.
 #[tactic(auto, unfolding(crate::specs::Reading::flags_at, crate::specs::Reading::asks_in))]
 pub fn resume_lease(line: Option<&[u8]>) -> Result<((bool, bool), Option<&[u8]>), Wrong>
-    ensures told { result_map_both (λ x. option_map (λ y. y.now) x.1) (λ e. e) result ≡ flags_at 2 setup_words (option_map (λ y. y.now) line.entry) }
-    ensures word { IfOk result (λ x. after_word (option_map (λ y. y.now) line.entry) ≡ (32 ∷ letters_word (letter_if x.0.0 (codes "R") ++ letter_if x.0.1 (codes "L"))) ++ after_word (option_map (λ y. y.now) x.1)) }
+    ensures told { result_map_both (λ x. option_map (λ y. y.now) x.1) (λ e. e) result ≡
+        flags_at 2 setup_words (option_map (λ y. y.now) line.entry) }
+    ensures word { IfOk result (λ x. after_word (option_map (λ y. y.now) line.entry) ≡ (32 ∷
+        letters_word (letter_if x.0.0 (codes "R") ++ letter_if x.0.1 (codes "L"))) ++
+        after_word (option_map (λ y. y.now) x.1)) }
     ensures asks { IfOk result (λ x. x.0.0 ≡ asks_in (option_map (λ y. y.now) line.entry)) }
 {
     let (word, rest) = take(2, line)?;
@@ -149,8 +169,11 @@ pub fn resume_lease(line: Option<&[u8]>) -> Result<((bool, bool), Option<&[u8]>)
 /// The flags F and C.
 #[tactic(auto, unfolding(crate::specs::Reading::flags_at))]
 pub fn follows_complete(line: Option<&[u8]>) -> Result<((bool, bool), Option<&[u8]>), Wrong>
-    ensures told { result_map_both (λ x. option_map (λ y. y.now) x.1) (λ e. e) result ≡ flags_at 2 channel_words (option_map (λ y. y.now) line.entry) }
-    ensures word { IfOk result (λ x. after_word (option_map (λ y. y.now) line.entry) ≡ (32 ∷ letters_word (letter_if x.0.0 (codes "F") ++ letter_if x.0.1 (codes "C"))) ++ after_word (option_map (λ y. y.now) x.1)) }
+    ensures told { result_map_both (λ x. option_map (λ y. y.now) x.1) (λ e. e) result ≡
+        flags_at 2 channel_words (option_map (λ y. y.now) line.entry) }
+    ensures word { IfOk result (λ x. after_word (option_map (λ y. y.now) line.entry) ≡ (32 ∷
+        letters_word (letter_if x.0.0 (codes "F") ++ letter_if x.0.1 (codes "C"))) ++
+        after_word (option_map (λ y. y.now) x.1)) }
 {
     let (word, rest) = take(2, line)?;
     match spelled::follows_complete(word) {
@@ -164,8 +187,11 @@ pub fn follows_complete(line: Option<&[u8]>) -> Result<((bool, bool), Option<&[u
 pub fn follows_complete_next(
     line: Option<&[u8]>,
 ) -> Result<((bool, bool, bool), Option<&[u8]>), Wrong>
-    ensures told { result_map_both (λ x. option_map (λ y. y.now) x.1) (λ e. e) result ≡ flags_at 2 payload_words (option_map (λ y. y.now) line.entry) }
-    ensures word { IfOk result (λ x. after_word (option_map (λ y. y.now) line.entry) ≡ (32 ∷ letters_word (letter_if x.0.0 (codes "F") ++ (letter_if x.0.1 (codes "C") ++ letter_if x.0.2 (codes "N")))) ++ after_word (option_map (λ y. y.now) x.1)) }
+    ensures told { result_map_both (λ x. option_map (λ y. y.now) x.1) (λ e. e) result ≡
+        flags_at 2 payload_words (option_map (λ y. y.now) line.entry) }
+    ensures word { IfOk result (λ x. after_word (option_map (λ y. y.now) line.entry) ≡ (32 ∷
+        letters_word (letter_if x.0.0 (codes "F") ++ (letter_if x.0.1 (codes "C") ++
+        letter_if x.0.2 (codes "N")))) ++ after_word (option_map (λ y. y.now) x.1)) }
 {
     let (word, rest) = take(2, line)?;
     match spelled::follows_complete_next(word) {
@@ -177,8 +203,10 @@ pub fn follows_complete_next(
 /// The text of bytes.
 #[tactic(auto, unfolding(crate::specs::Reading::blob_at))]
 pub fn blob(place: u32, line: Option<&[u8]>) -> Result<(&[u8], Option<&[u8]>), Wrong>
-    ensures told { result_map_both (λ x. option_map (λ y. y.now) x.1) (λ e. e) result ≡ blob_at place (option_map (λ y. y.now) line.entry) }
-    ensures word { IfOk result (λ x. after_word (option_map (λ y. y.now) line.entry) ≡ (32 ∷ blob_word (bytes_of x.0.now)) ++ after_word (option_map (λ y. y.now) x.1)) }
+    ensures told { result_map_both (λ x. option_map (λ y. y.now) x.1) (λ e. e) result ≡
+        blob_at place (option_map (λ y. y.now) line.entry) }
+    ensures word { IfOk result (λ x. after_word (option_map (λ y. y.now) line.entry) ≡ (32 ∷
+        blob_word (bytes_of x.0.now)) ++ after_word (option_map (λ y. y.now) x.1)) }
     ensures fits { IfOk result (λ x. IsTrue (is_blob x.0.now)) }
 {
     let (word, rest) = take(place, line)?;
@@ -200,9 +228,12 @@ fn is_short(word: &[u8], most: u64) -> bool
 /// The text of at most `most` bytes.
 #[tactic(auto, unfolding(crate::specs::Reading::short_at))]
 pub fn short(place: u32, most: u64, line: Option<&[u8]>) -> Result<(&[u8], Option<&[u8]>), Wrong>
-    ensures told { result_map_both (λ x. option_map (λ y. y.now) x.1) (λ e. e) result ≡ short_at place most (option_map (λ y. y.now) line.entry) }
-    ensures word { IfOk result (λ x. after_word (option_map (λ y. y.now) line.entry) ≡ (32 ∷ blob_word (bytes_of x.0.now)) ++ after_word (option_map (λ y. y.now) x.1)) }
-    ensures fits { IfOk result (λ x. IsTrue (is_blob x.0.now) × (length (bytes_of x.0.now) ≤ most)) }
+    ensures told { result_map_both (λ x. option_map (λ y. y.now) x.1) (λ e. e) result ≡
+        short_at place most (option_map (λ y. y.now) line.entry) }
+    ensures word { IfOk result (λ x. after_word (option_map (λ y. y.now) line.entry) ≡ (32 ∷
+        blob_word (bytes_of x.0.now)) ++ after_word (option_map (λ y. y.now) x.1)) }
+    ensures fits { IfOk result (λ x. IsTrue (is_blob x.0.now) ×
+        (length (bytes_of x.0.now) ≤ most)) }
 {
     let (word, rest) = take(place, line)?;
     if !is_short(word, most) {
@@ -214,8 +245,10 @@ pub fn short(place: u32, most: u64, line: Option<&[u8]>) -> Result<(&[u8], Optio
 /// The text of bytes that may be absent.
 #[tactic(auto, unfolding(crate::specs::Reading::option_at))]
 pub fn option(place: u32, line: Option<&[u8]>) -> Result<(&[u8], Option<&[u8]>), Wrong>
-    ensures told { result_map_both (λ x. option_map (λ y. y.now) x.1) (λ e. e) result ≡ option_at place (option_map (λ y. y.now) line.entry) }
-    ensures word { IfOk result (λ x. after_word (option_map (λ y. y.now) line.entry) ≡ (32 ∷ option_word (option_of x.0.now)) ++ after_word (option_map (λ y. y.now) x.1)) }
+    ensures told { result_map_both (λ x. option_map (λ y. y.now) x.1) (λ e. e) result ≡
+        option_at place (option_map (λ y. y.now) line.entry) }
+    ensures word { IfOk result (λ x. after_word (option_map (λ y. y.now) line.entry) ≡ (32 ∷
+        option_word (option_of x.0.now)) ++ after_word (option_map (λ y. y.now) x.1)) }
     ensures fits { IfOk result (λ x. IsOption x.0.now) }
 {
     let (word, rest) = take(place, line)?;
@@ -232,9 +265,12 @@ pub fn short_option(
     most: u64,
     line: Option<&[u8]>,
 ) -> Result<(&[u8], Option<&[u8]>), Wrong>
-    ensures told { result_map_both (λ x. option_map (λ y. y.now) x.1) (λ e. e) result ≡ short_option_at place most (option_map (λ y. y.now) line.entry) }
-    ensures word { IfOk result (λ x. after_word (option_map (λ y. y.now) line.entry) ≡ (32 ∷ option_word (option_of x.0.now)) ++ after_word (option_map (λ y. y.now) x.1)) }
-    ensures fits { IfOk result (λ x. IsOption x.0.now × IfSome (option_of x.0.now) (λ bytes. length bytes ≤ most)) }
+    ensures told { result_map_both (λ x. option_map (λ y. y.now) x.1) (λ e. e) result ≡
+        short_option_at place most (option_map (λ y. y.now) line.entry) }
+    ensures word { IfOk result (λ x. after_word (option_map (λ y. y.now) line.entry) ≡ (32 ∷
+        option_word (option_of x.0.now)) ++ after_word (option_map (λ y. y.now) x.1)) }
+    ensures fits { IfOk result (λ x. IsOption x.0.now ×
+        IfSome (option_of x.0.now) (λ bytes. length bytes ≤ most)) }
 {
     let (word, rest) = take(place, line)?;
     if !spelled::is_dash(word) && !is_short(word, most) {
@@ -246,9 +282,13 @@ pub fn short_option(
 /// The token of a SETUP: a dash exactly where resumption is not asked for.
 #[tactic(auto, unfolding(crate::specs::Reading::token_at))]
 pub fn token(place: u32, asked: bool, line: Option<&[u8]>) -> Result<(&[u8], Option<&[u8]>), Wrong>
-    ensures told { result_map_both (λ x. option_map (λ y. y.now) x.1) (λ e. e) result ≡ token_at place asked (option_map (λ y. y.now) line.entry) }
-    ensures word { IfOk result (λ x. after_word (option_map (λ y. y.now) line.entry) ≡ (32 ∷ option_word (option_of x.0.now)) ++ after_word (option_map (λ y. y.now) x.1)) }
-    ensures fits { IfOk result (λ x. IsOption x.0.now × IfSome (option_of x.0.now) (λ bytes. length bytes ≤ 65535) × (is_some (option_of x.0.now) ≡ asked)) }
+    ensures told { result_map_both (λ x. option_map (λ y. y.now) x.1) (λ e. e) result ≡
+        token_at place asked (option_map (λ y. y.now) line.entry) }
+    ensures word { IfOk result (λ x. after_word (option_map (λ y. y.now) line.entry) ≡ (32 ∷
+        option_word (option_of x.0.now)) ++ after_word (option_map (λ y. y.now) x.1)) }
+    ensures fits { IfOk result (λ x. IsOption x.0.now ×
+        IfSome (option_of x.0.now) (λ bytes. length bytes ≤ 65535) ×
+        (is_some (option_of x.0.now) ≡ asked)) }
 {
     let (word, rest) = take(place, line)?;
     let is_absent = spelled::is_dash(word);

@@ -32,7 +32,8 @@ pub fn write_option(out: &mut Vec<u8>, blob: &Option<Blob>) -> Result<(), OutOfM
 
 /// The flags R and L as letters.
 pub fn resume_lease(resume: bool, lease: bool) -> &'static str
-    ensures { result.now ≡ letters_word (letter_if resume (codes "R") ++ letter_if lease (codes "L")) }
+    ensures { result.now ≡ letters_word (letter_if resume (codes "R") ++
+        letter_if lease (codes "L")) }
 {
     match (resume, lease) {
         (false, false) => "-",
@@ -51,7 +52,8 @@ pub fn respond(respond: bool) -> &'static str
 
 /// The flags F and C as letters.
 pub fn follows_complete(follows: bool, complete: bool) -> &'static str
-    ensures { result.now ≡ letters_word (letter_if follows (codes "F") ++ letter_if complete (codes "C")) }
+    ensures { result.now ≡ letters_word (letter_if follows (codes "F") ++
+        letter_if complete (codes "C")) }
 {
     match (follows, complete) {
         (false, false) => "-",
@@ -63,7 +65,8 @@ pub fn follows_complete(follows: bool, complete: bool) -> &'static str
 
 /// The flags F, C and N as letters.
 pub fn follows_complete_next(follows: bool, complete: bool, next: bool) -> &'static str
-    ensures { result.now ≡ letters_word (letter_if follows (codes "F") ++ (letter_if complete (codes "C") ++ letter_if next (codes "N"))) }
+    ensures { result.now ≡ letters_word (letter_if follows (codes "F") ++
+        (letter_if complete (codes "C") ++ letter_if next (codes "N"))) }
 {
     match (follows, complete, next) {
         (false, false, false) => "-",

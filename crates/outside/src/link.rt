@@ -41,10 +41,14 @@ pub trait Link {
         ensures taken { IsTake (shown self.old).taken (shown self.new).taken buffer.new result }
         ensures given { (shown self.new).given ≡ (shown self.old).given }
         ensures counted { NoneFell (shown self.old).counts (shown self.new).counts }
-        ensures failed { result ≡ Taken.Failed → Rose (shown self.old).counts.faults (shown self.new).counts.faults }
-        ensures lull { result ≡ Taken.Lull → Rose (shown self.old).counts.lulls (shown self.new).counts.lulls }
-        ensures end { result ≡ Taken.End → Rose (shown self.old).counts.ends (shown self.new).counts.ends }
-        ensures counts { (shown self.new).counts ≡ counts_after_take result (shown self.old).counts };
+        ensures failed { result ≡ Taken.Failed →
+            Rose (shown self.old).counts.faults (shown self.new).counts.faults }
+        ensures lull { result ≡ Taken.Lull → Rose (shown self.old).counts.lulls
+            (shown self.new).counts.lulls }
+        ensures end { result ≡ Taken.End → Rose (shown self.old).counts.ends
+            (shown self.new).counts.ends }
+        ensures counts { (shown self.new).counts ≡
+            counts_after_take result (shown self.old).counts };
 
     /// Gives bytes from the front of the piece, which is not empty: as many as there is room for now,
     /// and at least 1. Giving nothing is a fault.
@@ -53,7 +57,10 @@ pub trait Link {
         ensures given { IsGive (shown self.old).given (shown self.new).given piece.now result }
         ensures taken { (shown self.new).taken ≡ (shown self.old).taken }
         ensures counted { NoneFell (shown self.old).counts (shown self.new).counts }
-        ensures failed { result ≡ Given.Failed → Rose (shown self.old).counts.faults (shown self.new).counts.faults }
-        ensures lull { result ≡ Given.Lull → Rose (shown self.old).counts.stalls (shown self.new).counts.stalls }
-        ensures counts { (shown self.new).counts ≡ counts_after_give result (shown self.old).counts };
+        ensures failed { result ≡ Given.Failed →
+            Rose (shown self.old).counts.faults (shown self.new).counts.faults }
+        ensures lull { result ≡ Given.Lull → Rose (shown self.old).counts.stalls
+            (shown self.new).counts.stalls }
+        ensures counts { (shown self.new).counts ≡
+            counts_after_give result (shown self.old).counts };
 }

@@ -100,10 +100,12 @@ impl Link for MemLink {
 
     fn take(&mut self, buffer: &mut [u8]) -> Taken
         requires { 0 < length buffer.old }
-        ensures taken { IsTake (shown_of self.old).taken (shown_of self.new).taken buffer.new result }
+        ensures taken { IsTake (shown_of self.old).taken
+            (shown_of self.new).taken buffer.new result }
         ensures given { (shown_of self.new).given ≡ (shown_of self.old).given }
         ensures counted { NoneFell self.old.counts self.new.counts }
-        ensures failed { result ≡ Taken.Failed → Rose self.old.counts.faults self.new.counts.faults }
+        ensures failed { result ≡ Taken.Failed →
+            Rose self.old.counts.faults self.new.counts.faults }
         ensures lull { result ≡ Taken.Lull → Rose self.old.counts.lulls self.new.counts.lulls }
         ensures end { result ≡ Taken.End → Rose self.old.counts.ends self.new.counts.ends }
 
@@ -112,7 +114,8 @@ impl Link for MemLink {
         ensures most { link_fails_next self.old ≡ false →
             self.new.left ≡ drop (min (length buffer.new) self.old.most) self.old.left }
         ensures same_bytes { self.new.taken ++ self.new.left ≡ self.old.taken ++ self.old.left }
-        ensures lulls { result ≡ Taken.Lull → (self.old.left ≡ []) × (self.old.after ≡ After.Lulls) }
+        ensures lulls { result ≡ Taken.Lull → (self.old.left ≡ []) × (self.old.after ≡
+            After.Lulls) }
         ensures ends { result ≡ Taken.End → (self.old.left ≡ []) × (self.old.after ≡ After.Ends) }
         ensures counts { self.new.counts ≡ counts_after_take result self.old.counts }
         ensures calls { self.new.calls ≡ one_more self.old.calls }
@@ -143,10 +146,12 @@ impl Link for MemLink {
 
     fn give(&mut self, piece: &[u8]) -> Given
         requires { 0 < length piece.now }
-        ensures given { IsGive (shown_of self.old).given (shown_of self.new).given piece.now result }
+        ensures given { IsGive (shown_of self.old).given
+            (shown_of self.new).given piece.now result }
         ensures taken { (shown_of self.new).taken ≡ (shown_of self.old).taken }
         ensures counted { NoneFell self.old.counts self.new.counts }
-        ensures failed { result ≡ Given.Failed → Rose self.old.counts.faults self.new.counts.faults }
+        ensures failed { result ≡ Given.Failed →
+            Rose self.old.counts.faults self.new.counts.faults }
         ensures lull { result ≡ Given.Lull → Rose self.old.counts.stalls self.new.counts.stalls }
 
         // It fails in the calls that it was told to, and where there is no memory.

@@ -46,7 +46,8 @@ impl Model for MemNet {
       fails = n.calls.fails.items;
     } };
 
-    ghost invariant = { λ n. (vec_len n.back + n.out ≤ vec_capacity n.back) × (n.out + deque_len n.links < 2 ^ 63) × AllNew n.links.items };
+    ghost invariant = { λ n. (vec_len n.back + n.out ≤ vec_capacity n.back) ×
+        (n.out + deque_len n.links < 2 ^ 63) × AllNew n.links.items };
 }
 
 impl MemNet {
@@ -75,14 +76,17 @@ impl MemNet {
     // Hands out the next link.
     fn hand_out(&mut self, ask: Ask) -> Result<MemLink, NetFault>
         ensures new { IfOk result (λ link. IsNew (shown_of link)) }
-        ensures next { MatchResult result (λ link. self.old.links ≡ link ∷ self.new.links) (λ _. self.new.links ≡ self.old.links) }
+        ensures next { MatchResult result (λ link. self.old.links ≡ link ∷
+            self.new.links) (λ _. self.new.links ≡ self.old.links) }
         ensures asked { Some self.new.asked ≡ asked_after result (Some self.old.asked) ask }
-        ensures out { self.new.out ≡ (if is_ok result then one_more self.old.out else self.old.out) }
+        ensures out { self.new.out ≡
+            (if is_ok result then one_more self.old.out else self.old.out) }
         ensures back { self.new.back ≡ self.old.back }
         ensures counted { self.old.faults ≤ self.new.faults }
         ensures cause { result ≡ Err NetFault.Failed → Rose self.old.faults self.new.faults }
         ensures faults { self.new.faults ≡ faults_after result self.old.faults }
-        ensures failed { result ≡ Err NetFault.Failed → IsTrue (net_fails_next self.old || length self.old.links == 0) }
+        ensures failed { result ≡ Err NetFault.Failed →
+            IsTrue (net_fails_next self.old || length self.old.links == 0) }
         ensures told_to { IsTrue (net_fails_next self.old) → is_ok result ≡ false }
         ensures calls { self.new.calls ≡ calls_after result self.old.calls }
         ensures fails { self.new.fails ≡ self.old.fails }
@@ -118,16 +122,20 @@ impl Net for MemNet {
 
     fn dial(&mut self, address: &Blob, ws: bool) -> Result<MemLink, NetFault>
         ensures new { IfOk result (λ link. IsNew (shown_of link)) }
-        ensures asked { Some self.new.asked ≡ asked_after result (Some self.old.asked) (Ask.Dial address.now ws) }
-        ensures out { self.new.out ≡ (if is_ok result then one_more self.old.out else self.old.out) }
+        ensures asked { Some self.new.asked ≡
+            asked_after result (Some self.old.asked) (Ask.Dial address.now ws) }
+        ensures out { self.new.out ≡
+            (if is_ok result then one_more self.old.out else self.old.out) }
         ensures back { Some (map shown_of self.new.back) ≡ Some (map shown_of self.old.back) }
         ensures counted { self.old.faults ≤ self.new.faults }
         ensures cause { result ≡ Err NetFault.Failed → Rose self.old.faults self.new.faults }
         ensures faults { self.new.faults ≡ faults_after result self.old.faults }
 
         // It hands out the next link, and fails only where it was told to or no link is left.
-        ensures next { MatchResult result (λ link. self.old.links ≡ link ∷ self.new.links) (λ _. self.new.links ≡ self.old.links) }
-        ensures failed { result ≡ Err NetFault.Failed → IsTrue (net_fails_next self.old || length self.old.links == 0) }
+        ensures next { MatchResult result (λ link. self.old.links ≡ link ∷
+            self.new.links) (λ _. self.new.links ≡ self.old.links) }
+        ensures failed { result ≡ Err NetFault.Failed →
+            IsTrue (net_fails_next self.old || length self.old.links == 0) }
         ensures told_to { IsTrue (net_fails_next self.old) → is_ok result ≡ false }
         ensures calls { self.new.calls ≡ calls_after result self.old.calls }
         ensures fails { self.new.fails ≡ self.old.fails }
@@ -137,7 +145,8 @@ impl Net for MemNet {
     }
 
     fn listen(&mut self, address: &Blob) -> Result<(), NetFault>
-        ensures asked { Some self.new.asked ≡ asked_after result (Some self.old.asked) (Ask.Listen address.now) }
+        ensures asked { Some self.new.asked ≡
+            asked_after result (Some self.old.asked) (Ask.Listen address.now) }
         ensures out { self.new.out ≡ self.old.out }
         ensures back { Some (map shown_of self.new.back) ≡ Some (map shown_of self.old.back) }
         ensures counted { self.old.faults ≤ self.new.faults }
@@ -162,16 +171,20 @@ impl Net for MemNet {
 
     fn accept(&mut self, ws: bool) -> Result<MemLink, NetFault>
         ensures new { IfOk result (λ link. IsNew (shown_of link)) }
-        ensures asked { Some self.new.asked ≡ asked_after result (Some self.old.asked) (Ask.Accept ws) }
-        ensures out { self.new.out ≡ (if is_ok result then one_more self.old.out else self.old.out) }
+        ensures asked { Some self.new.asked ≡
+            asked_after result (Some self.old.asked) (Ask.Accept ws) }
+        ensures out { self.new.out ≡
+            (if is_ok result then one_more self.old.out else self.old.out) }
         ensures back { Some (map shown_of self.new.back) ≡ Some (map shown_of self.old.back) }
         ensures counted { self.old.faults ≤ self.new.faults }
         ensures cause { result ≡ Err NetFault.Failed → Rose self.old.faults self.new.faults }
         ensures faults { self.new.faults ≡ faults_after result self.old.faults }
 
         // It hands out the next link, and fails only where it was told to or no link is left.
-        ensures next { MatchResult result (λ link. self.old.links ≡ link ∷ self.new.links) (λ _. self.new.links ≡ self.old.links) }
-        ensures failed { result ≡ Err NetFault.Failed → IsTrue (net_fails_next self.old || length self.old.links == 0) }
+        ensures next { MatchResult result (λ link. self.old.links ≡ link ∷
+            self.new.links) (λ _. self.new.links ≡ self.old.links) }
+        ensures failed { result ≡ Err NetFault.Failed →
+            IsTrue (net_fails_next self.old || length self.old.links == 0) }
         ensures told_to { IsTrue (net_fails_next self.old) → is_ok result ≡ false }
         ensures calls { self.new.calls ≡ calls_after result self.old.calls }
         ensures fails { self.new.fails ≡ self.old.fails }
@@ -181,13 +194,15 @@ impl Net for MemNet {
 
     fn put_back(&mut self, link: MemLink)
         requires { 0 < self.old.out }
-        ensures back { Some (map shown_of self.new.back) ≡ and_then_one (Some (map shown_of self.old.back)) (shown_of link) }
+        ensures back { Some (map shown_of self.new.back) ≡
+            and_then_one (Some (map shown_of self.old.back)) (shown_of link) }
         ensures out { self.new.out ≡ self.old.out - 1 }
         ensures asked { Some self.new.asked ≡ Some self.old.asked }
         ensures faults { self.new.faults ≡ self.old.faults }
 
         // The link itself is put back, and nothing else changes.
-        ensures itself { self.new ≡ record self.old { back = self.old.back ++ link ∷ []; out = self.old.out - 1 } }
+        ensures itself { self.new ≡ record self.old { back = self.old.back ++ link ∷
+            []; out = self.old.out - 1 } }
     {
         self.back.push_reserved(link);
         self.out -= 1;

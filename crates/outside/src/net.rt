@@ -9,6 +9,7 @@ ghost use Rattle.outside.specs.declared.net.Ask.{Ask};
 use crate::link::Link;
 use rs_wire::{Blob, OutOfMemory};
 use std::alloc::{AllocError, AllocFailed};
+use thiserror::Error;
 
 /// What a net was asked for.
 #[derive(Debug, Drop, PartialEq, Eq)]
@@ -22,11 +23,13 @@ pub enum Ask {
 }
 
 /// Why a net did not do what it was asked for.
-#[derive(Clone, Copy, Debug, PartialEq, Eq)]
+#[derive(Clone, Copy, Debug, PartialEq, Eq, Error)]
 pub enum NetFault {
     /// A fault, which is counted.
+    #[error("the net failed")]
     Failed,
     /// There was not enough memory. The net is as before, and the call is not told.
+    #[error("out of memory")]
     OutOfMemory,
 }
 
@@ -84,8 +87,10 @@ pub trait Net {
     /// A new link to the address, over WebSocket where `ws`, and else over TCP.
     fn dial(&mut self, address: &Blob, ws: bool) -> Result<Self::Link, NetFault>
         ensures new { IfOk result (λ link. IsNew (Self.Link.shown link)) }
-        ensures asked { asked self.new ≡ asked_after result (asked self.old) (Ask.Dial address.now ws) }
-        ensures out { out self.new ≡ (if is_ok result then one_more (out self.old) else out self.old) }
+        ensures asked { asked self.new ≡ asked_after result (asked self.old)
+            (Ask.Dial address.now ws) }
+        ensures out { out self.new ≡ (if is_ok result then one_more
+            (out self.old) else out self.old) }
         ensures back { back self.new ≡ back self.old }
         ensures counted { faults self.old ≤ faults self.new }
         ensures cause { result ≡ Err NetFault.Failed → Rose (faults self.old) (faults self.new) }
@@ -93,7 +98,8 @@ pub trait Net {
 
     /// Makes the net hear of links that others open to the address.
     fn listen(&mut self, address: &Blob) -> Result<(), NetFault>
-        ensures asked { asked self.new ≡ asked_after result (asked self.old) (Ask.Listen address.now) }
+        ensures asked { asked self.new ≡ asked_after result (asked self.old)
+            (Ask.Listen address.now) }
         ensures out { out self.new ≡ out self.old }
         ensures back { back self.new ≡ back self.old }
         ensures counted { faults self.old ≤ faults self.new }
@@ -104,7 +110,8 @@ pub trait Net {
     fn accept(&mut self, ws: bool) -> Result<Self::Link, NetFault>
         ensures new { IfOk result (λ link. IsNew (Self.Link.shown link)) }
         ensures asked { asked self.new ≡ asked_after result (asked self.old) (Ask.Accept ws) }
-        ensures out { out self.new ≡ (if is_ok result then one_more (out self.old) else out self.old) }
+        ensures out { out self.new ≡ (if is_ok result then one_more
+            (out self.old) else out self.old) }
         ensures back { back self.new ≡ back self.old }
         ensures counted { faults self.old ≤ faults self.new }
         ensures cause { result ≡ Err NetFault.Failed → Rose (faults self.old) (faults self.new) }

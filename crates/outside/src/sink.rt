@@ -23,5 +23,6 @@ pub trait Sink {
     fn write(&mut self, piece: &[u8]) -> Wrote
         requires { 0 < length piece.now }
         ensures write { IsWrite (shown self.old).told (shown self.new).told piece.now result }
-        ensures faults { (shown self.new).faults ≡ faults_after_write result (shown self.old).faults };
+        ensures faults { (shown self.new).faults ≡
+            faults_after_write result (shown self.old).faults };
 }

@@ -24,5 +24,6 @@ pub trait Source {
     fn read(&mut self, buffer: &mut [u8]) -> Read
         requires { 0 < length buffer.old }
         ensures read { IsRead (shown self.old).told (shown self.new).told buffer.new result }
-        ensures faults { (shown self.new).faults ≡ faults_after_read result (shown self.old).faults };
+        ensures faults { (shown self.new).faults ≡
+            faults_after_read result (shown self.old).faults };
 }

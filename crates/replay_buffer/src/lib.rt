@@ -9,8 +9,9 @@
 //! The promise to the layer above: where the frames kept are those made, what is held of them
 //! starts at `first` of the crate `position` (the peer may still need it, and no more than `hold`
 //! bytes are held), and [`Replay::copy`] gives it as it goes onto a stream, each frame after its
-//! length ([`held_of_made`]). No frame is forgotten sooner or later. In memory are at most twice
-//! the bytes held and what was reserved. Only [`Replay::reserve`] takes memory.
+//! length ([`held_of_made`]). No frame is forgotten sooner or later. What is stored is at most twice
+//! the bytes held; the block of memory that they stand in may be larger, also by what was reserved.
+//! Only [`Replay::reserve`] takes memory.
 //!
 //! It leaves out which frames are resumable, how they are spelled, and whether a peer's position
 //! may be believed.

@@ -4,9 +4,11 @@ ghost use Rattle.std.specs.Prelude.{OnErr, OnOk};
 ghost use Rattle.rsocket_run.specs.Streams.{CutOff, Writes};
 
 use outside::{Sink, Wrote};
+use thiserror::Error;
 
 /// The sink failed, and counted a fault.
-#[derive(Clone, Copy, Debug, PartialEq, Eq)]
+#[derive(Clone, Copy, Debug, PartialEq, Eq, Error)]
+#[error("a write failed")]
 pub struct WriteFault;
 
 /// Writes all bytes, or a prefix of them: a failed write is the last one.
