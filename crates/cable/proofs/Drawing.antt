@@ -14,14 +14,13 @@ use Rattle.tape.specs.declared.answer.Answer.{Answer}
 use Rattle.tape.specs.declared.answer.Answer.TheVariants as answer
 use Rattle.tape.specs.declared.entry.Entry.{Entry}
 use Rattle.session_model.specs.Life.{is_live, live}
-use Rattle.session_model.specs.Frames.{drawn, draws, due, given, owes, queued}
+use Rattle.session_model.specs.Frames.{drawn, draws, due, given, queued}
 use Rattle.session_model.specs.Answers.{answer_to, facts}
 use Rattle.session_core.specs.Queued.{IfDrawn}
 use Rattle.session_core.specs.Seen.{Seen, IsUnlessWant, entries_after}
 use Rattle.session_model.proofs.Queue.{drawn_owes}
 use Rattle.cable.specs.declared.carrying.Most.{Most}
-use Rattle.cable.specs.declared.carrying.Most.TheVariants as most
-use Rattle.cable.specs.Played.{DrawInSum, DrawsWhere, IsDraw, at_most}
+use Rattle.cable.specs.Played.{DrawInSum, IsDraw, at_most}
 use Rattle.cable.specs.Hearing.{Carried, Filled, IsNoWant, IsStale}
 use Rattle.cable.proofs.Following.{noted}
 

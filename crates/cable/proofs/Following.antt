@@ -1,6 +1,6 @@
 -- What an end answers, and its entries after it.
 use Rattle.std.proofs.lemmas.Grind.{common_steps}
-use Rattle.std.proofs.Common.{◌≡◌, ◌+◌, ℕ, Bool, true, false, cond, List, ◌∷◌, Option, Some, None, refl, ap, subst, arith}
+use Rattle.std.proofs.Common.{◌≡◌, ◌+◌, ℕ, Bool, true, false, cond, List, ◌∷◌, Option, Some, ap, arith}
 use Rattle.rs_wire.specs.declared.fault.Cause.{Cause}
 use Rattle.rs_wire.specs.declared.fault.SetupFault.{SetupFault}
 use Rattle.rs_wire.specs.declared.fault.SetupFault.TheVariants as fault
@@ -14,10 +14,9 @@ use Rattle.tape.specs.declared.answer.Answer.TheVariants as answer
 use Rattle.tape.specs.declared.entry.Entry.{Entry}
 use Rattle.session_model.specs.Life.{begun, closed, openings}
 use Rattle.session_model.specs.Answers.{answer_to, facts, opened_unless, unless_closed}
-use Rattle.session_core.specs.Seen.{entries_after, IsUnlessWant}
+use Rattle.session_core.specs.Seen.{entries_after}
 use Rattle.cable.specs.Played.{adds, answered}
 use Rattle.tape.specs.Answers.{leaves}
-use Rattle.cable.specs.Hearing.{IsNoWant}
 
 -- the entry of an event so answered
 abbrev pub noted : Event → Answer → Entry

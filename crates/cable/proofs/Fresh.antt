@@ -1,6 +1,6 @@
 -- The first frame of a connection.
 use Rattle.std.proofs.lemmas.Grind.{common_steps}
-use Rattle.std.proofs.Common.{◌≡◌, ◌≤◌, ◌<◌, ◌+◌, ◌-◌, ◌&&◌, ℕ, Bool, true, false, is_some, nat_lt, nat_le, List, [], ◌∷◌, ◌++◌, take, Option, Some, None, Result, Ok, Err, OnOk, IfOk, refl, ap, subst, sym, ◌∙◌, arith, append-nil}
+use Rattle.std.proofs.Common.{◌≡◌, ◌≤◌, ◌<◌, ◌+◌, ◌-◌, ◌&&◌, ℕ, Bool, true, false, is_some, nat_lt, nat_le, List, [], ◌∷◌, ◌++◌, take, Option, Some, None, Result, OnOk, IfOk, refl, ap, subst, sym, ◌∙◌, arith, append-nil}
 use Rattle.std.proofs.lemmas.Bool.Decides.{nat_tests}
 use Rattle.std.proofs.lemmas.List.Concat.{flat_map-cons}
 use Rattle.rs_wire.specs.declared.settings.Settings.{Settings}
@@ -9,7 +9,7 @@ use Rattle.rs_frame.specs.Spelling.{Spells, canonical, length_of}
 use Rattle.rs_frame.proofs.Whole.{canonical_spells}
 use Rattle.rs_frame.specs.Framed.{framed, framed_all, framed_frame}
 use Rattle.rs_chunk.specs.Rest.{Rest}
-use Rattle.rs_chunk.specs.Stream.{IsTooLong, IsWhole, first_frame}
+use Rattle.rs_chunk.specs.Stream.{IsWhole, first_frame}
 use Rattle.tape.specs.declared.event.Event.{Event}
 use Rattle.tape.specs.declared.event.Event.TheVariants as event
 use Rattle.tape.specs.declared.entry.Entry.{Entry}

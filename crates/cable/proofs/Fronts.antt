@@ -1,14 +1,13 @@
 -- What stands in front of the bytes that crossed.
 use Rattle.std.proofs.lemmas.Grind.{common_steps}
-use Rattle.std.proofs.Common.{◌≡◌, ◌≤◌, ◌<◌, ◌+◌, ◌-◌, ℕ, Bool, true, false, nat_lt, nat_le, List, [], ◌∷◌, length, take, drop, refl, ap, ◌∙◌, arith, length-append}
+use Rattle.std.proofs.Common.{◌≡◌, ◌≤◌, ◌<◌, ◌+◌, ◌-◌, ℕ, Bool, true, false, nat_lt, nat_le, List, [], ◌∷◌, length, take, drop, refl, ◌∙◌, arith}
 use Rattle.std.proofs.lemmas.Bool.Decides.{nat_tests}
 use Rattle.std.proofs.lemmas.List.{length-take, take-append-drop}
-use Rattle.std.proofs.lemmas.List.Concat.{flat_map-cons}
 use Rattle.rs_frame.specs.declared.frame.Frame.{Frame}
 use Rattle.rs_frame.specs.Spelling.{length_of, canonical, IsSpellable}
-use Rattle.rs_frame.specs.Framed.{framed_all, framed_frame}
+use Rattle.rs_frame.specs.Framed.{framed_all}
 use Rattle.rs_chunk.specs.Stream.{IsTooLong, IsWhole, first_frame, first_length}
-use Rattle.rs_chunk.proofs.Lengths.{length-canonical, length-framed_frame}
+use Rattle.rs_chunk.proofs.Lengths.{length-canonical}
 use Rattle.session_laws.proofs.Framing.{AreSpellable}
 use Rattle.cable.specs.declared.arrival.Arrival.{Arrival}
 use Rattle.cable.specs.declared.arrival.Arrival.TheVariants as arrival

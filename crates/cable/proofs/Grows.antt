@@ -1,6 +1,6 @@
 -- What more entries change of what an end sends, and of what it heard.
 use Rattle.std.proofs.lemmas.Grind.{common_steps}
-use Rattle.std.proofs.Common.{◌≡◌, ◌≢◌, ◌≤◌, ◌==◌, ◌&&◌, ◌||◌, ℕ, suc, Bool, true, false, cond, nat_lt, nat_le, is_none, List, [], ◌∷◌, ◌++◌, length, drop, Option, Some, None, refl, ap, subst, sym, ◌∙◌, arith, append_assoc, append-nil}
+use Rattle.std.proofs.Common.{◌≡◌, ◌≢◌, ◌≤◌, ◌==◌, ◌&&◌, ◌||◌, ℕ, Bool, true, false, cond, nat_lt, nat_le, is_none, List, [], ◌∷◌, ◌++◌, length, drop, Option, Some, None, refl, ap, subst, sym, ◌∙◌, arith, append_assoc, append-nil}
 use Rattle.std.proofs.lemmas.Bool.{eq-eqb, ne_eqb}
 use Rattle.std.proofs.Math.Seq.{drop-append_seam}
 use Rattle.rs_wire.specs.declared.settings.Settings.{Settings}
@@ -11,7 +11,6 @@ use Rattle.tape.specs.declared.event.Event.TheVariants as event
 use Rattle.tape.specs.declared.answer.Answer.{Answer}
 use Rattle.tape.specs.declared.answer.Answer.TheVariants as answer
 use Rattle.tape.specs.declared.entry.Entry.{Entry}
-use Rattle.session_model.specs.Lists.{first_of}
 use Rattle.session_model.specs.Life.{openings, openings_in}
 use Rattle.session_model.specs.Frames.{came, brings, first_bad, bad_in, was_opened, due, owes, drawn}
 use Rattle.session_model.specs.Answers.{answer_to}

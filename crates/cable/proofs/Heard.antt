@@ -1,6 +1,6 @@
 -- What an end hears, arrival by arrival.
 use Rattle.std.proofs.lemmas.Grind.{common_steps}
-use Rattle.std.proofs.Common.{◌≡◌, ◌<◌, ◌+◌, ◌-◌, ◌^◌, ℕ, Bool, true, false, cond, is_none, is_some, List, [], ◌∷◌, ◌++◌, length, take, drop, Option, Some, None, refl, ap, subst, sym, ◌∙◌, arith, append_assoc, append-nil}
+use Rattle.std.proofs.Common.{◌≡◌, ◌+◌, ◌-◌, ℕ, Bool, true, false, cond, is_none, is_some, List, [], ◌∷◌, ◌++◌, take, Option, Some, None, refl, ap, subst, sym, ◌∙◌, arith, append_assoc, append-nil}
 use Rattle.std.proofs.Math.Seq.{drop-append_seam}
 use Rattle.std.proofs.lemmas.List.{append_cancel_left}
 use Rattle.std.proofs.lemmas.List.Concat.{flat_map-cons}
@@ -17,17 +17,16 @@ use Rattle.tape.specs.declared.entry.Entry.{Entry}
 use Rattle.session_model.specs.Life.{openings}
 use Rattle.session_model.specs.Frames.{came, first_bad, was_opened}
 use Rattle.session_model.specs.Answers.{answer_to}
-use Rattle.session_core.specs.Seen.{Seen, IsNoDrawEvent}
-use Rattle.session_model.specs.Legal.{IsFair}
+use Rattle.session_core.specs.Seen.{Seen}
 use Rattle.session_laws.proofs.Framing.{AreSpellable}
 use Rattle.session_model.proofs.Queue.{framed_all-append}
 use Rattle.cable.specs.declared.arrival.Arrival.{Arrival}
 use Rattle.cable.specs.declared.arrival.Arrival.TheVariants as arrival
 use Rattle.cable.specs.Played.{adds, answered, crossed, event_of, hears, takes}
 use Rattle.tape.specs.Answers.{leaves}
-use Rattle.cable.proofs.Following.{adds_none, adds_one}
+use Rattle.cable.proofs.Following.{adds_none}
 use Rattle.cable.specs.declared.hearing.Crossing.{Crossing}
-use Rattle.cable.specs.Hearing.{Ahead, CrossedTo, Crosses, IsHearer, IsNextOf, IsOnly, IsSpelledInFront, too_long}
+use Rattle.cable.specs.Hearing.{Ahead, CrossedTo, IsHearer, IsNextOf, IsOnly, IsSpelledInFront, too_long}
 use Rattle.cable.proofs.Crosses.{behind, last_is_too_long, wholes}
 use Rattle.cable.proofs.Fronts.{front_none, front_too_long, front_whole}
 use Rattle.cable.proofs.Grows.{bad_here, came_here, opened_still, whole_on}

@@ -1,24 +1,20 @@
 -- A connection is opened, at the client and then at the server.
 use Rattle.std.proofs.lemmas.Grind.{common_steps}
-use Rattle.std.proofs.Common.{◌≡◌, ◌≤◌, ◌<◌, ◌+◌, ◌==◌, ◌&&◌, ◌⊎◌, inl, inr, ℕ, suc, Bool, true, false, cond, is_none, List, [], ◌∷◌, ◌++◌, length, Option, Some, None, refl, ap, subst, sym, ◌∙◌, arith}
-use Rattle.std.proofs.lemmas.Bool.Decides.{nat_tests, eqb_tells}
+use Rattle.std.proofs.Common.{◌≡◌, ◌≤◌, ◌<◌, ◌+◌, ◌==◌, ◌⊎◌, ℕ, suc, Bool, true, false, cond, List, [], ◌∷◌, ◌++◌, length, Option, Some, None, refl, ap, subst, sym, ◌∙◌, arith}
+use Rattle.std.proofs.lemmas.Bool.Decides.{nat_tests}
 use Rattle.std.proofs.lemmas.Bool.{eq-eqb, ne_eqb}
 use Rattle.rs_wire.specs.declared.settings.Settings.{Settings}
-use Rattle.rs_wire.specs.declared.fault.Cause.{Cause}
-use Rattle.rs_wire.specs.declared.fault.SetupFault.{SetupFault}
-use Rattle.rs_wire.specs.declared.fault.SetupFault.TheVariants as fault
 use Rattle.rs_frame.specs.declared.frame.Frame.{Frame}
-use Rattle.setup_core.specs.Setup.{setup_fault}
 use Rattle.tape.specs.declared.event.Event.{Event}
 use Rattle.tape.specs.declared.event.Event.TheVariants as event
 use Rattle.tape.specs.declared.answer.Answer.{Answer}
 use Rattle.tape.specs.declared.answer.Answer.TheVariants as answer
 use Rattle.tape.specs.declared.entry.Entry.{Entry}
 use Rattle.session_model.specs.Lists.{first_of}
-use Rattle.session_model.specs.Life.{begun, closed, live, openings, openings_in}
-use Rattle.session_model.specs.Frames.{came, brings, first_bad, bad_in, was_opened, due, drawn}
-use Rattle.session_model.specs.Answers.{answer_to, facts, opened_unless, unless_closed}
-use Rattle.session_model.specs.Joined.{IsOpening, is_accepted, opens_as}
+use Rattle.session_model.specs.Life.{openings, openings_in}
+use Rattle.session_model.specs.Frames.{came, brings, first_bad, bad_in, due, drawn}
+use Rattle.session_model.specs.Answers.{answer_to, facts}
+use Rattle.session_model.specs.Joined.{IsOpening, is_accepted}
 use Rattle.cable.specs.declared.arrival.Arrival.{Arrival}
 use Rattle.cable.specs.declared.arrival.Arrival.TheVariants as arrival
 use Rattle.cable.specs.Played.{There, Ends, Link, Sides, answered, crossed_up, hears_if_accepted, link_of, meets, opened_by, opens, pair_of, there_of, with_client, with_link}

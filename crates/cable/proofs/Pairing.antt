@@ -1,6 +1,6 @@
 -- What was played joins the two ends, opening by opening.
 use Rattle.std.proofs.lemmas.Grind.{common_steps}
-use Rattle.std.proofs.Common.{◌≡◌, ◌≢◌, ◌≤◌, ◌<◌, ◌&&◌, inl, inr, ℕ, true, nat_lt, nat_le, List, [], length, Option, Some, None, refl, ap, subst, sym, ◌∙◌, arith}
+use Rattle.std.proofs.Common.{◌≡◌, ◌≢◌, ◌≤◌, ◌<◌, ◌&&◌, inl, inr, ℕ, true, nat_lt, nat_le, List, [], length, Option, Some, None, refl, subst, sym, ◌∙◌, arith}
 use Rattle.std.proofs.lemmas.Bool.Decides.{nat_tests, eqb_tells}
 use Rattle.rs_wire.specs.declared.settings.Settings.{Settings}
 use Rattle.rs_frame.specs.declared.frame.Frame.{Frame}
@@ -9,7 +9,7 @@ use Rattle.session_model.specs.Life.{openings}
 use Rattle.session_model.specs.Frames.{came, first_bad, was_opened, due, drawn}
 use Rattle.session_model.specs.Joined.{IsOpening, is_accepted}
 use Rattle.cable.specs.Played.{There, Ends, Link, Sides, hears, hears_up, pair_of, with_client, with_server}
-use Rattle.cable.proofs.Crosses.{Heard, heard_more}
+use Rattle.cable.proofs.Crosses.{heard_more}
 use Rattle.cable.proofs.Grows.{Goes, IsHeard, Quiet, Same, Sends, goes_not, hears_heard, hears_on}
 
 -- what the two ends know of a connection

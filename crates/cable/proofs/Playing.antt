@@ -1,21 +1,17 @@
 -- Lines, one after the other.
 use Rattle.std.proofs.lemmas.Grind.{common_steps}
-use Rattle.std.proofs.Common.{suc, zero, drop-cons, ◌≡◌, ◌≤◌, ◌<◌, ◌+◌, ℕ, List, [], ◌∷◌, length, drop, get_or, Result, Ok, Err, OnOk, is_err, None, false, refl, ap, subst, sym, ◌∙◌, arith}
-use Rattle.std.specs.List.{AllByRecursion}
+use Rattle.std.proofs.Common.{◌≡◌, ◌≤◌, ◌<◌, ◌+◌, ℕ, List, [], length, drop, get_or, Result, OnOk, is_err, None, false, refl, ap, subst, sym, ◌∙◌, arith}
 use Rattle.std.proofs.lemmas.List.{drop_all}
 use Rattle.rs_wire.specs.declared.words.Side.TheVariants.{Client, Server}
 use Rattle.rs_wire.specs.declared.words.Side.{Side}
-use Rattle.rs_wire.specs.declared.call.Call.{Call}
 use Rattle.rs_wire.specs.declared.settings.Settings.{Settings}
-use Rattle.rs_wire.specs.Settings.{IsChecked, fault_of, usual}
+use Rattle.rs_wire.specs.Settings.{IsChecked, usual}
 use Rattle.tape.specs.declared.entry.Entry.{Entry}
-use Rattle.session_model.specs.Legal.{Fair, IsAskable, IsPlain, Legal}
+use Rattle.session_model.specs.Legal.{IsPlain}
 use Rattle.session_core.specs.Seen.{Seen}
 use Rattle.session_laws.specs.Ends.{AreEnds}
 use Rattle.cable.specs.declared.line.Line.{Line}
-use Rattle.cable.specs.declared.line.Line.TheVariants as lines
-use Rattle.cable.specs.Line.{IsLine}
-use Rattle.cable.specs.Played.{Ends, Played, PlaysLine, PlaysLines, Sides, begins, nothing, opens, usual_sides}
+use Rattle.cable.specs.Played.{Ends, Played, PlaysLine, PlaysLines, Sides, begins, nothing, usual_sides}
 use Rattle.cable.proofs.Drawing.{same_trans}
 use Rattle.cable.specs.Wires.{At, Keeps, Reaches, Wires, sides_of, IsOfSession}
 

@@ -1,12 +1,11 @@
 -- What a report is made of.
 use Rattle.std.proofs.lemmas.Grind.{common_steps}
-use Rattle.std.proofs.Common.{◌≡◌, ℕ, Bool, true, false, List, [], ◌∷◌, ◌++◌, reverse, Some, None, ap, subst, sym, ◌∙◌, append_assoc, arith}
+use Rattle.std.proofs.Common.{◌≡◌, ℕ, Bool, List, [], ◌∷◌, ◌++◌, reverse, Some, subst, sym, arith}
 use Rattle.std.specs.List.{AllByRecursion}
 use Rattle.std.proofs.lemmas.List.{reverse-append, reverse-reverse}
 use Rattle.rs_wire.specs.declared.words.Side.TheVariants as side
 use Rattle.rs_wire.specs.declared.settings.Settings.{Settings}
 use Rattle.tape.specs.declared.event.Event.{Event}
-use Rattle.tape.specs.declared.event.Event.TheVariants as event
 use Rattle.tape.specs.declared.entry.Entry.{Entry}
 use Rattle.session_core.specs.Seen.{Seen, told_by}
 use Rattle.session_model.specs.Legal.{Fair, IsFair}

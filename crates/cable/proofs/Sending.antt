@@ -1,6 +1,6 @@
 -- What crosses, while both ends go on.
 use Rattle.std.proofs.lemmas.Grind.{common_steps}
-use Rattle.std.proofs.Common.{◌≡◌, ◌≤◌, ℕ, Bool, is_some, List, [], ◌++◌, length, take, ap, sym, ◌∙◌, append_assoc, append-nil, arith}
+use Rattle.std.proofs.Common.{◌≡◌, ◌≤◌, ℕ, Bool, List, [], ◌++◌, length, ap, sym, ◌∙◌, append_assoc, arith}
 use Rattle.std.proofs.lemmas.List.{take-append-le}
 use Rattle.rs_wire.specs.declared.settings.Settings.{Settings}
 use Rattle.rs_frame.specs.declared.frame.Frame.{Frame}
@@ -14,7 +14,7 @@ use Rattle.cable.specs.declared.arrival.Arrival.{Arrival}
 use Rattle.cable.specs.Played.{crossed}
 use Rattle.cable.specs.Hearing.{CrossedTo}
 use Rattle.cable.proofs.Crosses.{crossed_more, wholes}
-use Rattle.cable.proofs.Grows.{Quiet, Sends, opened_still}
+use Rattle.cable.proofs.Grows.{Sends}
 
 -- ---- the sender goes on
 

@@ -1,13 +1,12 @@
 -- The connection of a cable, and the ends that it follows.
 use Rattle.std.proofs.lemmas.Grind.{common_steps}
-use Rattle.std.proofs.Common.{◌≡◌, ◌+◌, ℕ, Bool, true, false, cond, List, [], ◌∷◌, ◌++◌, take, Option, Some, None, refl, ap, subst, sym, ◌∙◌, arith, append-nil}
+use Rattle.std.proofs.Common.{◌≡◌, ◌+◌, ℕ, Bool, false, cond, List, [], ◌∷◌, ◌++◌, Option, Some, None, refl, ap, subst, sym, ◌∙◌, arith, append-nil}
 use Rattle.rs_wire.specs.declared.words.Side.{Side}
 use Rattle.rs_wire.specs.declared.words.Side.TheVariants.{Client, Server}
 use Rattle.rs_wire.specs.declared.settings.Settings.{Settings}
 use Rattle.rs_wire.specs.Settings.{IsChecked}
 use Rattle.rs_wire.specs.declared.call.Call.{Call}
 use Rattle.rs_frame.specs.declared.frame.Frame.{Frame}
-use Rattle.rs_frame.specs.Framed.{framed_all}
 use Rattle.rs_chunk.specs.Rest.{Rest}
 use Rattle.tape.specs.declared.event.Event.{Event}
 use Rattle.tape.specs.declared.event.Event.TheVariants as event
@@ -15,8 +14,8 @@ use Rattle.tape.specs.declared.answer.Answer.{Answer}
 use Rattle.tape.specs.declared.answer.Answer.TheVariants as answer
 use Rattle.tape.specs.declared.entry.Entry.{Entry}
 use Rattle.session_model.specs.Life.{begun, closed, is_live, live, openings}
-use Rattle.session_model.specs.Frames.{drawn, draws, due, given}
-use Rattle.session_model.specs.Legal.{Fair, IsPlain, Legal}
+use Rattle.session_model.specs.Frames.{drawn, due, given}
+use Rattle.session_model.specs.Legal.{IsPlain}
 use Rattle.session_model.specs.Answers.{answer_to, facts}
 use Rattle.session_core.specs.Seen.{Seen}
 use Rattle.session_laws.proofs.Framing.{AreSpellable}
@@ -29,11 +28,11 @@ use Rattle.cable.specs.declared.carrying.Most.{Most}
 use Rattle.cable.specs.declared.hearing.Crossing.{Crossing}
 use Rattle.cable.specs.declared.hearing.Known.{Known}
 use Rattle.cable.specs.declared.hearing.Known.TheVariants as known
-use Rattle.cable.specs.Played.{CarriesUp, Draws, Ends, Link, OnLink, Sides, There, Ups, adds, answered, arrives_up, asks, crossed, crossed_up, hears, hears_if_accepted, hears_up, link_of, meets, nothing, opens, opened_by, there_of, with_client, with_server}
+use Rattle.cable.specs.Played.{CarriesUp, Draws, Ends, Link, OnLink, Sides, There, Ups, adds, answered, arrives_up, asks, crossed, hears_if_accepted, hears_up, meets, nothing, opens, opened_by, there_of, with_client}
 use Rattle.tape.specs.Answers.{leaves}
-use Rattle.cable.specs.Hearing.{Ahead, Carried, CrossedTo, Crosses, IsHearer, IsMet, IsMetBy, Nears, known_of}
+use Rattle.cable.specs.Hearing.{Carried, CrossedTo, Crosses, IsHearer, IsMet, IsMetBy, Nears, known_of}
 use Rattle.cable.specs.Wires.{Arrives, At, Knows, Reaches, ServerAt, WireAt, Wires, sides_of, wire_of, IsOfSession}
-use Rattle.cable.proofs.Grows.{Quiet, Sends, added_quiet, drew_where}
+use Rattle.cable.proofs.Grows.{Sends, added_quiet, drew_where}
 use Rattle.cable.proofs.Opening.{number_is}
 use Rattle.cable.proofs.Sending.{crosses_more, still_given}
 

@@ -1,8 +1,5 @@
-use Rattle.std.proofs.Common.{◌≡◌, length, sym, subst, arith}
-use Rattle.std.proofs.lemmas.List.{length-take}
+use Rattle.std.proofs.Common.{sym, subst}
 use Rattle.rs_frame.specs.Spelling.{Spells}
-use Rattle.rs_chunk.specs.Stream.{first_frame, first_length}
-use Rattle.std.proofs.Common.{drop, ap, ℕ, List}
 use Rattle.cable.proofs.Results.{only_want, same_found}
 use Rattle.cable.proofs.arrival.next.Goals as goal
 

@@ -1,6 +1,3 @@
-use Rattle.std.proofs.Common.{sym, subst}
-use Rattle.session_core.specs.Seen.{IsNoDrawEvent}
-use Rattle.session_model.specs.Legal.{IsFair}
 use Rattle.cable.proofs.Fresh.{opened_so}
 use Rattle.cable.proofs.hearing.open_by.Goals as goal
 

@@ -1,7 +1,5 @@
-use Rattle.std.proofs.Common.{sym, subst, Option, List, OnOk, ◌≡◌, ◌++◌, ◌∙◌}
-use Rattle.tape.specs.declared.entry.Entry.{Entry}
+use Rattle.std.proofs.Common.{sym, subst, ◌∙◌}
 use Rattle.session_model.specs.Legal.{Fair}
-use Rattle.cable.specs.Report.{told_lines}
 use Rattle.cable.proofs.Reporting.{tellable, told_list}
 use Rattle.cable.proofs.reports.put_end_entries.Goals as goal
 
