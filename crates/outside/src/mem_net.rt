@@ -201,8 +201,11 @@ impl Net for MemNet {
         ensures faults { self.new.faults ≡ self.old.faults }
 
         // The link itself is put back, and nothing else changes.
-        ensures itself { self.new ≡ record self.old { back = self.old.back ++ link ∷
-            []; out = self.old.out - 1 } }
+        ensures itself { self.new ≡ record self.old {
+          back = self.old.back ++ link ∷
+              [];
+          out = self.old.out - 1;
+        } }
     {
         self.back.push_reserved(link);
         self.out -= 1;
