@@ -9,8 +9,10 @@ use Rattle.rs_wire.specs.declared.fault.Gone.TheVariants as gone
 
 -- the word of a rule of the protocol
 abbrev pub rule_word : Rule → List ℕ
+rule_word (rule.UnknownType number) = codes "unknown-type"
 rule_word rule.NotNow = codes "not-now"
 rule_word (rule.StreamId stream) = codes "stream-id"
+rule_word (rule.OverCredit granted) = codes "over-credit"
 rule_word (rule.TooLarge size) = codes "too-large"
 rule_word rule.PositionSpent = codes "position-spent"
 rule_word (rule.BadFrame number) = codes "bad-frame"

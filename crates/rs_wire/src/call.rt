@@ -1,7 +1,7 @@
 //! What a caller asks of a session.
 
 ghost use Rattle.std.specs.Prelude.{◌≡◌, IfOk};
-ghost use Rattle.rs_wire.specs.Calls.{fire_and_forget};
+ghost use Rattle.rs_wire.specs.Calls.{fire_and_forget, is_stream_code};
 
 use crate::amount::Amount;
 use crate::blob::Blob;
@@ -25,6 +25,60 @@ pub enum Call {
         /// The requester sends nothing more: true only for a channel.
         complete: bool,
     },
+    /// Sends a payload on a stream (RSocket 1.0, "PAYLOAD Frame"): an item of a stream or a channel,
+    /// or the one response.
+    Next {
+        /// The stream.
+        stream: u32,
+        /// What the payload carries.
+        message: Message,
+        /// This end sends nothing more on the stream.
+        complete: bool,
+    },
+    /// Sends nothing more on a stream, and no payload with it.
+    Done {
+        /// The stream.
+        stream: u32,
+    },
+    /// Lets the peer send more items on a stream (RSocket 1.0, "REQUEST_N Frame").
+    Grant {
+        /// The stream.
+        stream: u32,
+        /// How many more.
+        n: Amount,
+    },
+    /// Wants nothing more of a stream: the requester ends it, the responder of a channel ends what the
+    /// requester sends (RSocket 1.0, "CANCEL Frame").
+    Cancel {
+        /// The stream.
+        stream: u32,
+    },
+    /// Ends a stream by an error (RSocket 1.0, "ERROR Frame").
+    Fail {
+        /// The stream.
+        stream: u32,
+        /// The error code, for which [`is_stream_code`] is true.
+        code: u32,
+        /// What the error says.
+        content: Blob,
+    },
+    /// Takes what was delivered on a stream and waits, the oldest first. It sends nothing.
+    Take {
+        /// The stream.
+        stream: u32,
+    },
+    /// Takes a request of the peer's that waits, the oldest first. It sends nothing.
+    TakeJob,
+    /// Closes the session (RSocket 1.0, "ERROR Frame", CONNECTION_ERROR).
+    Close,
+}
+
+/// Whether an ERROR on a stream may have that code: 0x201 to 0x204, and 0x301 to 0xFFFFFFFE, which are
+/// left to applications (RSocket 1.0, "Error Codes").
+pub fn is_stream_code(code: u32) -> bool
+    ensures { result ≡ is_stream_code code }
+{
+    (0x201..=0x204).contains(&code) || (0x301..=0xFFFF_FFFE).contains(&code)
 }
 
 impl Call {
@@ -47,18 +101,45 @@ impl Call {
     pub fn copy(&self, alloc: Global) -> Result<Call, OutOfMemory>
         ensures { IfOk result (λ c. c ≡ self.now) }
     {
-        match self {
+        Ok(match self {
             Call::Request {
                 kind,
                 initial,
                 message,
                 complete,
-            } => Ok(Call::Request {
+            } => Call::Request {
                 kind: *kind,
                 initial: *initial,
                 message: message.copy(alloc)?,
                 complete: *complete,
-            }),
-        }
+            },
+            Call::Next {
+                stream,
+                message,
+                complete,
+            } => Call::Next {
+                stream: *stream,
+                message: message.copy(alloc)?,
+                complete: *complete,
+            },
+            Call::Done { stream } => Call::Done { stream: *stream },
+            Call::Grant { stream, n } => Call::Grant {
+                stream: *stream,
+                n: *n,
+            },
+            Call::Cancel { stream } => Call::Cancel { stream: *stream },
+            Call::Fail {
+                stream,
+                code,
+                content,
+            } => Call::Fail {
+                stream: *stream,
+                code: *code,
+                content: content.copy(alloc)?,
+            },
+            Call::Take { stream } => Call::Take { stream: *stream },
+            Call::TakeJob => Call::TakeJob,
+            Call::Close => Call::Close,
+        })
     }
 }

@@ -11,13 +11,30 @@ pub enum Refusal {
     /// The session is closed, for this cause.
     #[error("the session is closed: {0}")]
     Closed(Cause),
+    /// The stream id is 0, or above every id that was used (RSocket 1.0, "Stream Identifiers").
+    #[error("there is no stream of that id yet")]
+    UnknownStream,
+    /// The stream is over, or the way that the call names is, or there was no stream of that id and there
+    /// will be none.
+    #[error("the stream is over")]
+    Ended,
+    /// The stream has no such way: who asks a response sends nothing more, and nobody grants it items.
+    #[error("the stream has no such way")]
+    WrongKind,
     /// The message has this many bytes, more than the settings allow.
     #[error("the message has {0} bytes, more than the settings allow")]
     TooLarge(u64),
+    /// All of the items that were granted, of which it carries the number, are sent (RSocket 1.0,
+    /// "REQUEST_N Frame").
+    #[error("all of the {0} items that were granted are sent")]
+    NoCredit(u128),
     /// Every stream id of this end that the settings allow is used (RSocket 1.0, "Stream
     /// Identifiers").
     #[error("every stream id of this end is used")]
     IdsGone,
+    /// As many streams as the settings allow, which is this number, are not over.
+    #[error("{0} streams are open, as many as the settings allow")]
+    TooManyStreams(u32),
     /// The session is not begun, so there is nothing to send on.
     #[error("the session has no connection yet")]
     NotConnected,
@@ -32,6 +49,10 @@ pub enum Refusal {
 /// The rule of the protocol that what came breaks. The session is closed by it.
 #[derive(Clone, Copy, Debug, PartialEq, Eq, Error)]
 pub enum Rule {
+    /// A frame of a type that this end does not know, which it carries, and that may not be ignored
+    /// (RSocket 1.0, "Frame Header Format").
+    #[error("a frame came of type {0}, which is unknown")]
+    UnknownType(u8),
     /// A frame that may not come now, or that this end does not know yet.
     #[error("a frame came that may not come now")]
     NotNow,
@@ -39,6 +60,10 @@ pub enum Rule {
     /// highest (RSocket 1.0, "Stream Identifiers").
     #[error("a request came on stream {0}, which is not the peer's next")]
     StreamId(u32),
+    /// An item came that was not granted. The number is how many were granted (RSocket 1.0, "REQUEST_N
+    /// Frame").
+    #[error("an item came after all of the {0} that were granted")]
+    OverCredit(u128),
     /// A message has this many bytes, more than the settings allow.
     #[error("a message came of {0} bytes, more than the settings allow")]
     TooLarge(u64),
@@ -57,8 +82,10 @@ impl Rule {
         ensures { result.now ≡ rule_word self }
     {
         match self {
+            Rule::UnknownType(_) => "unknown-type",
             Rule::NotNow => "not-now",
             Rule::StreamId(_) => "stream-id",
+            Rule::OverCredit(_) => "over-credit",
             Rule::TooLarge(_) => "too-large",
             Rule::PositionSpent => "position-spent",
             Rule::BadFrame(_) => "bad-frame",
@@ -144,9 +171,18 @@ impl Gone {
 /// Why a session is closed.
 #[derive(Clone, Copy, Debug, PartialEq, Eq, Error)]
 pub enum Cause {
+    /// A caller closed it.
+    #[error("a caller closed it")]
+    Local,
+    /// The peer closed it by an ERROR of this code (RSocket 1.0, "Error Codes").
+    #[error("the peer closed it by error {0}")]
+    Peer(u32),
     /// The peer broke a rule.
     #[error("the peer broke a rule: {0}")]
     Broken(Rule),
+    /// The connection was cut, and resumption was not agreed.
+    #[error("the connection was cut")]
+    Cut,
     /// The first frame was refused.
     #[error("the first frame was refused: {0}")]
     Setup(SetupFault),

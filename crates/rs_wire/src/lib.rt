@@ -8,6 +8,7 @@
 mod amount;
 mod blob;
 mod call;
+mod delivery;
 mod fault;
 mod memory;
 mod message;
@@ -16,12 +17,13 @@ mod words;
 
 pub use amount::Amount;
 pub use blob::Blob;
-pub use call::Call;
+pub use call::{Call, is_stream_code};
+pub use delivery::{Delivery, Job};
 pub use fault::{Cause, Gone, Refusal, Rule, SetupFault};
 pub use memory::OutOfMemory;
 pub use message::Message;
 pub use settings::{Checked, Limit, SettingFault, Settings, check};
-pub use words::{Kind, Side, Way};
+pub use words::{Kind, Role, Side, Way};
 
 #[cfg(test)]
 mod tests;

@@ -1,4 +1,4 @@
-//! The words for the two ends, for the two ways of a stream, and for the kinds of streams.
+//! The words for the two ends, for the two ways of a stream, its kinds and the parts of its ends.
 
 /// An end of a session. The client opened the connection (RSocket 1.0, "Terminology").
 #[derive(Clone, Copy, Debug, PartialEq, Eq)]
@@ -29,4 +29,13 @@ pub enum Kind {
     Stream,
     /// Streams of payloads in both directions.
     Channel,
+}
+
+/// The part of an end in a stream (RSocket 1.0, "Terminology").
+#[derive(Clone, Copy, Debug, PartialEq, Eq)]
+pub enum Role {
+    /// The end that made the request.
+    Requester,
+    /// The end that answers it.
+    Responder,
 }

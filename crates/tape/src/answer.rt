@@ -3,7 +3,7 @@
 ghost use Rattle.std.specs.Prelude.{◌≡◌, IfOk};
 ghost use Rattle.tape.specs.Answers.{drawn_by, is_out_of_memory, leaves};
 
-use rs_wire::{Cause, OutOfMemory, Refusal, Rule, SetupFault};
+use rs_wire::{Cause, Delivery, Job, OutOfMemory, Refusal, Rule, SetupFault};
 use std::alloc::Global;
 
 /// What a session answers to an event. `NotYet`, `OutBusy`, `TapeFull` and `OutOfMemory` change
@@ -14,10 +14,21 @@ pub enum Answer {
     Opened(u64),
     /// The request is made, on the stream of this id.
     Started(u32),
+    /// The call is done.
+    Done,
+    /// What was delivered on the stream, the oldest that waited.
+    Got(Delivery),
+    /// What the peer asked, the oldest that waited.
+    GotJob(Job),
     /// This many bytes were drawn, at least 1.
     Drawn(u32),
+    /// The connection is parted, and what was queued on it is gone. Without resumption the session is
+    /// closed.
+    Parted,
     /// The frame is handled.
     Handled,
+    /// The peer closed the session by an ERROR of this code.
+    PeerError(u32),
     /// The peer broke this rule, and the session is closed.
     Violation(Rule),
     /// The first frame is refused. A session that was not begun is closed.
@@ -70,14 +81,19 @@ impl Answer {
     }
 
     /// The same answer again.
-    pub fn copy(&self, _alloc: Global) -> Result<Answer, OutOfMemory>
+    pub fn copy(&self, alloc: Global) -> Result<Answer, OutOfMemory>
         ensures { IfOk result (λ a. a ≡ self.now) }
     {
         Ok(match self {
             Answer::Opened(number) => Answer::Opened(*number),
             Answer::Started(id) => Answer::Started(*id),
+            Answer::Done => Answer::Done,
+            Answer::Got(delivery) => Answer::Got(delivery.copy(alloc)?),
+            Answer::GotJob(job) => Answer::GotJob(job.copy(alloc)?),
             Answer::Drawn(count) => Answer::Drawn(*count),
+            Answer::Parted => Answer::Parted,
             Answer::Handled => Answer::Handled,
+            Answer::PeerError(code) => Answer::PeerError(*code),
             Answer::Violation(rule) => Answer::Violation(*rule),
             Answer::SetupRefused(fault) => Answer::SetupRefused(*fault),
             Answer::Stale(conn) => Answer::Stale(*conn),
