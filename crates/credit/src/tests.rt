@@ -1,0 +1,17 @@
+use super::*;
+use std::test::Fail;
+
+#[test]
+fn two_are_granted_two_are_used_and_one_more_is_granted(rt: HostRuntime) -> Result<(), Fail> {
+    let two = Amount::of(2).ok_or("no amount")?;
+    let one = Amount::of(1).ok_or("no amount")?;
+    let mut credit = Credit::new();
+    assert_eq!(rt; credit.left(), 0);
+    credit.grant(two);
+    credit.use_one();
+    credit.use_one();
+    assert_eq!(rt; (credit.granted(), credit.left()), (2, 0));
+    credit.grant(one);
+    assert_eq!(rt; (credit.granted(), credit.left()), (3, 1));
+    Ok(())
+}

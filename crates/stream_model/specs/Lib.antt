@@ -1,0 +1,9 @@
+pub mod Marks
+pub mod Turns
+pub mod Streams
+pub mod Kept
+pub mod Known
+pub mod Refused
+pub mod Arriving
+pub mod Fair
+pub mod Laws
