@@ -1,3 +1,9 @@
 pub mod Words
 pub mod Ends
 pub mod Jobs
+pub mod Streams
+pub mod Counts
+pub mod Ids
+pub mod Live
+pub mod Keeping
+pub mod ForGood
