@@ -78,7 +78,7 @@ fresh most (m ∷ seen) s h = fresh_step most seen s m (ltb (live most seen) mos
 pub none_above : (most : ℕ) (seen : List Mark) (s : ℕ) → top seen < s → turn most seen s ≡ None
 none_above most seen s above = fresh most seen s (above_top seen s above)
 
-same_id : (s : ℕ) → (s == s) ≡ true
+pub same_id : (s : ℕ) → (s == s) ≡ true
 same_id s = grind (arith, nat_tests)
 
 -- ---- a mark changes one stream at most

@@ -7,3 +7,7 @@ pub mod Ids
 pub mod Live
 pub mod Keeping
 pub mod ForGood
+pub mod Response
+pub mod Granted
+pub mod Places
+pub mod Lawful

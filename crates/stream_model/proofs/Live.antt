@@ -10,25 +10,26 @@ use Rattle.stream_model.proofs.Ids.{is_opening, top_said, top_opens, fresh, none
 
 -- of an open stream the id is from 1 to the highest
 between : (most : ℕ) (seen : List Mark) (s : ℕ) (t : Turn) → Fair most seen → turn most seen s ≡ Some t → (0 < s) × (s ≤ top seen)
-between most seen s t h is =
-    (elim (s == 0) as (λ v. (s == 0) ≡ v → 0 < s) [
-      | true ↦ λ zero. let z : s ≡ 0 = grind (arith, nat_tests) in let none : turn most seen s ≡ None = subst (λ k. turn most seen k ≡ None) (sym z) (no_zero most seen h) in absurd (cc)
-      | false ↦ λ some. grind (arith, nat_tests)
-    ] refl,
-    elim (ltb (top seen) s) as (λ v. ltb (top seen) s ≡ v → s ≤ top seen) [
-      | true ↦ λ above. let none : turn most seen s ≡ None = none_above most seen s (grind (arith, nat_tests)) in absurd (cc)
-      | false ↦ λ below. grind (arith, nat_tests)
-    ] refl)
+between most seen s t h is = (
+  elim (s == 0) as (λ v. (s == 0) ≡ v → 0 < s) [
+    | true ↦ λ zero. let z : s ≡ 0 = grind (arith, nat_tests) in let none : turn most seen s ≡ None = subst (λ k. turn most seen k ≡ None) (sym z) (no_zero most seen h) in absurd (cc)
+    | false ↦ λ some. grind (arith, nat_tests)
+  ] refl,
+  elim (ltb (top seen) s) as (λ v. ltb (top seen) s ≡ v → s ≤ top seen) [
+    | true ↦ λ above. let none : turn most seen s ≡ None = none_above most seen s (grind (arith, nat_tests)) in absurd (cc)
+    | false ↦ λ below. grind (arith, nat_tests)
+  ] refl,
+)
 
 live_on : (most : ℕ) (seen : List Mark) (m : Mark) (s : ℕ) (before : Option Turn) → turn most seen s ≡ before → Fair most seen → on s m ≡ true → is_opening m ≡ false
     → count_to (top seen) (λ q. is_live (turn most (m ∷ seen) q)) + one_if (is_live (turn most seen s)) ≡ live most seen + one_if (is_live (turn most (m ∷ seen) s))
 live_on most seen m s None is h here none =
     let gone : turn most (m ∷ seen) s ≡ None = still_none most seen m s none is in
     let same = count_same (top seen) (λ q. is_live (turn most seen q)) (λ q. is_live (turn most (m ∷ seen) q))
-        (λ q le. elim (s == q) as (λ v. (s == q) ≡ v → is_live (turn most (m ∷ seen) q) ≡ is_live (turn most seen q)) [
-          | true ↦ λ e. let k : s ≡ q = grind (arith, nat_tests) in subst (λ q. is_live (turn most (m ∷ seen) q) ≡ is_live (turn most seen q)) k (ap is_live (gone ∙ sym is))
-          | false ↦ λ apart. ap is_live (others_stay most seen m s q here apart)
-        ] refl) in
+    (λ q le. elim (s == q) as (λ v. (s == q) ≡ v → is_live (turn most (m ∷ seen) q) ≡ is_live (turn most seen q)) [
+      | true ↦ λ e. let k : s ≡ q = grind (arith, nat_tests) in subst (λ q. is_live (turn most (m ∷ seen) q) ≡ is_live (turn most seen q)) k (ap is_live (gone ∙ sym is))
+      | false ↦ λ apart. ap is_live (others_stay most seen m s q here apart)
+    ] refl) in
     rw (is, gone) (ap (λ n. n + 0) same)
 live_on most seen m s (Some t) is h here none =
     let b = between most seen s t h is in

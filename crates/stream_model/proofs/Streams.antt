@@ -16,7 +16,7 @@ unfolding FairWords
 fair_on None word h f = tt
 fair_on (Some t) word h f = (h, f)
 
-fits_here : (most : ℕ) (seen : List Mark) (q s : ℕ) → (q == s) ≡ true → (word : Role → Word) → FitsTurn (turn most seen q) word → FitsTurn (turn most seen s) word
+pub fits_here : (most : ℕ) (seen : List Mark) (q s : ℕ) → (q == s) ≡ true → (word : Role → Word) → FitsTurn (turn most seen q) word → FitsTurn (turn most seen s) word
 fits_here most seen q s is word f = let same : q ≡ s = grind (arith, nat_tests) in subst (λ k. FitsTurn (turn most seen k) word) same f
 
 -- a mark on this very stream
