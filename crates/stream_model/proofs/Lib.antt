@@ -11,3 +11,4 @@ pub mod Response
 pub mod Granted
 pub mod Places
 pub mod Lawful
+pub mod Steps
