@@ -12,3 +12,4 @@ pub mod Granted
 pub mod Places
 pub mod Lawful
 pub mod Steps
+pub mod Rows
