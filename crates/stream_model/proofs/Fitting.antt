@@ -1,5 +1,5 @@
 -- What is not refused, and what breaks no rule, fits the marks before it.
-use Rattle.std.proofs.Common.{◌≡◌, ◌≤◌, ◌<◌, ◌+◌, ◌-◌, ◌*◌, ◌^◌, ◌%◌, ◌==◌, ◌&&◌, ◌||◌, ◌⊎◌, inl, inr, not, ℕ, Bool, true, false, cond, max, List, [], ◌∷◌, ◌++◌, length, Option, Some, None, IsSome, ltb, refl, ap, subst, sym, ◌∙◌, arith}
+use Rattle.std.proofs.Common.{◌≡◌, ◌≤◌, ◌<◌, ◌+◌, ◌-◌, ◌*◌, ◌^◌, ◌%◌, ◌==◌, ◌&&◌, ◌||◌, ◌⊎◌, inl, inr, not, ℕ, Bool, true, false, cond, max, List, [], ◌∷◌, ◌++◌, length, Option, Some, None, IsSome, is_some, ltb, refl, ap, subst, sym, ◌∙◌, arith}
 use Rattle.std.proofs.lemmas.Bool.Decides.{nat_tests}
 use Rattle.std.specs.Option.{option_or}
 use Rattle.rs_wire.specs.declared.words.Kind.{Kind}
@@ -16,21 +16,24 @@ use Rattle.rs_wire.specs.declared.fault.Refusal.TheVariants as refusal
 use Rattle.rs_wire.specs.declared.call.Call.{Call}
 use Rattle.rs_wire.specs.declared.call.Call.TheVariants as call
 use Rattle.credit.specs.declared.Credit.{Credit}
+use Rattle.stream_model.specs.declared.arrival.Arrival.{Arrival}
+use Rattle.stream_model.specs.declared.arrival.Arrival.TheVariants as arrival
+use Rattle.stream_model.specs.declared.arrival.Effect.{Effect}
+use Rattle.stream_model.specs.declared.arrival.Effect.TheVariants as effect
 use Rattle.stream_model.specs.declared.stream.Limits.{Limits}
 use Rattle.stream_model.specs.declared.stream.Stream.{Stream as Kept}
 use Rattle.stream_model.specs.Marks.{Opening, Step, Payload, RequestN, Cancel, Fail, Mark, Opens, Sent, Got}
 use Rattle.stream_model.specs.Turns.{Turn, Word, Said, carries, needs_credit, is_fnf, inbound, other, item_in, over, used, granted}
 use Rattle.stream_model.specs.Streams.{turn, live, highest, higher}
 use Rattle.stream_model.specs.Kept.{stream_of, kept}
-use Rattle.stream_model.specs.Known.{Known, known, next_id, id_after, highest_at, over_at, credit_at}
+use Rattle.stream_model.specs.Known.{Known, known, next_id, id_after, highest_at, is_peers_next, is_own_parity, other_side, over_at, credit_at}
 use Rattle.stream_model.specs.Refused.{credit_refused, outbound_credit, by_state, by_credit, by_ids, by_live, refused_by}
-use Rattle.stream_model.specs.Arriving.{ours, theirs, no_message, said, heard, or_zero, over_credit, over_credit_on, effect_by, MayGrant}
+use Rattle.stream_model.specs.Arriving.{ours, theirs, no_message, said, heard, or_zero, over_credit, over_credit_on, asked_effect, used_unless, message_effect, effect_by}
 use Rattle.stream_model.specs.Fair.{Fair, Fits, FairWords}
 use Rattle.stream_model.proofs.Words.{used_within}
 use Rattle.stream_model.proofs.Streams.{fair_words}
 use Rattle.stream_model.proofs.Keeping.{live_turn}
 use Rattle.stream_model.proofs.Steps.{Credited, credit_is, sent_fits, got_fits}
-use Rattle.stream_model.proofs.Granted.{AtMost, granted_at_most}
 use Rattle.stream_model.proofs.Places.{live_within}
 
 -- ---- ids
@@ -251,3 +254,39 @@ said_fair most seen l (call.Grant s k) h same n none = fair_and most seen (Sent 
 said_fair most seen l (call.Cancel s) h same n none = fair_and most seen (Sent s Cancel) h (sent_fits most seen s Cancel tt (λ f is. cancel_credited f f.role))
 said_fair most seen l (call.Fail s code content) h same n none = fair_and most seen (Sent s (Fail code content)) h (sent_fits most seen s (Fail code content) tt (λ f is. fail_credited f f.role code content))
 said_fair most seen l c h same n none = h
+
+abbrev pub ArrivalHasAmounts : Arrival → Type 0
+ArrivalHasAmounts (arrival.Asked s kind initial whole) = or_zero initial < 2 ^ 31
+ArrivalHasAmounts (arrival.Granted s n) = n < 2 ^ 31
+ArrivalHasAmounts a = Unit {0}
+
+-- an effect that is counted
+abbrev pub IsCounted : Effect → Type 0
+IsCounted (effect.Broken rule) = ⊥
+IsCounted e = Unit {0}
+
+next_counted : (is_next room fnf whole : Bool) (s : ℕ) → IsCounted (asked_effect is_next room fnf whole s) → is_next ≡ true
+next_counted true room fnf whole s h = refl
+next_counted false room fnf whole s h = absurd (h)
+
+used_counted : (o : Option ℕ) → IsCounted (used_unless o) → o ≡ None
+used_counted None h = refl
+used_counted (Some n) h = absurd (h)
+
+message_counted : (k : Option Kept) (next : Bool) → IsCounted (message_effect k next) → over_credit_on k next ≡ None
+message_counted None next h = refl
+message_counted (Some f) next h = used_counted (over_credit f next) h
+
+peers_above : (t : Known) (side : Side) (s : ℕ) → is_peers_next side t s ≡ true → highest_at t s < s
+peers_above t side s is = let above : ltb (highest_at t s) s ≡ true = (both_are (is_own_parity (other_side side) s) (ltb (highest_at t s) s) is).1 in grind (arith, nat_tests)
+
+-- what the peer says and breaks no rule by
+pub heard_fair : (most : ℕ) (seen : List Mark) (l : Limits) (a : Arrival) → Fair most seen → ArrivalHasAmounts a → IsCounted (effect_by l (known most seen) a) → Fair most (heard a ∷ seen)
+unfolding known
+heard_fair most seen l (arrival.Asked s kind initial whole) h n counted =
+    fair_and most seen (Opens s (theirs kind initial whole)) h
+    (asked_fits most seen s kind initial whole n (peers_above (known most seen) l.side s (next_counted (is_peers_next l.side (known most seen) s) (ltb (live most seen) l.max_streams) (is_fnf kind) (is_some whole) s counted)))
+heard_fair most seen l (arrival.Whole s m complete next) h n counted = fair_and most seen (Got s (Payload m complete next)) h (whole_fits most seen s m complete next (message_counted (kept (turn most seen s)) next counted))
+heard_fair most seen l (arrival.Granted s k) h n counted = fair_and most seen (Got s (RequestN k)) h (got_fits most seen s (RequestN k) n (λ f is. grant_credited f (other f.role) k))
+heard_fair most seen l (arrival.Canceled s) h n counted = fair_and most seen (Got s Cancel) h (got_fits most seen s Cancel tt (λ f is. cancel_credited f (other f.role)))
+heard_fair most seen l (arrival.Failed s code content) h n counted = fair_and most seen (Got s (Fail code content)) h (got_fits most seen s (Fail code content) tt (λ f is. fail_credited f (other f.role) code content))

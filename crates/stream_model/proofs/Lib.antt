@@ -14,3 +14,4 @@ pub mod Lawful
 pub mod Steps
 pub mod Rows
 pub mod Fitting
+pub mod Credits
