@@ -15,3 +15,4 @@ pub mod Steps
 pub mod Rows
 pub mod Fitting
 pub mod Credits
+pub mod Delivered
