@@ -1,5 +1,5 @@
 -- What is delivered are the items of the way that this end receives, and then its end.
-use Rattle.std.proofs.Common.{◌≡◌, ◌&&◌, ◌||◌, ℕ, Bool, true, false, not, cond, List, [], ◌∷◌, ◌++◌, length, drop, Option, Some, None, option_to_list, refl, ap, subst, sym, ◌∙◌, append-nil, append_assoc}
+use Rattle.std.proofs.Common.{◌≡◌, ◌&&◌, ◌||◌, Bool, true, false, not, cond, List, [], ◌∷◌, ◌++◌, Option, Some, None, option_to_list, refl, ap, subst, sym, ◌∙◌, append-nil}
 use Rattle.rs_wire.specs.declared.words.Kind.{Kind}
 use Rattle.rs_wire.specs.declared.words.Kind.TheVariants.{Response, Fnf, Stream, Channel}
 use Rattle.rs_wire.specs.declared.words.Role.{Role}
@@ -10,10 +10,10 @@ use Rattle.rs_wire.specs.declared.message.Message.{Message}
 use Rattle.rs_wire.specs.declared.delivery.Delivery.{Delivery}
 use Rattle.rs_wire.specs.declared.delivery.Delivery.TheVariants as delivery
 use Rattle.stream_model.specs.Marks.{Opening, Step, Payload, RequestN, Cancel, Fail}
-use Rattle.stream_model.specs.Turns.{Word, Said, Taken, carries, is_fnf, is_channel, is_role, other, inbound, over, ends, opening_ends, end_of, is_whole, item_in, item_next, item_deliveries, items, brings, delivered, delivered_first, taken, waiting}
+use Rattle.stream_model.specs.Turns.{Word, Said, Taken, carries, is_fnf, is_channel, is_role, other, inbound, over, ends, opening_ends, end_of, is_whole, item_in, item_deliveries, items, brings, delivered, taken, waiting}
 use Rattle.stream_model.specs.Laws.{is_end}
 use Rattle.stream_model.specs.Fair.{FairWords}
-use Rattle.stream_model.proofs.Words.{waits_said, waiting_said, waiting_taken}
+use Rattle.stream_model.proofs.Words.{waits_said, waiting_said}
 
 -- an own word ended the way that this end receives
 abbrev pub ends_own : Opening → List Word → Word → Bool

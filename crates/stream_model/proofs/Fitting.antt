@@ -1,5 +1,5 @@
 -- What is not refused, and what breaks no rule, fits the marks before it.
-use Rattle.std.proofs.Common.{◌≡◌, ◌≤◌, ◌<◌, ◌+◌, ◌-◌, ◌*◌, ◌^◌, ◌%◌, ◌==◌, ◌&&◌, ◌||◌, ◌⊎◌, inl, inr, not, ℕ, Bool, true, false, cond, max, List, [], ◌∷◌, ◌++◌, length, Option, Some, None, IsSome, is_some, ltb, refl, ap, subst, sym, ◌∙◌, arith}
+use Rattle.std.proofs.Common.{◌≡◌, ◌≤◌, ◌<◌, ◌+◌, ◌-◌, ◌^◌, ◌%◌, ◌==◌, ◌&&◌, ◌⊎◌, inl, inr, not, ℕ, Bool, true, false, cond, max, List, [], ◌∷◌, ◌++◌, Option, Some, None, IsSome, is_some, ltb, refl, ap, subst, sym, ◌∙◌, arith}
 use Rattle.std.proofs.lemmas.Bool.Decides.{nat_tests}
 use Rattle.std.specs.Option.{option_or}
 use Rattle.rs_wire.specs.declared.words.Kind.{Kind}
@@ -22,8 +22,8 @@ use Rattle.stream_model.specs.declared.arrival.Effect.{Effect}
 use Rattle.stream_model.specs.declared.arrival.Effect.TheVariants as effect
 use Rattle.stream_model.specs.declared.stream.Limits.{Limits}
 use Rattle.stream_model.specs.declared.stream.Stream.{Stream as Kept}
-use Rattle.stream_model.specs.Marks.{Opening, Step, Payload, RequestN, Cancel, Fail, Mark, Opens, Sent, Got}
-use Rattle.stream_model.specs.Turns.{Turn, Word, Said, carries, needs_credit, is_fnf, inbound, other, item_in, over, used, granted}
+use Rattle.stream_model.specs.Marks.{Opening, Payload, RequestN, Cancel, Fail, Mark, Opens, Sent, Got}
+use Rattle.stream_model.specs.Turns.{Word, carries, needs_credit, is_fnf, inbound, other, over}
 use Rattle.stream_model.specs.Streams.{turn, live, highest, higher}
 use Rattle.stream_model.specs.Kept.{stream_of, kept}
 use Rattle.stream_model.specs.Known.{Known, known, next_id, id_after, highest_at, is_peers_next, is_own_parity, other_side, over_at, credit_at}

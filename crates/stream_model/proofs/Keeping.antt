@@ -1,5 +1,5 @@
 -- What is kept of a stream goes on, word by word, to be what the definitions say.
-use Rattle.std.proofs.Common.{◌≡◌, ◌<◌, ◌%◌, ◌+◌, ◌&&◌, ◌||◌, ◌==◌, ℕ, Bool, true, false, not, cond, List, [], ◌∷◌, length, Option, Some, None, is_some, option_to_list, refl, ap, subst, sym, ◌∙◌, length-append, arith, ltb, IsSome}
+use Rattle.std.proofs.Common.{◌≡◌, ◌<◌, ◌%◌, ◌+◌, ◌&&◌, ◌||◌, ℕ, Bool, true, false, not, cond, List, [], ◌∷◌, length, Option, Some, None, is_some, option_to_list, refl, ap, ◌∙◌, length-append, arith}
 use Rattle.rs_wire.specs.declared.words.Kind.{Kind}
 use Rattle.rs_wire.specs.declared.words.Role.{Role}
 use Rattle.rs_wire.specs.declared.words.Way.{Way}
@@ -8,10 +8,10 @@ use Rattle.rs_wire.specs.declared.message.Message.{Message}
 use Rattle.rs_wire.specs.declared.delivery.Delivery.{Delivery}
 use Rattle.credit.specs.declared.Credit.{Credit}
 use Rattle.stream_model.specs.declared.stream.Stream.{Stream}
-use Rattle.stream_model.specs.Marks.{Opening, Step, Payload, RequestN, Cancel, Fail, Mark, Opens, Sent, Got, Took}
-use Rattle.stream_model.specs.Turns.{Turn, Word, Said, Taken, carries, needs_credit, over, is_over, ends, is_whole, item_next, items, used, granted, grants, other}
+use Rattle.stream_model.specs.Marks.{Opening, Step, Payload, Mark, Opens, Sent, Got, Took}
+use Rattle.stream_model.specs.Turns.{Turn, Word, Said, Taken, carries, needs_credit, over, is_over, ends, is_whole, item_next, items, used, granted, other}
 use Rattle.stream_model.specs.Streams.{turn, highest, goes_on, is_admitted, is_live, has_room, one_if}
-use Rattle.stream_model.specs.Kept.{stream_of, credit_of, credit_after, kept, first, after, kept_after, items_in, is_done, unless_done}
+use Rattle.stream_model.specs.Kept.{stream_of, credit_of, credit_after, kept, first, after, kept_after, items_in, unless_done}
 use Rattle.stream_model.proofs.Ids.{turn_opened, turn_sent, turn_got, turn_took}
 
 -- ---- one stream

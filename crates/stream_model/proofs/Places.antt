@@ -1,5 +1,5 @@
 -- No more streams are open than may be.
-use Rattle.std.proofs.Common.{◌≡◌, ◌≤◌, ◌<◌, ◌+◌, ◌%◌, ◌==◌, ◌&&◌, ◌||◌, ℕ, Bool, true, false, not, cond, List, [], ◌∷◌, Option, Some, None, IsSome, is_some, refl, ap, subst, sym, ◌∙◌, arith, ltb}
+use Rattle.std.proofs.Common.{◌≡◌, ◌≤◌, ◌<◌, ◌+◌, ◌&&◌, ◌||◌, ℕ, Bool, true, false, not, cond, List, [], ◌∷◌, Option, Some, None, IsSome, is_some, refl, arith}
 use Rattle.std.proofs.lemmas.Bool.Decides.{nat_tests}
 use Rattle.rs_wire.specs.declared.words.Kind.{Kind}
 use Rattle.rs_wire.specs.declared.words.Kind.TheVariants.{Response, Fnf, Stream, Channel}
@@ -8,9 +8,9 @@ use Rattle.rs_wire.specs.declared.words.Role.TheVariants.{Requester, Responder}
 use Rattle.rs_wire.specs.declared.words.Way.TheVariants as way
 use Rattle.rs_wire.specs.declared.message.Message.{Message}
 use Rattle.stream_model.specs.Marks.{Opening, Mark, Opens, Sent, Got, Took, TookJob}
-use Rattle.stream_model.specs.Turns.{Turn, Word, Said, Taken, over, is_over, is_fnf, is_role, ends, opening_ends, other}
+use Rattle.stream_model.specs.Turns.{Turn, Word, Said, Taken, over, is_fnf, is_role, ends, opening_ends, other}
 use Rattle.stream_model.specs.Streams.{turn, live, on, is_live, one_if, is_admitted, goes_on, highest, count_to, has_room}
-use Rattle.stream_model.specs.Fair.{Fair, Fits, FitsOpening, FindsPlace}
+use Rattle.stream_model.specs.Fair.{Fair, Fits, FindsPlace}
 use Rattle.stream_model.specs.Laws.{LiveWithin}
 use Rattle.stream_model.proofs.Ids.{is_opening, same_id, turn_opened, turn_sent, turn_got, turn_took}
 use Rattle.stream_model.proofs.Live.{live_said, live_opens, live_job}

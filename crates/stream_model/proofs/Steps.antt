@@ -1,7 +1,7 @@
 -- What a mark on a stream changes, by what is kept of the stream.
-use Rattle.std.proofs.Common.{◌≡◌, ◌<◌, ◌%◌, ◌^◌, ◌&&◌, ◌||◌, ℕ, Bool, true, false, not, cond, List, [], ◌∷◌, Option, Some, None, IsSome, refl, ap, subst, sym, ◌∙◌, arith}
+use Rattle.std.proofs.Common.{◌≡◌, ◌<◌, ◌%◌, ◌^◌, ◌&&◌, ℕ, Bool, true, false, not, cond, List, [], ◌∷◌, Option, Some, None, IsSome, refl, ap, subst, sym, ◌∙◌}
 use Rattle.rs_wire.specs.declared.words.Role.{Role}
-use Rattle.rs_wire.specs.declared.words.Role.TheVariants.{Requester, Responder}
+use Rattle.rs_wire.specs.declared.words.Role.TheVariants.{Responder}
 use Rattle.rs_wire.specs.declared.words.Way.{Way}
 use Rattle.rs_wire.specs.declared.words.Way.TheVariants as way
 use Rattle.rs_wire.specs.declared.message.Message.{Message}
