@@ -1,5 +1,6 @@
 -- What is delivered are the items of the way that this end receives, and then its end.
 use Rattle.std.proofs.Common.{◌≡◌, ◌&&◌, ◌||◌, Bool, true, false, not, cond, List, [], ◌∷◌, ◌++◌, Option, Some, None, option_to_list, refl, ap, subst, sym, ◌∙◌, append-nil}
+use Rattle.std.proofs.Math.Bool.{or-false}
 use Rattle.rs_wire.specs.declared.words.Kind.{Kind}
 use Rattle.rs_wire.specs.declared.words.Kind.TheVariants.{Response, Fnf, Stream, Channel}
 use Rattle.rs_wire.specs.declared.words.Role.{Role}
@@ -54,10 +55,6 @@ none_left false true true false waits more h none is = refl
 none_left false true false false waits more h none is = absurd (cc)
 none_left false false e false waits more h none is = absurd (cc)
 
-or_false : (b : Bool) → (b || false) ≡ true → b ≡ true
-or_false true is = refl
-or_false false is = absurd (cc)
-
 -- nothing waits after an own act that ended the way, and nothing more comes
 pub dropped : (o : Opening) (xs : List Word) → FairWords o xs → own_end o xs ≡ true → waiting o xs ≡ []
 unfolding own_end FairWords
@@ -66,7 +63,7 @@ dropped o (Said by step ∷ xs) h is =
     waiting_said o xs by step h.0
     ∙ none_left (over o xs (inbound o.role)) (is_role o.role by) (ends o.kind (inbound o.role) (Said by step)) (own_end o xs) (waiting o xs) (brings o.kind (is_whole o xs) (inbound o.role) by step) (own_end_over o xs) (dropped o xs h.0) is
 dropped o (Taken d ∷ xs) h is =
-    let none : waiting o xs ≡ [] = dropped o xs h.0 (or_false (own_end o xs) is) in
+    let none : waiting o xs ≡ [] = dropped o xs h.0 (sym (or-false (own_end o xs)) ∙ is) in
     let first = h.1.take.1 in
     absurd (cc)
 
@@ -168,10 +165,6 @@ no_item_taken : (over : Bool) → option_to_list (cond {A = Option Message} over
 no_item_taken true = refl
 no_item_taken false = refl
 
-or_both : (a b : Bool) → (a || b) ≡ false → a ≡ false
-or_both true b is = is
-or_both false b is = refl
-
 -- until an own act ends the way, its items are delivered, in order
 pub items_delivered : (o : Opening) (xs : List Word) → own_end o xs ≡ false → items_of (delivered o xs) ≡ items o xs (inbound o.role)
 unfolding own_end delivered items
@@ -180,7 +173,7 @@ items_delivered o (Said by step ∷ xs) is =
     items_said (over o xs (inbound o.role)) (is_role o.role by) (ends o.kind (inbound o.role) (Said by step)) (own_end o xs) (delivered o xs) (taken xs) (brings o.kind (is_whole o xs) (inbound o.role) by step)
     (items o xs (inbound o.role)) (item_in o.kind (is_whole o xs) (inbound o.role) (Said by step)) (own_item o (is_whole o xs) by step) (items_brought o.kind (is_whole o xs) (inbound o.role) by step) (items_delivered o xs) is
 items_delivered o (Taken d ∷ xs) is =
-    items_delivered o xs (or_both (own_end o xs) false is) ∙ (sym (append-nil (items o xs (inbound o.role))) ∙ ap (λ l. items o xs (inbound o.role) ++ l) (sym (no_item_taken (over o xs (inbound o.role)))))
+    items_delivered o xs (sym (or-false (own_end o xs)) ∙ is) ∙ (sym (append-nil (items o xs (inbound o.role))) ∙ ap (λ l. items o xs (inbound o.role) ++ l) (sym (no_item_taken (over o xs (inbound o.role)))))
 
 -- ---- the end
 
@@ -231,10 +224,6 @@ first_end Responder Response None is = refl
 first_end Responder Stream (Some m) is = refl
 first_end Responder Stream None is = refl
 
-or_none : (b : Bool) → b ≡ (b || false)
-or_none true = refl
-or_none false = refl
-
 -- and an end is delivered exactly where the way is over
 pub end_delivered : (o : Opening) (xs : List Word) → is_fnf o.kind ≡ false → own_end o xs ≡ false → has_end (delivered o xs) ≡ over o xs (inbound o.role)
 unfolding own_end delivered over
@@ -244,4 +233,4 @@ end_delivered o (Said by step ∷ xs) other is =
     = rw other (end_brought (item_in o.kind (is_whole o xs) (inbound o.role) (Said by step)) (ends o.kind (inbound o.role) (Said by step)) step) in
     end_said (over o xs (inbound o.role)) (is_role o.role by) (ends o.kind (inbound o.role) (Said by step)) (own_end o xs) (delivered o xs) (taken xs) (brings o.kind (is_whole o xs) (inbound o.role) by step)
     (own_end_over o xs) more (end_delivered o xs other) is
-end_delivered o (Taken d ∷ xs) other is = end_delivered o xs other (or_both (own_end o xs) false is) ∙ or_none (over o xs (inbound o.role))
+end_delivered o (Taken d ∷ xs) other is = end_delivered o xs other (sym (or-false (own_end o xs)) ∙ is) ∙ sym (or-false (over o xs (inbound o.role)))

@@ -2,6 +2,7 @@
 use Rattle.std.proofs.Common.{◌≡◌, ◌≤◌, ◌<◌, ◌+◌, ◌-◌, ◌^◌, ◌%◌, ◌==◌, ◌&&◌, ◌⊎◌, inl, inr, not, ℕ, Bool, true, false, cond, max, List, [], ◌∷◌, ◌++◌, Option, Some, None, IsSome, is_some, ltb, refl, ap, subst, sym, ◌∙◌, arith}
 use Rattle.std.proofs.lemmas.Bool.Decides.{nat_tests}
 use Rattle.std.specs.Option.{option_or}
+use Rattle.std.proofs.lemmas.Bool.{and_parts}
 use Rattle.rs_wire.specs.declared.words.Kind.{Kind}
 use Rattle.rs_wire.specs.declared.words.Kind.TheVariants.{Response, Fnf, Stream, Channel}
 use Rattle.rs_wire.specs.declared.words.Role.{Role}
@@ -33,7 +34,7 @@ use Rattle.stream_model.specs.Fair.{Fair, Fits, FairWords}
 use Rattle.stream_model.proofs.Words.{used_within}
 use Rattle.stream_model.proofs.Streams.{fair_words}
 use Rattle.stream_model.proofs.Keeping.{live_turn}
-use Rattle.stream_model.proofs.Steps.{Credited, credit_is, sent_fits, got_fits}
+use Rattle.stream_model.proofs.Steps.{Credited, credit_is, nothing_taken, sent_fits, got_fits}
 use Rattle.stream_model.proofs.Places.{live_within}
 
 -- ---- ids
@@ -133,11 +134,6 @@ some_carried true some m h = absurd (cc)
 some_carried false true m h = (refl, refl)
 some_carried false false m h = absurd (cc)
 
-both_are : (a b : Bool) → (a && b) ≡ true → (a ≡ true) × (b ≡ true)
-both_are true true h = (refl, refl)
-both_are true false h = absurd (cc)
-both_are false b h = absurd (cc)
-
 -- an end's items go out on one way
 carried_by : (kind : Kind) (whole : Bool) (w : Way) (by : Role) (f : Kept) → carries kind whole w by ≡ true → credit_at f w ≡ outbound_credit by f
 carried_by kind whole way.Request Requester f h = refl
@@ -189,7 +185,7 @@ none_over false over needs none n h i o e = absurd (cc)
 pub whole_credited : (f : Kept) (m : Message) (complete next : Bool) → over_credit f next ≡ None → Credited f (other f.role) (Payload m complete next)
 whole_credited f m complete next h needs w some =
     let c = some_carried (over_at f w) (next && carries f.kind f.whole w (other f.role)) m some in
-    let e : w ≡ inbound f.role = carried_in f.kind f.whole w f.role (both_are next (carries f.kind f.whole w (other f.role)) c.1).1 in
+    let e : w ≡ inbound f.role = carried_in f.kind f.whole w f.role (and_parts next (carries f.kind f.whole w (other f.role)) c.1).1 in
     let credit = credit_at f (inbound f.role) in
     let over : over_at f (inbound f.role) ≡ false = subst (λ w. over_at f w ≡ false) e c.0 in
     let item : (next && carries f.kind f.whole (inbound f.role) (other f.role)) ≡ true = subst (λ w. (next && carries f.kind f.whole w (other f.role)) ≡ true) e c.1 in
@@ -197,22 +193,18 @@ whole_credited f m complete next h needs w some =
     let lt : credit.used < credit.granted = grind (arith, nat_tests) in
     subst (λ w. (credit_at f w).used < (credit_at f w).granted) (sym e) lt
 
-no_item : (over : Bool) → IsSome (cond {A = Option Message} over None None) → ⊥
-no_item true found = cc
-no_item false found = cc
-
 -- a step without an item
 pub done_credited : (f : Kept) (by : Role) (m : Message) (complete : Bool) → Credited f by (Payload m complete false)
-done_credited f by m complete needs w some = absurd (no_item (over_at f w) some)
+done_credited f by m complete needs w some = absurd (nothing_taken (over_at f w) some)
 
 pub grant_credited : (f : Kept) (by : Role) (n : ℕ) → Credited f by (RequestN n)
-grant_credited f by n needs w some = absurd (no_item (over_at f w) some)
+grant_credited f by n needs w some = absurd (nothing_taken (over_at f w) some)
 
 pub cancel_credited : (f : Kept) (by : Role) → Credited f by Cancel
-cancel_credited f by needs w some = absurd (no_item (over_at f w) some)
+cancel_credited f by needs w some = absurd (nothing_taken (over_at f w) some)
 
 pub fail_credited : (f : Kept) (by : Role) (code : ℕ) (content : List ℕ) → Credited f by (Fail code content)
-fail_credited f by code content needs w some = absurd (no_item (over_at f w) some)
+fail_credited f by code content needs w some = absurd (nothing_taken (over_at f w) some)
 
 pub next_fits : (most : ℕ) (seen : List Mark) (s : ℕ) (m : Message) (complete : Bool) → credit_refused (kept (turn most seen s)) ≡ None → Fits most seen (Sent s (Payload m complete true))
 next_fits most seen s m complete h = sent_fits most seen s (Payload m complete true) tt (λ f is. next_credited f m complete (subst (λ k. credit_refused k ≡ None) is h))
@@ -278,7 +270,7 @@ message_counted None next h = refl
 message_counted (Some f) next h = used_counted (over_credit f next) h
 
 peers_above : (t : Known) (side : Side) (s : ℕ) → is_peers_next side t s ≡ true → highest_at t s < s
-peers_above t side s is = let above : ltb (highest_at t s) s ≡ true = (both_are (is_own_parity (other_side side) s) (ltb (highest_at t s) s) is).1 in grind (arith, nat_tests)
+peers_above t side s is = let above : ltb (highest_at t s) s ≡ true = (and_parts (is_own_parity (other_side side) s) (ltb (highest_at t s) s) is).1 in grind (arith, nat_tests)
 
 -- what the peer says and breaks no rule by
 pub heard_fair : (most : ℕ) (seen : List Mark) (l : Limits) (a : Arrival) → Fair most seen → ArrivalHasAmounts a → IsCounted (effect_by l (known most seen) a) → Fair most (heard a ∷ seen)

@@ -1,5 +1,6 @@
 -- What is kept of a stream goes on, word by word, to be what the definitions say.
 use Rattle.std.proofs.Common.{◌≡◌, ◌<◌, ◌%◌, ◌+◌, ◌&&◌, ◌||◌, ℕ, Bool, true, false, not, cond, List, [], ◌∷◌, length, Option, Some, None, is_some, option_to_list, refl, ap, ◌∙◌, length-append, arith}
+use Rattle.std.proofs.Math.Bool.{or-false}
 use Rattle.rs_wire.specs.declared.words.Kind.{Kind}
 use Rattle.rs_wire.specs.declared.words.Role.{Role}
 use Rattle.rs_wire.specs.declared.words.Way.{Way}
@@ -101,16 +102,12 @@ live_turn (Some u) f is =
 
 -- ---- taking changes nothing
 
-or_false : (b : Bool) → (b || false) ≡ b
-or_false true = refl
-or_false false = refl
-
 taken_credit : (c : Credit) (needs : Bool) → ◌≡◌ {A = Credit} (record { granted = c.granted + cond needs 0 0; used = c.used + 0 }) c
 taken_credit c true = let g : c.granted + 0 ≡ c.granted = omega arith in let u : c.used + 0 ≡ c.used = omega arith in simp (g, u)
 taken_credit c false = let g : c.granted + 0 ≡ c.granted = omega arith in let u : c.used + 0 ≡ c.used = omega arith in simp (g, u)
 
 pub after_taken : (f : Stream) (d : Delivery) → after f (Taken d) ≡ f
-after_taken f d = simp (or_false f.whole, or_false f.request_over, or_false f.reply_over, taken_credit f.request (needs_credit f.kind), taken_credit f.reply (needs_credit f.kind))
+after_taken f d = simp (or-false f.whole, or-false f.request_over, or-false f.reply_over, taken_credit f.request (needs_credit f.kind), taken_credit f.reply (needs_credit f.kind))
 
 -- ---- all streams
 
