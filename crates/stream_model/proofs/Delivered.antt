@@ -209,7 +209,8 @@ end_said false true true false ds took more o m h is = absurd (cc)
 end_said false true false false ds took more o m h is = h refl
 end_said false false e false ds took more o m h is = end_append ds more ∙ rw (h refl, m) refl
 
-first_end : (role : Role) (kind : Kind) (whole : Option (Message × Bool)) → is_fnf kind ≡ false → has_end (cond (is_role role Responder && is_channel kind && opening_ends kind whole way.Request) (delivery.Complete ∷ []) []) ≡ opening_ends kind whole (inbound role)
+first_end : (role : Role) (kind : Kind) (whole : Option (Message × Bool)) → is_fnf kind ≡ false
+    → has_end (cond (is_role role Responder && is_channel kind && opening_ends kind whole way.Request) (delivery.Complete ∷ []) []) ≡ opening_ends kind whole (inbound role)
 first_end Requester Channel (Some m) is = elim m.1 as (λ v. false ≡ (v && false)) [ true ↦ refl | false ↦ refl ]
 first_end Requester Channel None is = refl
 first_end Responder Channel (Some m) is = elim m.1 as (λ v. has_end (cond (v && true) (delivery.Complete ∷ []) []) ≡ (v && true)) [ true ↦ refl | false ↦ refl ]

@@ -99,17 +99,20 @@ place_left false n most r none le is =
       | false ↦ λ apart none. grind (arith, nat_tests)
     ] refl none
 
-pub finds_place : (most : ℕ) (seen : List Mark) (l : Limits) (kind : Kind) (initial : Option ℕ) (m : Message) (complete : Bool) → Fair most seen → l.max_streams ≡ most → by_live l (known most seen) (call.Request kind initial m complete) ≡ None → is_fnf kind ≡ false → live most seen < most
+pub finds_place : (most : ℕ) (seen : List Mark) (l : Limits) (kind : Kind) (initial : Option ℕ) (m : Message) (complete : Bool) → Fair most seen → l.max_streams ≡ most
+    → by_live l (known most seen) (call.Request kind initial m complete) ≡ None → is_fnf kind ≡ false → live most seen < most
 unfolding known
 finds_place most seen l kind initial m complete h same none is =
     subst (λ n. live most seen < n) same (place_left (is_fnf kind) (live most seen) l.max_streams (refusal.TooManyStreams l.max_streams) none (rw same (live_within most seen h)) is)
 
 -- a request of this end's that is not refused
-pub request_fits : (most : ℕ) (seen : List Mark) (l : Limits) (s : ℕ) (kind : Kind) (initial : Option ℕ) (m : Message) (complete : Bool) → Fair most seen → l.max_streams ≡ most → or_zero initial < 2 ^ 31 → s ≡ next_id l.side (known most seen) → by_live l (known most seen) (call.Request kind initial m complete) ≡ None → Fits most seen (Opens s (ours kind initial m complete))
+pub request_fits : (most : ℕ) (seen : List Mark) (l : Limits) (s : ℕ) (kind : Kind) (initial : Option ℕ) (m : Message) (complete : Bool) → Fair most seen → l.max_streams ≡ most → or_zero initial < 2 ^ 31
+    → s ≡ next_id l.side (known most seen) → by_live l (known most seen) (call.Request kind initial m complete) ≡ None → Fits most seen (Opens s (ours kind initial m complete))
 request_fits most seen l s kind initial m complete h same n is none = record { fresh = own_fresh most seen l.side s is; initial = n; place = (refl, finds_place most seen l kind initial m complete h same none) }
 
 -- one of the peer's, on an id above the highest
-pub asked_fits : (most : ℕ) (seen : List Mark) (s : ℕ) (kind : Kind) (initial : Option ℕ) (whole : Option (Message × Bool)) → or_zero initial < 2 ^ 31 → highest_at (known most seen) s < s → Fits most seen (Opens s (theirs kind initial whole))
+pub asked_fits : (most : ℕ) (seen : List Mark) (s : ℕ) (kind : Kind) (initial : Option ℕ) (whole : Option (Message × Bool)) → or_zero initial < 2 ^ 31 → highest_at (known most seen) s < s
+    → Fits most seen (Opens s (theirs kind initial whole))
 asked_fits most seen s kind initial whole n lt = record { fresh = peer_fresh most seen s lt; initial = n; place = tt }
 
 -- ---- credit

@@ -62,7 +62,8 @@ either true x y z e f = e
 either false x y z e f = f
 
 -- a mark that is no request, and no other request, gives an id no stream
-fresh_step : (most : ℕ) (seen : List Mark) (s : ℕ) (m : Mark) (room : Bool) → higher_in (s % 2) m (highest (s % 2) seen) < s → (highest (s % 2) seen < s → turn most seen s ≡ None) → cond (on s m) (turn_after room m (turn most seen s)) (turn most seen s) ≡ None
+fresh_step : (most : ℕ) (seen : List Mark) (s : ℕ) (m : Mark) (room : Bool) → higher_in (s % 2) m (highest (s % 2) seen) < s → (highest (s % 2) seen < s → turn most seen s ≡ None)
+    → cond (on s m) (turn_after room m (turn most seen s)) (turn most seen s) ≡ None
 fresh_step most seen s (Opens q o) room h before = let l = higher_least s q (highest (s % 2) seen) h in rw l.0 (before l.1)
 fresh_step most seen s (Sent q step) room h before = let none = before h in either (q == s) _ _ None (rw none refl) none
 fresh_step most seen s (Got q step) room h before = let none = before h in either (q == s) _ _ None (rw none refl) none

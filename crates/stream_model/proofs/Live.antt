@@ -36,7 +36,8 @@ live_on most seen m s (Some t) is h here none =
     count_changed (top seen) s (λ q. is_live (turn most seen q)) (λ q. is_live (turn most (m ∷ seen) q)) b.0 b.1 (λ q apart. ap is_live (others_stay most seen m s q here apart))
 
 -- with a mark on a stream
-pub live_said : (most : ℕ) (seen : List Mark) (m : Mark) (s : ℕ) → Fair most seen → on s m ≡ true → is_opening m ≡ false → live most (m ∷ seen) + one_if (is_live (turn most seen s)) ≡ live most seen + one_if (is_live (turn most (m ∷ seen) s))
+pub live_said : (most : ℕ) (seen : List Mark) (m : Mark) (s : ℕ) → Fair most seen → on s m ≡ true → is_opening m ≡ false
+    → live most (m ∷ seen) + one_if (is_live (turn most seen s)) ≡ live most seen + one_if (is_live (turn most (m ∷ seen) s))
 live_said most seen m s h here none = rw (top_said seen m none) (live_on most seen m s (turn most seen s) refl h here none)
 
 -- with a request

@@ -60,7 +60,8 @@ peer_place o n most false f le =
       | false ↦ λ is. omega arith
     ] refl
 
-place_by : (role : Role) (most : ℕ) (seen : List Mark) (o : Opening) → FindsPlace most seen o role → live most seen ≤ most → one_if (is_live (opened (is_role role Requester || has_room most seen || (is_fnf o.kind && is_some o.whole)) o)) + live most seen ≤ most
+place_by : (role : Role) (most : ℕ) (seen : List Mark) (o : Opening) → FindsPlace most seen o role → live most seen ≤ most
+    → one_if (is_live (opened (is_role role Requester || has_room most seen || (is_fnf o.kind && is_some o.whole)) o)) + live most seen ≤ most
 place_by Requester most seen o f le = own_place o (live most seen) most f le
 place_by Responder most seen o f le = peer_place o (live most seen) most (has_room most seen) (λ is. grind (arith, nat_tests)) le
 
@@ -77,7 +78,8 @@ unfolding over
 less_live None word = omega arith
 less_live (Some t) word = less_over (over t.opening t.words way.Request) (over t.opening t.words way.Reply) (ends t.opening.kind way.Request (word t.opening.role)) (ends t.opening.kind way.Reply (word t.opening.role))
 
-said_place : (most : ℕ) (seen : List Mark) (m : Mark) (s : ℕ) (word : Role → Word) → Fair most seen → on s m ≡ true → is_opening m ≡ false → turn most (m ∷ seen) s ≡ goes_on (turn most seen s) word → live most seen ≤ most → live most (m ∷ seen) ≤ most
+said_place : (most : ℕ) (seen : List Mark) (m : Mark) (s : ℕ) (word : Role → Word) → Fair most seen → on s m ≡ true → is_opening m ≡ false → turn most (m ∷ seen) s ≡ goes_on (turn most seen s) word → live most seen ≤ most
+    → live most (m ∷ seen) ≤ most
 said_place most seen m s word h here quiet is le =
     let count = live_said most seen m s h here quiet in
     let after : one_if (is_live (turn most (m ∷ seen) s)) ≤ one_if (is_live (turn most seen s)) = rw is (less_live (turn most seen s) word) in

@@ -9,7 +9,8 @@ use Rattle.stream_model.specs.Marks.{Opening, Payload}
 use Rattle.stream_model.specs.Turns.{Word, Said, Taken, is_response, over, ends, is_whole, item_in, item_next, items}
 
 -- the item of a word ends the way
-item_ends : (kind : Kind) (whole : Bool) (x : Word) → is_response kind ≡ true → (length (option_to_list (item_in kind whole way.Reply x)) ≡ 0) ⊎ ((length (option_to_list (item_in kind whole way.Reply x)) ≡ 1) × (ends kind way.Reply x ≡ true))
+item_ends : (kind : Kind) (whole : Bool) (x : Word) → is_response kind ≡ true
+    → (length (option_to_list (item_in kind whole way.Reply x)) ≡ 0) ⊎ ((length (option_to_list (item_in kind whole way.Reply x)) ≡ 1) × (ends kind way.Reply x ≡ true))
 item_ends Response whole (Said Requester (Payload m complete true)) is = inl refl
 item_ends Response whole (Said Requester (Payload m complete false)) is = inl refl
 item_ends Response whole (Said Responder (Payload m complete true)) is = inr (refl, refl)
