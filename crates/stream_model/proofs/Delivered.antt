@@ -12,18 +12,9 @@ use Rattle.rs_wire.specs.declared.delivery.Delivery.{Delivery}
 use Rattle.rs_wire.specs.declared.delivery.Delivery.TheVariants as delivery
 use Rattle.stream_model.specs.Marks.{Opening, Step, Payload, RequestN, Cancel, Fail}
 use Rattle.stream_model.specs.Turns.{Word, Said, Taken, carries, is_fnf, is_channel, is_role, other, inbound, over, ends, opening_ends, end_of, is_whole, item_in, item_deliveries, items, brings, delivered, taken, waiting}
-use Rattle.stream_model.specs.Laws.{is_end}
+use Rattle.stream_model.specs.Laws.{is_end, own_end, items_of, has_end}
 use Rattle.stream_model.specs.Fair.{FairWords}
 use Rattle.stream_model.proofs.Words.{waits_said, waiting_said}
-
--- an own word ended the way that this end receives
-abbrev pub ends_own : Opening → List Word → Word → Bool
-ends_own o xs (Said by step) = not (over o xs (inbound o.role)) && (is_role o.role by && ends o.kind (inbound o.role) (Said by step))
-ends_own o xs (Taken d) = false
-
-unfoldable pub own_end : Opening → List Word → Bool
-own_end o [] = false
-own_end o (x ∷ xs) = own_end o xs || ends_own o xs x
 
 -- ---- an own end drops what waits
 
@@ -68,11 +59,6 @@ dropped o (Taken d ∷ xs) h is =
     absurd (cc)
 
 -- ---- items
-
-abbrev pub items_of : List Delivery → List Message
-items_of [] = []
-items_of (delivery.Item m ∷ ds) = m ∷ items_of ds
-items_of (d ∷ ds) = items_of ds
 
 items_append : (ds es : List Delivery) → items_of (ds ++ es) ≡ items_of ds ++ items_of es
 items_append [] es = refl
@@ -176,10 +162,6 @@ items_delivered o (Taken d ∷ xs) is =
     items_delivered o xs (sym (or-false (own_end o xs)) ∙ is) ∙ (sym (append-nil (items o xs (inbound o.role))) ∙ ap (λ l. items o xs (inbound o.role) ++ l) (sym (no_item_taken (over o xs (inbound o.role)))))
 
 -- ---- the end
-
-abbrev pub has_end : List Delivery → Bool
-has_end [] = false
-has_end (d ∷ ds) = is_end d || has_end ds
 
 or_assoc : (a b c : Bool) → (a || (b || c)) ≡ ((a || b) || c)
 or_assoc true b c = refl

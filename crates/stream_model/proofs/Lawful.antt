@@ -6,6 +6,7 @@ use Rattle.stream_model.specs.Laws.{EachStream}
 use Rattle.stream_model.proofs.Words.{used_within, taken_first}
 use Rattle.stream_model.proofs.Response.{one_response}
 use Rattle.stream_model.proofs.Ends.{one_end}
+use Rattle.stream_model.proofs.Delivered.{dropped, items_delivered, end_delivered}
 use Rattle.stream_model.proofs.Streams.{fair_words}
 
 pub each_stream : (most : ℕ) (seen : List Mark) → Fair most seen → EachStream most seen
@@ -16,4 +17,7 @@ each_stream most seen h s t is =
       response = λ response. (one_response t.opening t.words response).1;
       taken = taken_first t.opening t.words fair;
       one_end = (one_end t.opening t.words fair).1;
+      dropped = dropped t.opening t.words fair;
+      items = items_delivered t.opening t.words;
+      ended = λ other. end_delivered t.opening t.words other;
     }
