@@ -80,7 +80,7 @@ state_in t s = if is_above_in t s then Above else state_of t.limits.side (kept_a
 
 -- ---- one stream
 
--- the part of an end in a stream that the other side of it opened, or itself
+-- the part of a side in a stream: the requester's where it is the opener
 abbrev pub role_of : Side → Side → Role
 role_of Client Client = Requester
 role_of Server Server = Requester

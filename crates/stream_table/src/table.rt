@@ -196,7 +196,8 @@ impl Table {
         Ok(())
     }
 
-    /// Uses an id that no stream is opened for: it is over from now on, as are all below it.
+    /// Uses an id without a stream: it is over from now on, as are all below it of its parity on
+    /// which no stream is open.
     pub fn skip(&mut self, id: u32)
         requires { id < 2 ^ 31 }
         ensures { self.new ≡ with_id self.old id }
