@@ -6,8 +6,10 @@
 //! on the connection (RSocket 1.0, "Setup", "Request", "Framing Protocol Usage"). It holds over every
 //! tape, also over one that tells nothing. An event costs what it carries.
 //!
-//! Built are SETUP and REQUEST_FNF: resumption, leases, fragments and the other interactions are
-//! left out, and frames that belong to them are answered as ones that may not come now.
+//! Built are SETUP, REQUEST_FNF, the ERROR of the connection, and frames of unknown types, which are
+//! ignored where they may be: resumption, leases, fragments and the other interactions are left out,
+//! and frames that belong to them are answered as ones that may not come now. [`refusal_frame`] is
+//! what a server gives on a connection that it refuses.
 #![tactic(auto)]
 
 mod counting;

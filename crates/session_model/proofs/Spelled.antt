@@ -50,10 +50,12 @@ refusal_spelled a = grind (arith, common_steps)
 pub beside_spelled : (g : Settings) (e : Event) (a : Answer) → IsPlain g → AllByRecursion IsSpellable (beside g a e)
 beside_spelled g e a plain = grind (arith, common_steps, setup_spelled g plain, closing_spelled, word_short)
 
-pub makes_spelled : (g : Settings) (t : Facts) (e : Event) (a : Answer) → IsPlain g → IsFair g e → Means g t e a → AllByRecursion IsSpellable (makes g t.streams a e)
+pub makes_spelled : (g : Settings) (t : Facts) (e : Event) (a : Answer) → IsPlain g → IsFair g e → Means g t e a
+    → AllByRecursion IsSpellable (makes g t.streams a e)
 makes_spelled g t e a plain fair means = let checked = plain.checked in grind (arith, common_steps, request_spelled)
 
 -- what is made ends at or before the top position
-pub made_within : (g : Settings) (t : Facts) (e : Event) (a : Answer) → Means g t e a → t.made.position ≤ g.top_position → t.made.position + pos (makes g t.streams a e) ≤ g.top_position
+pub made_within : (g : Settings) (t : Facts) (e : Event) (a : Answer) → Means g t e a → t.made.position ≤ g.top_position
+    → t.made.position + pos (makes g t.streams a e) ≤ g.top_position
 unfolding pos_by
 made_within g t e a means h = grind (arith, common_steps)
