@@ -32,8 +32,10 @@
 //! It writes `client: Opened(1)`, `client: Started(1)`, `client: Drawn(82)`, `server: Opened(1)`
 //! and `server: Handled`, a line each.
 //!
-//! Built are SETUP and REQUEST_FNF: resumption, leases, fragments and the other interactions are
-//! left out, and frames that belong to them are answered as ones that may not come now.
+//! Built are SETUP, REQUEST_FNF, the ERROR of the connection, and frames of unknown types, which are
+//! ignored where they may be: resumption, leases, fragments and the other interactions are left out,
+//! and frames that belong to them are answered as ones that may not come now. [`refusal_frame`] is
+//! what a server gives on a connection that it refuses.
 #![tactic(auto)]
 
 mod counting;
@@ -42,10 +44,12 @@ mod history;
 mod judge;
 mod outgoing;
 mod queue;
+mod refusal;
 mod session;
 mod state;
 
 pub use counts::Counts;
+pub use refusal::refusal_frame;
 pub use session::Session;
 
 #[cfg(test)]

@@ -1,3 +1,4 @@
 pub mod Meaning
 pub mod Openings
 pub mod Queue
+pub mod Spelled

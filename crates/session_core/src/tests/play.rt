@@ -56,6 +56,15 @@ impl Shown {
         }
     }
 
+    /// The same without a live connection.
+    pub fn parted(self) -> Shown {
+        Shown {
+            live: 0,
+            carrying: false,
+            ..self
+        }
+    }
+
     /// The same, closed for this cause.
     pub fn closed(self, cause: Cause) -> Shown {
         Shown {
@@ -107,17 +116,20 @@ fn session(alloc: Global, limits: Limits) -> Result<Session<Kept>, Fail> {
     }
 }
 
-// A call that can be made: a fire-and-forget without metadata.
+// A call that can be made: a fire-and-forget, or Close.
 fn is_askable(call: &Call) -> bool
     ensures { IsTrue result → IsAskable call.now }
 {
-    let Call::Request {
-        kind,
-        initial,
-        message,
-        complete,
-    } = call;
-    *kind == Kind::Fnf && initial.is_none() && message.metadata.is_none() && !*complete
+    match call {
+        Call::Request {
+            kind,
+            initial,
+            complete,
+            ..
+        } => *kind == Kind::Fnf && initial.is_none() && !*complete,
+        Call::Close => true,
+        _ => false,
+    }
 }
 
 // An event that can happen at that end, and is no draw.
@@ -131,6 +143,7 @@ fn is_act(settings: &Settings, event: &Event) -> bool
             first: Some(first),
             ..
         } => settings.side == Side::Server && spellable(first),
+        Event::Cut { .. } => true,
         Event::Draw { .. } => false,
         Event::Came { frame, .. } => spellable(frame),
         Event::Bad { rule, .. } => 0 < *rule && *rule <= 10,
