@@ -129,3 +129,10 @@ hears f = (not f.whole || carries f.kind f.whole (inbound f.role) (other f.role)
 abbrev pub hears_on : Option Stream → Bool
 hears_on None = false
 hears_on (Some f) = hears f
+
+-- ---- what waits
+
+-- what waits first
+abbrev pub front_of : {A : Type 0} → List A → Option A
+front_of [] = None
+front_of (x ∷ xs) = Some x
