@@ -11,3 +11,5 @@ pub mod Response
 pub mod Granted
 pub mod Places
 pub mod Lawful
+pub mod Steps
+pub mod Rows
