@@ -167,9 +167,9 @@ to_bad g t conn number = on_live t conn (unless_closed t.closed (unless_busy g t
 
 -- ---- a call
 
--- a frame that goes out at once finds no room in the queue, with its length field
-abbrev pub finds_full : Settings → Facts → Frame → Bool
-finds_full g t f = t.carrying && nat_lt (out_limit_of g) (t.queued + (3 + length_of f))
+-- a frame of this length goes out at once, and finds no room in the queue for itself and its length field
+abbrev pub finds_full : Settings → Facts → ℕ → Bool
+finds_full g t len = t.carrying && nat_lt (out_limit_of g) (t.queued + (3 + len))
 
 -- the session is closed; what waits can still be taken
 abbrev pub if_none_waits : {A : Type 0} → List A → Option Refusal → Option Refusal
@@ -200,13 +200,13 @@ abbrev pub refused_sending : Settings → Facts → Option Frame → Option Refu
 refused_sending g t None = None
 refused_sending g t (Some f) = first_true (
     (not t.begun, refusal.NotConnected)
-    ∷ (finds_full g t f, refusal.OutFull t.queued)
+    ∷ (finds_full g t (length_of f), refusal.OutFull t.queued)
     ∷ (nat_lt g.top_position (t.made.position + length_of f), refusal.PositionSpent)
     ∷ [])
 
 -- Close needs no connection, and room for its ERROR where there is one
 abbrev pub by_sending : Settings → Facts → Call → Option Refusal
-by_sending g t call.Close = if finds_full g t (closing_error []) then Some (refusal.OutFull t.queued) else None
+by_sending g t call.Close = if finds_full g t (length_of (closing_error [])) then Some (refusal.OutFull t.queued) else None
 by_sending g t asked = refused_sending g t (spoken t.streams (next_id g.side t.streams) asked)
 
 -- the first refusal of a call
