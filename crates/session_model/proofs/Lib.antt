@@ -1,3 +1,5 @@
 pub mod Meaning
 pub mod Openings
 pub mod Queue
+pub mod Refusals
+pub mod Breaking
