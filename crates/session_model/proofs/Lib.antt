@@ -3,3 +3,4 @@ pub mod Openings
 pub mod Queue
 pub mod Refusals
 pub mod Breaking
+pub mod Ids
