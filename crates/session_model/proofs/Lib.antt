@@ -4,3 +4,4 @@ pub mod Queue
 pub mod Refusals
 pub mod Breaking
 pub mod Ids
+pub mod Spelled
