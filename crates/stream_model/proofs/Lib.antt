@@ -13,3 +13,6 @@ pub mod Places
 pub mod Lawful
 pub mod Steps
 pub mod Rows
+pub mod Fitting
+pub mod Credits
+pub mod Delivered
