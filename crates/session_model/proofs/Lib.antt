@@ -5,3 +5,4 @@ pub mod Refusals
 pub mod Breaking
 pub mod Ids
 pub mod Spelled
+pub mod Fairness

@@ -103,7 +103,7 @@ answer_spellable g t conn (frame.Request r) spellable = let turned = turned_away
 answer_spellable g t conn f spellable = tt
 
 -- a call that starts nothing and takes nothing is not refused
-done_passes : (g : Settings) (t : Facts) (asked : Call) → Does g t (event.Asked asked) → Unrefused g t asked
+pub done_passes : (g : Settings) (t : Facts) (asked : Call) → Does g t (event.Asked asked) → Unrefused g t asked
 done_passes g t (call.Request kind initial message complete) does = absurd does
 done_passes g t (call.Next s message complete) does = unrefused g t (call.Next s message complete) does
 done_passes g t (call.Done s) does = unrefused g t (call.Done s) does
@@ -115,7 +115,7 @@ done_passes g t call.TakeJob does = absurd does
 done_passes g t call.Close does = unrefused g t call.Close does
 
 -- its frame has no id but the one that it names
-done_same : (g : Settings) (t : Facts) (asked : Call) (id : ℕ) → Does g t (event.Asked asked) → spoken t.streams id asked ≡ spoken t.streams 0 asked
+pub done_same : (g : Settings) (t : Facts) (asked : Call) (id : ℕ) → Does g t (event.Asked asked) → spoken t.streams id asked ≡ spoken t.streams 0 asked
 done_same g t (call.Request kind initial message complete) id does = absurd does
 done_same g t asked id does = refl
 
