@@ -6,3 +6,4 @@ pub mod Breaking
 pub mod Ids
 pub mod Spelled
 pub mod Fairness
+pub mod Silent

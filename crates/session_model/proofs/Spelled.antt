@@ -1,6 +1,7 @@
 -- The frames of an entry that means what it says can be spelled, count in the positions, and find their places there.
-use Rattle.std.proofs.Common.{◌≡◌, ◌≤◌, ◌<◌, ◌+◌, ◌^◌, ◌||◌, ℕ, Bool, true, false, cond, List, [], ◌∷◌, ◌++◌, length, option_to_list, Option, Some, None, IfSome, refl, length-append, subst, sym, arith, lit<}
+use Rattle.std.proofs.Common.{◌≡◌, ◌≤◌, ◌<◌, ◌+◌, ◌^◌, ◌||◌, ℕ, Bool, true, false, cond, List, [], ◌∷◌, ◌++◌, length, option_to_list, Option, Some, None, IfSome, refl, length-append, ap, subst, sym, ◌∙◌, arith, lit<}
 use Rattle.std.proofs.lemmas.Grind.{common_steps}
+use Rattle.std.proofs.lemmas.List.Elements.{filter-append}
 use Rattle.std.specs.List.{AllByRecursion, filter}
 use Rattle.byteorder.specs.Endian.{big_bytes}
 use Rattle.rs_wire.specs.Message.{size_of}
@@ -185,7 +186,7 @@ lines_spellable g t e a plain ids fair means =
 
 -- ---- what counts
 
-none_besides : (g : Settings) (e : Event) (a : Answer) → filter is_resumable (beside g a e) ≡ []
+pub none_besides : (g : Settings) (e : Event) (a : Answer) → filter is_resumable (beside g a e) ≡ []
 none_besides g e a = grind (arith, common_steps)
 
 -- the positions count each frame of a call
@@ -200,6 +201,11 @@ makes_count g t (event.Asked asked) answer.Done means = spoken_counts g t 0 aske
 makes_count g t (event.Came conn (frame.Request r)) answer.Handled means = let next = (unbroken g t (frame.Request r) means.unbroken).next in grind (arith, common_steps)
 makes_count g t e a means = grind (arith, common_steps)
 
+-- of all that an entry puts in line these count
+pub lines_count : (g : Settings) (t : Facts) (e : Event) (a : Answer) → Means g t e a → filter is_resumable (lines_up g t.streams a e) ≡ makes g t.streams a e
+lines_count g t e a means =
+    filter-append is_resumable (beside g a e) (makes g t.streams a e) ∙ (ap (λ fs. fs ++ filter is_resumable (makes g t.streams a e)) (none_besides g e a) ∙ makes_count g t e a means)
+
 -- ---- positions
 
 -- the frame of a call ends at or before the top position
@@ -208,7 +214,7 @@ unfolding pos_by
 spoken_fits g t None none below = omega (arith, below)
 spoken_fits g t (Some f) none below = let within = (can_send g t f none).within in omega (arith, within)
 
-done_sends : (g : Settings) (t : Facts) (asked : Call) → Does g t (event.Asked asked) → refused_sending g t (spoken t.streams 0 asked) ≡ None
+pub done_sends : (g : Settings) (t : Facts) (asked : Call) → Does g t (event.Asked asked) → refused_sending g t (spoken t.streams 0 asked) ≡ None
 done_sends g t (call.Request kind initial message complete) does = absurd does
 done_sends g t call.Close does = refl
 done_sends g t asked does = (done_passes g t asked does).sending
