@@ -7,3 +7,4 @@ pub mod Spelled
 pub mod Due
 pub mod Got
 pub mod Crossing
+pub mod Lawful

@@ -9,8 +9,7 @@ use Rattle.session_model.specs.Life.{is_live, live, live_after}
 use Rattle.session_model.specs.Streams.{known}
 use Rattle.session_model.specs.Frames.{made, makes, due, came, lines_up, owes}
 use Rattle.session_model.specs.Answers.{facts}
-use Rattle.session_model.specs.Legal.{Fair, IsFair, IsPlain, Legal}
-use Rattle.session_model.specs.Means.{Means}
+use Rattle.session_model.specs.Legal.{Fair, IsPlain, Legal}
 use Rattle.session_model.proofs.Ids.{ids_fit}
 use Rattle.session_model.proofs.Meaning.{last_means}
 use Rattle.session_model.proofs.Spelled.{lines_spellable, makes_spellable}

@@ -15,10 +15,16 @@
 #![tactic(auto)]
 
 mod one_end;
+mod streams;
 mod two_ends;
 
 pub use one_end::{
     closed_stays_closed, frames_are_spellable, frames_only_grow, nothing_more_is_agreed,
     queued_is_what_is_left, seen_is_made_and_handled,
+};
+pub use streams::{
+    a_response_carries_one_payload, a_stream_delivers_one_end, items_stay_within_credit,
+    over_is_for_good, streams_stay_within_their_limit, taken_is_what_was_delivered_first,
+    what_came_before_is_lawful,
 };
 pub use two_ends::{drained_is_equal, handled_begins_made, handled_is_a_boundary};
