@@ -26,12 +26,12 @@ use Rattle.stream_model.specs.Known.{Known, highest_at, is_open_response}
 use Rattle.stream_model.specs.Refused.{by_state}
 use Rattle.stream_model.specs.Arriving.{no_message}
 use Rattle.session_model.specs.declared.numbers.TheConstants.{CONNECTION_ERROR}
-use Rattle.session_model.specs.Frames.{setup_frame, request_frame, turned_away, spoken, makes, beside, lines_up}
+use Rattle.session_model.specs.Frames.{setup_frame, request_frame, turned_away, spoken, makes, beside, lines_up, handles}
 use Rattle.session_model.specs.Answers.{Facts, refused_sending}
 use Rattle.session_model.specs.Legal.{AmountsFit, IsFair, IsPlain}
 use Rattle.session_model.specs.Means.{Does, Means}
 use Rattle.session_model.proofs.Refusals.{Unrefused, unrefused, size_fits, can_send, names}
-use Rattle.session_model.proofs.Breaking.{unbroken}
+use Rattle.session_model.proofs.Breaking.{handled_fits, unbroken}
 use Rattle.session_model.proofs.Ids.{IdsFit, highest_fits, started_fits}
 
 -- ---- messages
@@ -231,3 +231,10 @@ makes_fit g t (event.Asked asked) answer.Done means below = spoken_fits g t (spo
 makes_fit g t e answer.Done means below = absurd means
 makes_fit g t (event.Came conn (frame.Request r)) answer.Handled means below = let answered = (unbroken g t (frame.Request r) means.unbroken).answered in grind (arith, common_steps)
 makes_fit g t e a means below = grind (arith, common_steps)
+
+-- and the frames that an entry handles
+pub handles_fit : (g : Settings) (t : Facts) (e : Event) (a : Answer) → Means g t e a → t.handled.position ≤ g.top_position → t.handled.position + pos (handles a e) ≤ g.top_position
+unfolding pos_by
+handles_fit g t (event.Came conn f) answer.Handled means below = let fits = handled_fits g t f means.unbroken in grind (arith, common_steps)
+handles_fit g t e answer.Handled means below = absurd means
+handles_fit g t e a means below = omega (arith, below)
