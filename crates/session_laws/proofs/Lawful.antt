@@ -22,7 +22,7 @@ unfolding Legal Fair
 before_lawful g [] past h = h
 before_lawful g (x ∷ more) past h = before_lawful g more past (record { legal = h.legal.0; fair = h.fair.0 })
 
-fair_marks : (g : Settings) (past : List Entry) → IsLawful g past → FairMarks g.max_streams (words past)
+pub fair_marks : (g : Settings) (past : List Entry) → IsLawful g past → FairMarks g.max_streams (words past)
 fair_marks g past h = legal_fair g past h.legal h.fair
 
 pub laws_of : (g : Settings) (past : List Entry) (s : ℕ) (t : Turn) → IsStream g past s t → Laws t

@@ -8,3 +8,4 @@ pub mod Due
 pub mod Got
 pub mod Crossing
 pub mod Lawful
+pub mod OwnEnds

@@ -6,16 +6,16 @@
 //! ([`what_came_before_is_lawful`]). So each law holds at every moment of a session, not at its end
 //! alone.
 
-ghost use Rattle.std.specs.Prelude.{◌≡◌, ◌≤◌, ◌++◌, ℕ, List};
+ghost use Rattle.std.specs.Prelude.{◌≡◌, ◌≤◌, ◌++◌, ℕ, List, [], ◌∷◌, Some};
 ghost use Rattle.rs_wire.specs.declared.settings.Settings.{Settings};
 ghost use Rattle.rs_wire.specs.declared.words.Way.{Way};
 ghost use Rattle.tape.specs.declared.entry.Entry.{Entry};
 ghost use Rattle.stream_model.specs.Laws.{IsOver, OneEnd, OneResponse, TakenFirst, UsedWithinGranted};
 ghost use Rattle.stream_model.specs.Streams.{live};
-ghost use Rattle.stream_model.specs.Turns.{Turn, delivered, taken};
+ghost use Rattle.stream_model.specs.Turns.{Turn, delivered, taken, waiting};
 ghost use Rattle.session_model.specs.Lists.{IsPrefix};
 ghost use Rattle.session_model.specs.Streams.{words};
-ghost use Rattle.session_laws.specs.Streams.{IsLawful, IsStream, stream};
+ghost use Rattle.session_laws.specs.Streams.{EndsReceiving, IsLawful, IsStream, stream};
 
 /// What came before any entry of a lawful list is lawful.
 pub fn what_came_before_is_lawful()
@@ -49,6 +49,17 @@ pub fn taken_is_what_was_delivered_first()
 pub fn a_stream_delivers_one_end()
     ensures { (g : Settings) (past : List Entry) (s : ℕ) (t : Turn) →
         IsStream g past s t → OneEnd t }
+{}
+
+/// After an own CANCEL or ERROR that ends the way on which this end receives, nothing waits on the
+/// stream, and nothing more is taken of it, whatever still comes (RSocket 1.0, "CANCEL Frame").
+pub fn nothing_is_taken_after_an_own_end()
+    ensures waits { (g : Settings) (more past : List Entry) (x : Entry) (s : ℕ) (t u : Turn) →
+        IsLawful g (more ++ x ∷ past) → EndsReceiving g past x s t →
+        stream g (more ++ x ∷ past) s ≡ Some u → waiting u.opening u.words ≡ [] }
+    ensures takes { (g : Settings) (more past : List Entry) (x : Entry) (s : ℕ) (t u : Turn) →
+        IsLawful g (more ++ x ∷ past) → EndsReceiving g past x s t →
+        stream g (more ++ x ∷ past) s ≡ Some u → taken u.words ≡ taken t.words }
 {}
 
 /// A way of a stream that is over is over for good, whatever entries follow.
