@@ -7,3 +7,5 @@ pub mod Spelled
 pub mod Due
 pub mod Got
 pub mod Crossing
+pub mod Lawful
+pub mod OwnEnds
