@@ -1,0 +1,6 @@
+pub mod Seen
+pub mod Past
+pub mod Queues
+pub mod Waiting
+pub mod Stands
+pub mod Next
