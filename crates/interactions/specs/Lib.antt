@@ -1,3 +1,5 @@
 pub mod Seen
 pub mod Past
 pub mod Queues
+pub mod Waiting
+pub mod Credited

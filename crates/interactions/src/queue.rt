@@ -23,8 +23,8 @@ impl<T: Drop> Model for Queue<T> {
     ghost Value = { QueueOf T };
 
     ghost view = { λ q. record {
-        items = q.items.items;
-        room = deque_capacity q.items - deque_len q.items;
+      items = q.items.items;
+      room = deque_capacity q.items - deque_len q.items;
     } };
 
     ghost invariant = { λ q. deque_len q.items ≡ length q.items.items };
