@@ -1,3 +1,15 @@
 pub mod Words
 pub mod Ends
 pub mod Jobs
+pub mod Streams
+pub mod Counts
+pub mod Ids
+pub mod Live
+pub mod Keeping
+pub mod ForGood
+pub mod Response
+pub mod Granted
+pub mod Places
+pub mod Lawful
+pub mod Steps
+pub mod Rows
