@@ -1,5 +1,5 @@
 -- An item that is let through finds credit.
-use Rattle.std.proofs.Common.{◌≡◌, ◌<◌, ◌-◌, ◌&&◌, ◌==◌, ℕ, Bool, true, false, not, cond, Option, Some, None, refl, subst, sym, arith}
+use Rattle.std.proofs.Common.{◌≡◌, ◌<◌, ◌-◌, ◌&&◌, ◌==◌, ℕ, Bool, true, false, not, cond, Option, Some, None, IsSome, refl, subst, sym, arith}
 use Rattle.std.proofs.lemmas.Bool.Decides.{nat_tests}
 use Rattle.rs_wire.specs.declared.words.Kind.{Kind}
 use Rattle.rs_wire.specs.declared.words.Kind.TheVariants.{Response, Fnf, Stream, Channel}
@@ -15,6 +15,9 @@ use Rattle.stream_model.specs.Turns.{carries, needs_credit, inbound, other}
 use Rattle.stream_model.specs.Known.{over_at, credit_at}
 use Rattle.stream_model.specs.Refused.{outbound_credit, credit_refused}
 use Rattle.stream_model.specs.Arriving.{over_credit}
+use Rattle.rs_wire.specs.declared.message.Message.{Message}
+use Rattle.stream_model.specs.Marks.{Payload}
+use Rattle.stream_model.proofs.Steps.{Credited}
 use Rattle.interactions.specs.Credited.{is_counted, HasCredit}
 
 -- what is no item needs no credit
@@ -81,3 +84,17 @@ peer_credit f next h w is =
     let c = credit_at f (inbound f.role) in
     subst (λ w. (credit_at f w).used < (credit_at f w).granted) (sym in_way)
     (left_over c.granted c.used (unbroken next (carries f.kind f.whole (inbound f.role) (other f.role)) (over_at f (inbound f.role)) (needs_credit f.kind) (c.granted - c.used == 0) c.granted h at))
+
+some_item : (over carried : Bool) (m : Message) → IsSome (cond over None (cond carried (Some m) None)) → (over ≡ false) × (carried ≡ true)
+some_item true carried m h = absurd (cc)
+some_item false true m h = (refl, refl)
+some_item false false m h = absurd (cc)
+
+all_four : (over needs item : Bool) → over ≡ false → needs ≡ true → item ≡ true → (not over && (needs && item)) ≡ true
+all_four over needs item o n i = rw (o, n, i) refl
+
+-- and finds it by what the definitions say of one
+pub credited : (f : Kept) (by : Role) (m : Message) (complete next : Bool) → HasCredit f by next → Credited f by (Payload m complete next)
+credited f by m complete next h needs w some =
+    let s = some_item (over_at f w) (next && carries f.kind f.whole w by) m some in
+    h w (all_four (over_at f w) (needs_credit f.kind) (next && carries f.kind f.whole w by) s.0 needs s.1)

@@ -3,3 +3,5 @@ pub mod Past
 pub mod Queues
 pub mod Waiting
 pub mod Credited
+pub mod Asked
+pub mod Stands
