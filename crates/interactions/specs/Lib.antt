@@ -3,5 +3,6 @@ pub mod Past
 pub mod Queues
 pub mod Waiting
 pub mod Credited
-pub mod Asked
 pub mod Stands
+pub mod Next
+pub mod Asked

@@ -76,17 +76,6 @@ impl Parts {
         Some((credit.granted(), credit.left()))
     }
 
-    /// Whether the peer may make a request on that id.
-    pub fn is_peers_next(&self, stream: u32) -> bool
-        ensures { result ≡ is_peers_next self.now.table.limits.side (known_of self.now) stream }
-    {
-        let (is_peers, highest) = match self.table.limits().side {
-            Side::Client => (stream % 2 == 0, self.table.highest(Side::Server)),
-            Side::Server => (stream % 2 == 1, self.table.highest(Side::Client)),
-        };
-        is_peers && highest < stream
-    }
-
     /// How much was granted on a stream, where an item of the peer's finds no credit left.
     pub fn over_credit(&self, stream: u32, next: bool) -> Option<u128>
         ensures { result ≡ over_credit_on ((known_of self.now).kept stream) next }
@@ -112,15 +101,6 @@ impl Parts {
             None => false,
             Some(kept) => kept.kind == Kind::Response,
         }
-    }
-
-    /// Whether a request of the peer's would be admitted: one stream more may be open, or it is a whole
-    /// fire-and-forget.
-    pub fn admits(&self, kind: Kind, whole: bool) -> bool
-        ensures { result ≡ (nat_lt (known_of self.now).live self.now.table.limits.max_streams
-            || (is_fnf kind && whole)) }
-    {
-        self.table.live() < self.table.limits().max_streams || (kind == Kind::Fnf && whole)
     }
 
     /// What waits first on a stream.

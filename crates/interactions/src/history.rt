@@ -76,14 +76,11 @@ impl History {
     }
 
     /// What the peer said is one mark.
-    pub fn arrived(&mut self, what: &Arrival)
-        ensures { self.new ≡ heard what.now ∷ self.old }
+    pub fn arrived(&mut self, what: Snapshot<Arrival>)
+        ensures { self.new ≡ heard what.value ∷ self.old }
     {
         let before = replace(&mut self.past, Snapshot::of(&Past::Nothing));
-        let arrived = Past::Arrived {
-            before,
-            what: Snapshot::of(what),
-        };
+        let arrived = Past::Arrived { before, what };
         self.past = Snapshot::of(&arrived);
     }
 

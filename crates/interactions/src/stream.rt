@@ -5,10 +5,12 @@ ghost use Rattle.std.specs.Prelude.{◌&&◌, ◌||◌, not, if◌then◌else◌
 ghost use Rattle.rs_wire.specs.declared.message.Message.{Message as Content};
 ghost use Rattle.stream_model.specs.Arriving.{or_zero, over_credit, MayGrant};
 ghost use Rattle.stream_model.specs.Kept.{after, credit_after, first, is_done, FitsCredit};
-ghost use Rattle.stream_model.specs.Marks.{Cancel as Cancels, Fail as Fails, Payload, RequestN};
+ghost use Rattle.stream_model.specs.Marks.{Cancel as Cancels, Fail as Fails, Opening, Payload};
+ghost use Rattle.stream_model.specs.Marks.{RequestN};
 ghost use Rattle.stream_model.specs.Known.{credit_at, over_at};
 ghost use Rattle.stream_model.specs.Turns.{is_of_requester, needs_credit, Said};
 ghost use Rattle.interactions.specs.Credited.{is_counted, HasCredit};
+ghost use Rattle.interactions.specs.Next.{completes};
 
 use crate::ways::{
     cancel_ends, carries, credit_at, inbound, is_over_at, may_grant, message_ends, needs_credit,
@@ -159,7 +161,7 @@ pub fn after_error(kept: Stream, by: Role) -> Stream
 
 /// The initial n of a request, 0 for none.
 pub fn number_of(initial: Option<Amount>) -> u32
-    ensures value { result ≡ or_zero initial }
+    ensures number { result ≡ or_zero initial }
     ensures within { result < 2 ^ 31 }
 {
     match initial {
@@ -182,17 +184,17 @@ fn first_credit(kind: Kind, initial: u32) -> Credit
     credit
 }
 
-/// A stream after its request, whose message is whole with it.
-pub fn first_whole(role: Role, kind: Kind, initial: Option<Amount>, complete: bool) -> Stream
+// A stream after its request, whose message is whole with it.
+fn first_whole(role: Role, kind: Kind, initial: u32, complete: bool) -> Stream
+    requires { initial < 2 ^ 31 }
     ensures first { (message : Content) → result ≡ first (record {
       role = role;
       kind = kind;
-      initial = or_zero initial;
+      initial = initial;
       whole = Some (message, complete);
     }) }
     ensures fits { FitsCredit result }
 {
-    let initial = number_of(initial);
     Stream {
         role,
         kind,
@@ -205,17 +207,17 @@ pub fn first_whole(role: Role, kind: Kind, initial: Option<Amount>, complete: bo
     }
 }
 
-/// A stream after its request, whose fragments follow.
-pub fn first_part(role: Role, kind: Kind, initial: Option<Amount>) -> Stream
+// A stream after its request, whose fragments follow.
+fn first_part(role: Role, kind: Kind, initial: u32) -> Stream
+    requires { initial < 2 ^ 31 }
     ensures first { result ≡ first (record {
       role = role;
       kind = kind;
-      initial = or_zero initial;
+      initial = initial;
       whole = None;
     }) }
     ensures fits { FitsCredit result }
 {
-    let initial = number_of(initial);
     Stream {
         role,
         kind,
@@ -225,5 +227,19 @@ pub fn first_part(role: Role, kind: Kind, initial: Option<Amount>) -> Stream
         reply_over: false,
         request: Credit::new(),
         reply: first_credit(kind, initial),
+    }
+}
+
+/// A stream after its request: whether that says that the requester sends nothing more, where its
+/// message is whole.
+pub fn begun(role: Role, kind: Kind, initial: u32, whole: Option<bool>) -> Stream
+    requires { initial < 2 ^ 31 }
+    ensures first { (o : Opening) → o.role ≡ role → o.kind ≡ kind → o.initial ≡ initial →
+        completes o.whole ≡ whole → result ≡ first o }
+    ensures fits { FitsCredit result }
+{
+    match whole {
+        None => first_part(role, kind, initial),
+        Some(complete) => first_whole(role, kind, initial, complete),
     }
 }
