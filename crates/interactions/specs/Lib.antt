@@ -6,3 +6,4 @@ pub mod Credited
 pub mod Stands
 pub mod Next
 pub mod Asked
+pub mod Answers

@@ -1,13 +1,12 @@
 //! What a session asks of its streams, with which it tests each rule and limit before it changes
 //! anything.
 
-ghost use Rattle.std.specs.Prelude.{◌≡◌, ◌||◌, ◌&&◌, ℕ, nat_lt, Option, Some, None};
-ghost use Rattle.std.specs.Prelude.{if◌then◌else◌};
+ghost use Rattle.std.specs.Prelude.{◌≡◌};
 ghost use Rattle.std.specs.Option.{option_copied};
 ghost use Rattle.stream_model.specs.Arriving.{over_credit_on};
 ghost use Rattle.stream_model.specs.Known.{credit_on, hears, hears_on, highest_of, is_above};
-ghost use Rattle.stream_model.specs.Known.{is_open_response, is_peers_next, next_id, state};
-ghost use Rattle.stream_model.specs.Turns.{is_fnf};
+ghost use Rattle.stream_model.specs.Known.{is_open_response, state};
+ghost use Rattle.interactions.specs.Answers.{next_within};
 ghost use Rattle.interactions.specs.Seen.{front_of};
 ghost use Rattle.interactions.specs.Stands.{known_of};
 
@@ -56,9 +55,7 @@ impl Parts {
 
     /// The id of the next request of this end: none where it passes the last id.
     pub fn next_id(&self) -> Option<u32>
-        ensures { result ≡ (if nat_lt self.now.table.limits.last_id
-            (next_id self.now.table.limits.side (known_of self.now)) then None
-            else Some (next_id self.now.table.limits.side (known_of self.now))) }
+        ensures { result ≡ next_within self.now.table.limits (known_of self.now) }
     {
         self.table.next_id()
     }

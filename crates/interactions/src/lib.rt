@@ -8,6 +8,7 @@
 #![tactic(auto)]
 
 mod acting;
+mod answers;
 mod arriving;
 mod asking;
 mod history;

@@ -20,9 +20,9 @@ use stream_model::{Arrival, Effect};
 /// newest first, and the stream for which one arrival finds room.
 #[derive(Drop)]
 pub struct Streams {
-    parts: Parts,
-    history: History,
-    ready: Snapshot<Option<u32>>,
+    pub(crate) parts: Parts,
+    pub(crate) history: History,
+    pub(crate) ready: Snapshot<Option<u32>>,
 }
 
 impl Model for Streams {
