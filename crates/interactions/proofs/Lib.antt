@@ -1,2 +1,5 @@
 pub mod Credits
 pub mod Beginning
+pub mod Knowing
+pub mod Standing
+pub mod Taken
