@@ -34,6 +34,7 @@ pub record Stands (p : Parts) (seen : List Mark) : Type 0 where
 -- there is room for what comes on a stream
 pub record HasRoom (p : Parts) (s : ℕ) : Type 0 where
   pub place : 0 < p.table.place
+  pub queue : 0 < p.waits.place
   pub waits : 2 ≤ room_at p.waits s
   pub job : 0 < p.jobs.room
 

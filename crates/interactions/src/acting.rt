@@ -14,10 +14,8 @@ ghost use Rattle.interactions.specs.Stands.{known_of, Begins, KeepsRoom, Says, S
 ghost use Rattle.interactions.specs.Next.{stream_by, waits_own};
 
 use crate::parts::Parts;
-use crate::stream::{
-    after_cancel, after_error, after_grant, after_message, begun, cancel_ends, inbound, is_over_at,
-    message_ends, number_of,
-};
+use crate::stream::{after_cancel, after_error, after_grant, after_message, begun, number_of};
+use crate::ways::{cancel_ends, inbound, is_over_at, message_ends};
 use rs_wire::{Amount, Call, Kind, OutOfMemory, Role};
 use stream_model::Stream;
 

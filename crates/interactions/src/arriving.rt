@@ -16,9 +16,9 @@ ghost use Rattle.interactions.specs.Next.{IfBroken, IfCounted, opened_jobs, wait
 
 use crate::parts::Parts;
 use crate::stream::{
-    after_cancel, after_error, after_grant, after_message, begun, cancel_ends, carries, inbound,
-    is_over_at, message_ends, number_of, other, over_credit,
+    after_cancel, after_error, after_grant, after_message, begun, number_of, over_credit,
 };
+use crate::ways::{cancel_ends, carries, inbound, is_over_at, message_ends, other};
 use rs_wire::{Amount, Blob, Delivery, Job, Kind, Message, Role, Rule, Side};
 use stream_model::{Arrival, Effect, Stream};
 

@@ -8,13 +8,18 @@
 #![tactic(auto)]
 
 mod acting;
+mod answers;
 mod arriving;
+mod asking;
 mod history;
+mod judging;
 mod parts;
 mod queue;
 mod stream;
 mod streams;
+mod taking;
 mod waits;
+mod ways;
 
 pub use stream_model::{Arrival, Effect, Limits, State, Stream};
 pub use streams::Streams;

@@ -2,15 +2,15 @@
 
 ghost use Rattle.std.specs.Prelude.{◌≡◌, ◌<◌, ◌^◌, ◌++◌, [], ◌∷◌, ℕ, Some, None, IfOk, OnOk, OnErr, IsOk, IsSome};
 ghost use Rattle.rs_wire.specs.Calls.{CanBeAsked};
-ghost use Rattle.stream_model.specs.Arriving.{CanAct, CanArrive, effect_by, stream_in};
+ghost use Rattle.stream_model.specs.Arriving.{CanAct, CanArrive, effect_by, stream_in, took, took_job};
 ghost use Rattle.stream_model.specs.Fair.{Fair};
 ghost use Rattle.stream_model.specs.Known.{limits_of};
 ghost use Rattle.stream_model.specs.Refused.{refused_by};
-ghost use Rattle.interactions.specs.Seen.{acted, arrived, known_to, stream_of_call};
+ghost use Rattle.interactions.specs.Seen.{acted, arrived, front_of, known_to, stream_of_call};
 
 use crate::history::History;
 use crate::parts::Parts;
-use rs_wire::{Call, Checked, OutOfMemory, Side};
+use rs_wire::{Call, Checked, Delivery, Job, OutOfMemory, Side};
 use std::alloc::Global;
 use std::marker::Model;
 use std::snapshot::Snapshot;
@@ -20,9 +20,9 @@ use stream_model::{Arrival, Effect};
 /// newest first, and the stream for which one arrival finds room.
 #[derive(Drop)]
 pub struct Streams {
-    parts: Parts,
-    history: History,
-    ready: Snapshot<Option<u32>>,
+    pub(crate) parts: Parts,
+    pub(crate) history: History,
+    pub(crate) ready: Snapshot<Option<u32>>,
 }
 
 impl Model for Streams {
@@ -96,6 +96,27 @@ impl Streams {
             self.ready = Snapshot::of(&None);
         }
         effect
+    }
+
+    /// Takes what waits first on a stream: `None` exactly where nothing waits. The room for an arrival
+    /// stays.
+    pub fn take(&mut self, stream: u32) -> Option<Delivery>
+        ensures first { result ≡ front_of ((known_to self.old).waits stream) }
+        ensures after { self.new ≡ record self.old { marks = took stream result ++ self.old.marks } }
+    {
+        let delivery = self.parts.take(stream)?;
+        self.history.took(stream, &delivery);
+        Some(delivery)
+    }
+
+    /// Takes the job that waits first: `None` exactly where none waits. The room for an arrival stays.
+    pub fn take_job(&mut self) -> Option<Job>
+        ensures first { result ≡ front_of (known_to self.old).jobs }
+        ensures after { self.new ≡ record self.old { marks = took_job result ++ self.old.marks } }
+    {
+        let job = self.parts.take_job()?;
+        self.history.took_job();
+        Some(job)
     }
 
     /// The marks are ones that the rules of an end let through. It does nothing.
