@@ -10,7 +10,7 @@ ghost use Rattle.interactions.specs.Seen.{acted, arrived, front_of, known_to, st
 
 use crate::history::History;
 use crate::parts::Parts;
-use rs_wire::{Call, Checked, Delivery, Job, OutOfMemory};
+use rs_wire::{Call, Checked, Delivery, Job, OutOfMemory, Side};
 use std::alloc::Global;
 use std::marker::Model;
 use std::snapshot::Snapshot;
@@ -125,7 +125,8 @@ impl Streams {
         ensures even { (known_to self.now).even < 2 ^ 31 }
         ensures odd { (known_to self.now).odd < 2 ^ 31 }
     {
-        // The parts that are read tell all three.
-        let _ = &self.parts;
+        // The highest ids that are read have 31 bits.
+        let _even = self.parts.table.highest(Side::Server);
+        let _odd = self.parts.table.highest(Side::Client);
     }
 }

@@ -124,6 +124,10 @@ kept_finished w (Some f) = unless_done (finished w f)
 abbrev pub SetsAt : List (ℕ × Kept) → List (ℕ × Kept) → ℕ → Option Kept → Type 0
 SetsAt old new s f = (q : ℕ) → kept_at new q ≡ (if nat_eq s q then f else kept_at old q)
 
+-- the limits and the highest ids are the same
+abbrev pub SameIds : TableOf → TableOf → Type 0
+SameIds old new = new ≡ record old { kept = new.kept; place = new.place }
+
 -- one stream more may be open, and there is room for it
 abbrev pub HasRoom : TableOf → Type 0
 HasRoom t = (length t.kept < t.limits.max_streams) × (0 < t.place)

@@ -6,8 +6,8 @@ use thiserror::Error;
 /// Why a stream can't be started. The table is then as before.
 #[derive(Clone, Copy, Debug, PartialEq, Eq, Error)]
 pub enum TableFault {
-    /// So many streams are open, and no more may be.
-    #[error("{0} streams are open, and no more may be")]
+    /// So many streams are open, as many as may be.
+    #[error("the limit of {0} open streams is reached")]
     TooMany(u32),
     /// There was not enough memory.
     #[error("out of memory")]

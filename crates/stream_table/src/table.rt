@@ -1,11 +1,11 @@
-//! The open streams of an end.
+//! The table of the open streams.
 
 ghost use Rattle.std.specs.Prelude.{◌≡◌, ◌<◌, ◌≤◌, ◌^◌, ◌+◌, IfOk, IfErr, IfSome, IsOk, OnOk, OnErr, IsSome, IsTrue, Some, None, is_some, false, length, if◌then◌else◌, nat_eq, ℕ};
 ghost use Rattle.indexmap.specs.IndexMap.{get, spare};
 ghost use Rattle.stream_model.specs.Streams.{one_if};
 ghost use Rattle.stream_model.specs.Kept.{is_done, unless_done, FitsCredit};
 ghost use Rattle.stream_model.specs.Known.{is_own_parity};
-ghost use Rattle.stream_table.specs.Tables.{HasRoom, IsNew, MeansFault, SetsAt, bare, highest_by, kept_at, kept_finished, no_streams, own_next, role_of, state_in, with_id};
+ghost use Rattle.stream_table.specs.Tables.{HasRoom, IsNew, MeansFault, SameIds, SetsAt, bare, highest_by, kept_at, kept_finished, no_streams, own_next, role_of, state_in, with_id};
 
 use crate::TableFault;
 use crate::ids::Ids;
@@ -16,6 +16,7 @@ use std::alloc::Global;
 use std::marker::Model;
 use stream_model::{Limits, State, Stream};
 
+// A stream more, for which there is room.
 fn put(streams: &mut IndexMap<u32, Stream>, id: u32, stream: Stream)
     requires room { 0 < spare streams.old }
     requires new { get nat_eq streams.old id ≡ None }
@@ -23,11 +24,11 @@ fn put(streams: &mut IndexMap<u32, Stream>, id: u32, stream: Stream)
     ensures live { length streams.new.entries ≡ length streams.old.entries + 1 }
     ensures room { spare streams.old ≤ spare streams.new + 1 }
 {
-    if streams.insert(id, stream).is_err() {
-        return;
-    }
+    // With room it can't fail.
+    let _ = streams.insert(id, stream);
 }
 
+// A stream that is there stands so from now on.
 fn change(streams: &mut IndexMap<u32, Stream>, id: u32, stream: Stream)
     requires { IsSome (get nat_eq streams.old id) }
     ensures kept { SetsAt streams.old.entries streams.new.entries id (Some stream) }
@@ -39,28 +40,64 @@ fn change(streams: &mut IndexMap<u32, Stream>, id: u32, stream: Stream)
     }
 }
 
-/// The streams of an end that are open, by id, and the highest ids.
+/// The streams of an end that are open, by id, and the highest id of each end (RSocket 1.0, "Stream
+/// Identifiers"). Contracts see the limits, what is kept of each open stream, for how many more
+/// there is room, and the highest even and odd id.
+///
+/// The life of a stream, by its id and its two ways:
+///
+/// ```text
+///   +------------+   skip, or start of a higher id
+///   |   above    |----------------------------------------.
+///   +------------+                                        |
+///         | start                                         v
+///         v                                            +------+
+///   +------------+   F: either way, R S: reply         |      |
+///   | both open  |------------------------------------>|      |
+///   +------------+                                     |      |
+///      |      |  C: reply                              |      |
+///      |      v                                        |      |
+///      |  +------------+   C: request                  | over |
+///      |  | reply over |------------------------------>|      |
+///      |  +------------+                               |      |
+///      |  R S C: request                               |      |
+///      v                                               |      |
+///   +--------------+   R S C: reply                    |      |
+///   | request over |---------------------------------->|      |
+///   +--------------+                                   +------+
+///
+///   F    a fire-and-forget     request   the way from the requester to the responder is finished
+///   R    a response            reply     the way back is finished
+///   S    a stream              start     an id above the highest of its parity is used; `begin`
+///   C    a channel                       also enters at a later state, or is over at once
+/// ```
+///
+/// A way is finished by the message that completes it; a responder's CANCEL of a channel finishes
+/// the request way; an ERROR, or the requester's CANCEL, finishes both. Only the three open states
+/// are in memory. An id stays over for good; 0 is no stream's, and stays above.
 #[derive(Debug, Drop)]
 pub struct Table {
-    // The streams that are not over, by id.
+    // The streams that are not over.
     streams: IndexMap<u32, Stream>,
+    // The highest ids that were used.
     ids: Ids,
     limits: Limits,
 }
 
 impl Model for Table {
-    ghost use Rattle.indexmap.specs.IndexMap.{spare};
     ghost use Rattle.stream_table.specs.Tables.{IsTable, TableOf};
+    ghost use Rattle.stream_table.specs.Storage.{table_of};
 
     ghost Value = { TableOf };
 
-    ghost view = { λ t. record { limits = t.limits; kept = t.streams.entries; place = spare t.streams; even = t.ids.even; odd = t.ids.odd } };
+    ghost view = { table_of };
 
-    ghost invariant = { λ t. IsTable (record { limits = t.limits; kept = t.streams.entries; place = spare t.streams; even = t.ids.even; odd = t.ids.odd }) };
+    ghost invariant = { λ t. IsTable (table_of t) };
 }
 
 impl Table {
-    /// No stream is open, and there is room for one.
+    /// No stream is open, and there is room for one. At most `max_streams` will be open at once,
+    /// and this end's last id is `last_id`.
     pub fn new(
         alloc: Global,
         side: Side,
@@ -68,11 +105,8 @@ impl Table {
         last_id: u32,
     ) -> Result<Table, OutOfMemory>
         requires { last_id < 2 ^ 31 }
-        ensures empty { IfOk result (λ t. t ≡ no_streams (record {
-          side = side;
-          max_streams = max_streams;
-          last_id = last_id;
-        }) t.place) }
+        ensures empty { IfOk result (λ t. t ≡ no_streams
+            (record { side = side; max_streams = max_streams; last_id = last_id }) t.place) }
         ensures place { IfOk result (λ t. 0 < t.place) }
     {
         Ok(Table {
@@ -84,6 +118,13 @@ impl Table {
             },
             ids: Ids { even: 0, odd: 0 },
         })
+    }
+
+    /// The limits of the end.
+    pub fn limits(&self) -> Limits
+        ensures { result ≡ self.now.limits }
+    {
+        self.limits
     }
 
     /// How many streams are open.
@@ -103,7 +144,8 @@ impl Table {
         self.streams.get(&id).copied()
     }
 
-    /// The highest id that an end used, 0 for none.
+    /// The highest id that was used of those of an end, 0 for none: the client's ids are odd, the
+    /// server's even.
     pub fn highest(&self, opener: Side) -> u32
         ensures highest { result ≡ highest_by self.now opener }
         ensures bits { result < 2 ^ 31 }
@@ -111,7 +153,7 @@ impl Table {
         self.ids.of(opener)
     }
 
-    /// What is known of an id.
+    /// What is known of an id: it is above all that were used, or its stream is open or over.
     pub fn state(&self, id: u32) -> State
         ensures { result ≡ state_in self.now id }
     {
@@ -129,7 +171,8 @@ impl Table {
         }
     }
 
-    /// The id of this end's next request. `None` exactly where it passes the last id.
+    /// The id of this end's next stream: 1 or 2 at first, then 2 above its highest. `None` exactly
+    /// where that passes the last id.
     pub fn next_id(&self) -> Option<u32>
         ensures next { result ≡ own_next self.now }
         ensures new { IfSome result (IsNew self.now) }
@@ -142,7 +185,7 @@ impl Table {
         Some(next)
     }
 
-    /// Makes room for one stream more: with it, [`Table::start`] takes no memory.
+    /// Makes room for one stream more: with room, [`Table::start`] takes no memory.
     pub fn reserve(&mut self) -> Result<(), OutOfMemory>
         ensures room { OnOk result (0 < self.new.place) }
         ensures enough { 0 < self.old.place → IsOk result }
@@ -153,7 +196,7 @@ impl Table {
         Ok(())
     }
 
-    /// Uses an id without a stream: it is over from the start.
+    /// Uses an id that no stream is opened for: it is over from now on, as are all below it.
     pub fn skip(&mut self, id: u32)
         requires { id < 2 ^ 31 }
         ensures { self.new ≡ with_id self.old id }
@@ -161,7 +204,8 @@ impl Table {
         self.ids.raise(id);
     }
 
-    /// Opens a stream.
+    /// Opens a stream of that kind, both ways of which are open and without credit.
+    /// [`TableFault::TooMany`] exactly where as many streams are open as may be.
     pub fn start(&mut self, id: u32, kind: Kind, opener: Side) -> Result<(), TableFault>
         requires new { IsNew self.old id }
         requires parity { IsTrue (is_own_parity opener id) }
@@ -169,10 +213,7 @@ impl Table {
             (Some (bare (role_of self.old.limits.side opener) kind))) }
         ensures live { OnOk result (length self.new.kept ≡ length self.old.kept + 1) }
         ensures within { OnOk result (length self.old.kept < self.old.limits.max_streams) }
-        ensures used { OnOk result (self.new ≡ record (with_id self.old id) {
-          kept = self.new.kept;
-          place = self.new.place;
-        }) }
+        ensures used { OnOk result (SameIds (with_id self.old id) self.new) }
         ensures fault { IfErr result (MeansFault self.old) }
         ensures same { OnErr result (self.new ≡ record self.old { place = self.new.place }) }
         ensures place { self.old.place ≤ self.new.place + 1 }
@@ -185,7 +226,8 @@ impl Table {
         Ok(())
     }
 
-    /// Opens a stream that stands so already; one that is over at once only uses its id.
+    /// Opens a stream that stands so from its request on. One that is over at once only uses its
+    /// id, and needs no room.
     pub fn begin(&mut self, id: u32, stream: Stream)
         requires new { IsNew self.old id }
         requires room { is_done stream ≡ false → HasRoom self.old }
@@ -193,10 +235,7 @@ impl Table {
         ensures kept { SetsAt self.old.kept self.new.kept id (unless_done stream) }
         ensures live { length self.new.kept
             ≡ length self.old.kept + one_if (is_some (unless_done stream)) }
-        ensures used { self.new ≡ record (with_id self.old id) {
-          kept = self.new.kept;
-          place = self.new.place;
-        } }
+        ensures used { SameIds (with_id self.old id) self.new }
         ensures place { self.old.place
             ≤ self.new.place + one_if (is_some (unless_done stream)) }
     {
@@ -206,17 +245,14 @@ impl Table {
         }
     }
 
-    /// The stream of an id stands so from now on; one that is over is kept no more.
+    /// The open stream of an id stands so from now on. One that is over is let go.
     pub fn set(&mut self, id: u32, stream: Stream)
         requires kept { IsSome (kept_at self.old.kept id) }
         requires credit { is_done stream ≡ false → FitsCredit stream }
         ensures kept { SetsAt self.old.kept self.new.kept id (unless_done stream) }
         ensures live { length self.new.kept + 1
             ≡ length self.old.kept + one_if (is_some (unless_done stream)) }
-        ensures same { self.new ≡ record self.old {
-          kept = self.new.kept;
-          place = self.new.place;
-        } }
+        ensures same { SameIds self.old self.new }
         ensures place { self.old.place ≤ self.new.place }
     {
         if is_over(&stream) {
@@ -226,17 +262,16 @@ impl Table {
         }
     }
 
-    /// A way of a stream is over.
+    /// A way of the stream of an id is finished. It ends the whole stream where it is the reply way
+    /// of a response or a stream, a way of a fire-and-forget, or the second way. Where no stream of
+    /// that id is open, nothing changes.
     pub fn finish(&mut self, id: u32, way: Way)
         ensures kept { SetsAt self.old.kept self.new.kept id
             (kept_finished way (kept_at self.old.kept id)) }
         ensures live { length self.new.kept + one_if (is_some (kept_at self.old.kept id))
             ≡ length self.old.kept
             + one_if (is_some (kept_finished way (kept_at self.old.kept id))) }
-        ensures same { self.new ≡ record self.old {
-          kept = self.new.kept;
-          place = self.new.place;
-        } }
+        ensures same { SameIds self.old self.new }
         ensures place { self.old.place ≤ self.new.place }
     {
         if let Some(stream) = self.get(id) {
