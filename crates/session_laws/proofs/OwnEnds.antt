@@ -11,7 +11,8 @@ use Rattle.stream_model.specs.Marks.{Mark, Opens, Sent, Got, Took, TookJob, Step
 use Rattle.stream_model.specs.Turns.{Turn, Said, Taken, taken, waiting, is_role, other}
 use Rattle.stream_model.specs.Streams.{turn, turn_after, goes_on, live, on}
 use Rattle.stream_model.specs.Fair.{Fair as FairMarks, Fits, FitsTurn}
-use Rattle.stream_model.proofs.Delivered.{dropped, own_end}
+use Rattle.stream_model.specs.Laws.{own_end}
+use Rattle.stream_model.proofs.Delivered.{dropped}
 use Rattle.stream_model.proofs.Ids.{fresh, turn_sent}
 use Rattle.stream_model.proofs.Streams.{fair_words, fits_here}
 use Rattle.session_model.specs.Streams.{marks_in, words}

@@ -26,7 +26,7 @@ use Rattle.stream_model.specs.Known.{Known, highest_at, is_open_response}
 use Rattle.stream_model.specs.Refused.{by_state}
 use Rattle.stream_model.specs.Arriving.{no_message}
 use Rattle.session_model.specs.declared.numbers.TheConstants.{CONNECTION_ERROR}
-use Rattle.session_model.specs.Frames.{setup_frame, request_frame, turned_away, spoken, makes, beside, lines_up, handles}
+use Rattle.session_model.specs.Frames.{refusal, setup_frame, request_frame, turned_away, spoken, makes, beside, lines_up, handles}
 use Rattle.session_model.specs.Answers.{Facts, refused_sending}
 use Rattle.session_model.specs.Legal.{AmountsFit, IsFair, IsPlain}
 use Rattle.session_model.specs.Means.{Does, Means}
@@ -238,3 +238,7 @@ unfolding pos_by
 handles_fit g t (event.Came conn f) answer.Handled means below = let fits = handled_fits g t f means.unbroken in grind (arith, common_steps)
 handles_fit g t e answer.Handled means below = absurd means
 handles_fit g t e a means below = omega (arith, below)
+
+-- the frame that refuses a connection
+pub refusal_spelled : (a : Answer) → IfSome (refusal a) IsSpellable
+refusal_spelled a = grind (arith, common_steps)
