@@ -94,7 +94,8 @@ impl<T: Tape> Session<T> {
     /// has a first frame exactly on a server, and frames can be spelled.
     ///
     /// `TapeFull` comes exactly where there are 2^63 entries. `OutOfMemory` may come in place of any
-    /// answer that leaves an entry, but at a cut only where there is no spare. These two, `NotYet` and `OutBusy` leave all as it was.
+    /// answer that leaves an entry, but at a cut only where there is no spare. These two, `NotYet` and
+    /// `OutBusy` leave all as it was.
     pub fn step(&mut self, who: u32, event: &Event) -> Answer
         requires fair { IsFair self.old.settings event.now }
         requires no_draw { IsNoDrawEvent event.now }
