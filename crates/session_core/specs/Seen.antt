@@ -35,9 +35,9 @@ IsUnlessWant answer.TapeFull right = Unit {0}
 IsUnlessWant answer.OutOfMemory right = Unit {0}
 IsUnlessWant a right = a ≡ right
 
-abbrev pub IsCut : Event → Type 0
-IsCut (event.Cut conn) = Unit {0}
-IsCut _ = ⊥
+abbrev pub IsCutEvent : Event → Type 0
+IsCutEvent (event.Cut conn) = Unit {0}
+IsCutEvent _ = ⊥
 
 abbrev pub IsNoDrawEvent : Event → Type 0
 IsNoDrawEvent (event.Draw conn room) = ⊥

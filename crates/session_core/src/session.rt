@@ -9,7 +9,7 @@ ghost use Rattle.session_model.specs.Frames.{drawn, due, queued};
 ghost use Rattle.session_model.specs.Answers.{answer_to};
 ghost use Rattle.session_model.specs.Legal.{Fair, IsFair, IsPlain, LeavesEntry, Legal};
 ghost use Rattle.session_core.specs.Queued.{IfDrawn, IsBrief, IsOfCut, IsOfDraw, IsUntouched};
-ghost use Rattle.session_core.specs.Seen.{IsCut, IsNoDrawEvent, IsUnlessWant, counts_of, entries_after, told_by};
+ghost use Rattle.session_core.specs.Seen.{IsCutEvent, IsNoDrawEvent, IsUnlessWant, counts_of, entries_after, told_by};
 
 use crate::counts::Counts;
 use crate::history::History;
@@ -94,7 +94,8 @@ impl<T: Tape> Session<T> {
     /// has a first frame exactly on a server, and frames can be spelled.
     ///
     /// `TapeFull` comes exactly where there are 2^63 entries. `OutOfMemory` may come in place of any
-    /// answer that leaves an entry, but at a cut only where there is no spare. These two, `NotYet` and `OutBusy` leave all as it was.
+    /// answer that leaves an entry, but at a cut only where there is no spare. These two, `NotYet` and
+    /// `OutBusy` leave all as it was.
     pub fn step(&mut self, who: u32, event: &Event) -> Answer
         requires fair { IsFair self.old.settings event.now }
         requires no_draw { IsNoDrawEvent event.now }
@@ -105,7 +106,7 @@ impl<T: Tape> Session<T> {
           entries = entries_after who event.now result self.old.entries;
           spare = self.new.spare;
         } }
-        ensures memory { IsCut event.now → 0 < self.old.spare → result ≢ Answer.OutOfMemory }
+        ensures memory { IsCutEvent event.now → 0 < self.old.spare → result ≢ Answer.OutOfMemory }
         ensures spare { self.old.spare ≤ self.new.spare + 1 }
     {
         if self.tape.count() >= FULL {
