@@ -20,8 +20,8 @@ use rs_wire::{Amount, Call, Kind, OutOfMemory, Role};
 use stream_model::Stream;
 
 impl Parts {
-    // An act of this end: the stream goes on so, and what waits is dropped where the act ends the way
-    // that this end receives.
+    // An act of this end: the stream goes on so, and what waits is dropped where the act ends the
+    // way that this end receives.
     fn own(&mut self, stream: u32, before: Stream, after: Stream, ends: bool)
         requires live { kept_at self.old.table.kept stream ≡ Some before }
         requires credit { is_done after ≡ false → FitsCredit after }

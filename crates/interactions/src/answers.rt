@@ -15,8 +15,8 @@ use stream_model::State;
 
 impl Streams {
     /// Whether a call is let through, or the first refusal that holds, in this order: its stream's
-    /// state, credit, ids, how many streams are open. A session asks for each by itself where it puts
-    /// tests of its own between them.
+    /// state, credit, ids, how many streams are open. A session asks for each by itself where it
+    /// puts tests of its own between them.
     pub fn judge(&self, call: &Call) -> Result<(), Refusal>
         ensures { MatchResult result
             (λ _. refused_by self.now.limits (known_to self.now) call.now ≡ None)
@@ -84,8 +84,8 @@ impl Streams {
         self.parts.next_id()
     }
 
-    /// How many items were granted on a way of a stream, and how many of these are left: `None` exactly
-    /// where the stream is not open, or credit counts no items on that way.
+    /// How many items were granted on a way of a stream, and how many of these are left: `None`
+    /// exactly where the stream is not open, or credit counts no items on that way.
     pub fn credit(&self, stream: u32, way: Way) -> Option<(u128, u128)>
         ensures { result ≡ credit_on ((known_to self.now).kept stream) way }
     {
@@ -100,23 +100,24 @@ impl Streams {
         self.parts.is_peers_next(stream)
     }
 
-    /// Whether a request of the peer's would be admitted: one stream more may be open, or it is a whole
-    /// fire-and-forget, which is over at once.
+    /// Whether a request of the peer's would be admitted: one stream more may be open, or it is a
+    /// whole fire-and-forget, which is over at once.
     pub fn admits(&self, kind: Kind, whole: bool) -> bool
         ensures { result ≡ admits self.now.limits (known_to self.now) kind whole }
     {
         self.parts.admits(kind, whole)
     }
 
-    /// How many items were granted on a stream, where the next one of the peer's finds no credit left.
+    /// How many items were granted on a stream, where the next one of the peer's finds no credit
+    /// left.
     pub fn over_credit(&self, stream: u32, next: bool) -> Option<u128>
         ensures { result ≡ over_credit_on ((known_to self.now).kept stream) next }
     {
         self.parts.over_credit(stream, next)
     }
 
-    /// Whether a message of the peer's on a stream is taken in: it is the rest of a request's own, or
-    /// goes on a way that is not over.
+    /// Whether a message of the peer's on a stream is taken in: it is the rest of a request's own,
+    /// or goes on a way that is not over.
     pub fn hears(&self, stream: u32) -> bool
         ensures { result ≡ hears_on ((known_to self.now).kept stream) }
     {

@@ -10,6 +10,7 @@ ghost use Rattle.stream_model.specs.Known.{is_peers_next, over_at};
 ghost use Rattle.stream_model.specs.Streams.{if_amount};
 ghost use Rattle.stream_model.specs.Arriving.{CanArrive, MayGrant, asked_effect, effect_by, heard, message_effect, or_zero, step_effect, stream_in, theirs};
 ghost use Rattle.stream_table.specs.Tables.{IsNew, highest_in, kept_at};
+ghost use Rattle.interactions.specs.Answers.{admits};
 ghost use Rattle.interactions.specs.Waiting.{room_at, waits_at};
 ghost use Rattle.interactions.specs.Stands.{known_of, Begins, HasRoom, Says, Stands};
 ghost use Rattle.interactions.specs.Next.{IfBroken, IfCounted, opened_jobs, waits_peer};
@@ -78,8 +79,8 @@ fn placed(
 }
 
 impl Parts {
-    // An act of the peer's: the stream goes on so, and an item and an end are delivered where the way
-    // that this end receives is not over.
+    // An act of the peer's: the stream goes on so, and an item and an end are delivered where the
+    // way that this end receives is not over.
     fn peer(
         &mut self,
         stream: u32,
@@ -187,15 +188,15 @@ impl Parts {
 
     /// One stream more may be open, or it is a whole fire-and-forget, which is over at once.
     pub fn admits(&self, kind: Kind, whole: bool) -> bool
-        ensures { result ≡ (nat_lt (known_of self.now).live self.now.table.limits.max_streams ||
-            (is_fnf kind && whole)) }
+        ensures { result ≡ admits self.now.table.limits (known_of self.now) kind whole }
     {
         self.table.live() < self.table.limits().max_streams || (kind == Kind::Fnf && whole)
     }
 
     /// The peer may make a request on that id.
     pub fn is_peers_next(&self, stream: u32) -> bool
-        ensures next { result ≡ is_peers_next self.now.table.limits.side (known_of self.now) stream }
+        ensures next { result ≡
+            is_peers_next self.now.table.limits.side (known_of self.now) stream }
         ensures above { result ≡ true → highest_in self.now.table stream < stream }
     {
         match self.table.limits().side {

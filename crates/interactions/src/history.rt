@@ -48,8 +48,8 @@ pub enum Past {
     },
 }
 
-/// What happened on the streams of an end. It has no bytes: contracts alone see the marks, the newest
-/// first.
+/// What happened on the streams of an end. It has no bytes: contracts alone see the marks, the
+/// newest first.
 #[derive(Drop)]
 pub struct History {
     past: Snapshot<Past>,

@@ -1,5 +1,5 @@
-//! What a call on the streams is refused for. Each test stands alone, since a session puts tests of its
-//! own between them.
+//! What a call on the streams is refused for. Each test stands alone, since a session puts tests of
+//! its own between them.
 
 ghost use Rattle.std.specs.Prelude.{◌≡◌};
 ghost use Rattle.stream_model.specs.Refused.{by_credit, by_ids, by_live, by_state, cancel_refused};
@@ -73,7 +73,8 @@ fn cancel_refused(kept: Stream) -> Option<Refusal>
     }
 }
 
-// A fire-and-forget has nothing to take, and of another stream nothing more comes once the way is over.
+// A fire-and-forget has nothing to take, and of another stream nothing more comes once the way is
+// over.
 fn take_refused(kept: Stream) -> Option<Refusal>
     ensures { result ≡ take_refused kept }
 {

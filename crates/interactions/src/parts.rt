@@ -1,5 +1,5 @@
-//! The streams of an end without what happened on them: what is kept of those that are open, and what
-//! waits to be taken.
+//! The streams of an end without what happened on them: what is kept of those that are open, and
+//! what waits to be taken.
 
 ghost use Rattle.std.specs.Prelude.{◌≡◌, ◌<◌, ◌≤◌, ◌^◌, ℕ, IfOk, OnOk, IsOk, [], List};
 ghost use Rattle.stream_model.specs.Marks.{Mark};

@@ -27,8 +27,8 @@ pub fn is_done(kept: Stream) -> bool
     kept.request_over && kept.reply_over
 }
 
-/// How much was granted of the way that this end receives, where an item of the peer's finds no credit
-/// left on it.
+/// How much was granted of the way that this end receives, where an item of the peer's finds no
+/// credit left on it.
 pub fn over_credit(kept: Stream, next: bool) -> Option<u128>
     ensures { result ≡ over_credit kept next }
 {

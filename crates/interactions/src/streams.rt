@@ -55,8 +55,8 @@ impl Streams {
         })
     }
 
-    /// A call acts on the streams, and answers its stream. Only a request may run out of memory, and
-    /// not where there is room for an arrival.
+    /// A call acts on the streams, and answers its stream. Only a request may run out of memory,
+    /// and not where there is room for an arrival.
     pub fn act(&mut self, call: &Call) -> Result<u32, OutOfMemory>
         requires accepted { refused_by self.old.limits (known_to self.old) call.now ≡ None }
         requires askable { CanBeAsked call.now }
@@ -98,21 +98,26 @@ impl Streams {
         effect
     }
 
-    /// Takes what waits first on a stream: `None` exactly where nothing waits. The room for an arrival
-    /// stays.
+    /// Takes what waits first on a stream: `None` exactly where nothing waits. The room for an
+    /// arrival stays.
     pub fn take(&mut self, stream: u32) -> Option<Delivery>
         ensures first { result ≡ front_of ((known_to self.old).waits stream) }
-        ensures after { self.new ≡ record self.old { marks = took stream result ++ self.old.marks } }
+        ensures after { self.new ≡ record self.old {
+          marks = took stream result ++ self.old.marks;
+        } }
     {
         let delivery = self.parts.take(stream)?;
         self.history.took(stream, &delivery);
         Some(delivery)
     }
 
-    /// Takes the job that waits first: `None` exactly where none waits. The room for an arrival stays.
+    /// Takes the job that waits first: `None` exactly where none waits. The room for an arrival
+    /// stays.
     pub fn take_job(&mut self) -> Option<Job>
         ensures first { result ≡ front_of (known_to self.old).jobs }
-        ensures after { self.new ≡ record self.old { marks = took_job result ++ self.old.marks } }
+        ensures after { self.new ≡ record self.old {
+          marks = took_job result ++ self.old.marks;
+        } }
     {
         let job = self.parts.take_job()?;
         self.history.took_job();

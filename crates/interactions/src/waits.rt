@@ -92,7 +92,8 @@ impl Waits {
     pub fn push(&mut self, stream: u32, delivery: Delivery)
         requires { 0 < room_at self.old stream }
         ensures waits { (s : ℕ) → waits_at self.new s
-            ≡ (if nat_eq stream s then waits_at self.old stream ++ delivery ∷ [] else waits_at self.old s) }
+            ≡ (if nat_eq stream s then waits_at self.old stream ++ delivery ∷ []
+            else waits_at self.old s) }
         ensures room { room_at self.new stream + 1 ≡ room_at self.old stream }
     {
         if let Some(queue) = self.queues.get_mut(&stream) {
@@ -119,7 +120,8 @@ impl Waits {
 
     /// Drops what waits on a stream.
     pub fn clear(&mut self, stream: u32)
-        ensures { (s : ℕ) → waits_at self.new s ≡ (if nat_eq stream s then [] else waits_at self.old s) }
+        ensures { (s : ℕ) → waits_at self.new s
+            ≡ (if nat_eq stream s then [] else waits_at self.old s) }
     {
         let _ = self.queues.swap_remove(&stream);
     }
@@ -138,12 +140,14 @@ impl Waits {
         }
     }
 
-    /// Takes what waits first on a stream. A queue that is empty then is let go, or becomes the fresh
-    /// one where it has more room: so no room is lost.
+    /// Takes what waits first on a stream. A queue that is empty then is let go, or becomes the
+    /// fresh one where it has more room: so no room is lost.
     pub fn pop(&mut self, stream: u32) -> Option<Delivery>
         ensures front { result ≡ front_of (waits_at self.old stream) }
-        ensures waits { waits_at self.old stream ≡ option_to_list result ++ waits_at self.new stream }
-        ensures others { (s : ℕ) → nat_eq stream s ≡ false → waits_at self.new s ≡ waits_at self.old s }
+        ensures waits { waits_at self.old stream
+            ≡ option_to_list result ++ waits_at self.new stream }
+        ensures others { (s : ℕ) → nat_eq stream s ≡ false
+            → waits_at self.new s ≡ waits_at self.old s }
         ensures places { self.old.place ≤ self.new.place }
         ensures keeps { 0 < self.old.place → (s : ℕ) → room_at self.old s ≤ room_at self.new s }
     {

@@ -54,7 +54,8 @@ pub fn cancel_ends(by: Role, kind: Kind, way: Way) -> bool
     }
 }
 
-/// Whether this way carries items of that end, where `whole` says that the request's own message is.
+/// Whether this way carries items of that end, where `whole` says that the request's own message
+/// is.
 pub fn carries(kind: Kind, whole: bool, way: Way, by: Role) -> bool
     ensures { result ≡ carries kind whole way by }
 {

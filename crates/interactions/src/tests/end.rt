@@ -1,7 +1,7 @@
 //! An end whose callers and whose peer keep the conditions of its streams.
 
-ghost use Rattle.std.specs.Prelude.{◌≡◌, ◌<◌, ◌≤◌, ◌^◌, ℕ, IsTrue, length};
-ghost use Rattle.rs_wire.specs.Calls.{CanBeAsked};
+ghost use Rattle.std.specs.Prelude.{◌≡◌, ◌<◌, ◌≤◌, ◌^◌, ℕ, IsTrue, OnOk, length};
+ghost use Rattle.rs_wire.specs.Calls.{is_streamed, CanBeAsked, CompleteFits};
 ghost use Rattle.stream_model.specs.Arriving.{CanAct, CanArrive, MayGrant, stream_in};
 ghost use Rattle.stream_model.specs.Known.{Known};
 ghost use Rattle.interactions.specs.Seen.{known_to};
@@ -22,9 +22,24 @@ pub struct End {
     ghost few: { length streams.marks ≤ steps },
 }
 
-// What a request carries fits its kind.
-fn fits(kind: Kind, has_initial: bool) -> bool {
-    has_initial == matches!(kind, Kind::Stream | Kind::Channel)
+// An initial n is there exactly where the kind has one.
+fn fits(kind: Kind, has_initial: bool) -> bool
+    ensures { IsTrue result → has_initial ≡ is_streamed kind }
+{
+    match kind {
+        Kind::Stream | Kind::Channel => has_initial,
+        Kind::Response | Kind::Fnf => !has_initial,
+    }
+}
+
+// Only a channel completes with its request.
+fn may_complete(kind: Kind, complete: bool) -> bool
+    ensures { IsTrue result → CompleteFits kind complete }
+{
+    match kind {
+        Kind::Channel => true,
+        Kind::Response | Kind::Fnf | Kind::Stream => !complete,
+    }
 }
 
 // A call that acts on a stream, and that a caller may make.
@@ -39,7 +54,7 @@ fn is_act(call: &Call) -> bool
             initial,
             complete,
             ..
-        } => fits(*kind, initial.is_some()) && (!*complete || *kind == Kind::Channel),
+        } => fits(*kind, initial.is_some()) && may_complete(*kind, *complete),
         Call::Fail { code, .. } => is_stream_code(*code),
         Call::Next { .. } | Call::Done { .. } | Call::Grant { .. } | Call::Cancel { .. } => true,
         Call::Take { .. } | Call::TakeJob | Call::Close => false,
@@ -90,7 +105,12 @@ impl End {
     }
 
     // One step more. There are few, so what was granted leaves room for more.
-    fn count(&mut self) -> Result<(), Fail> {
+    fn count(&mut self) -> Result<(), Fail>
+        ensures streams { self.new.streams ≡ self.old.streams }
+        ensures few { OnOk result (length self.new.streams.marks < self.new.steps) }
+        ensures grants { OnOk result ((s : ℕ) → MayGrant ((known_to self.new.streams).kept s)) }
+    {
+        self.streams.fair();
         if self.steps >= 1 << 60 {
             return Err(Fail::from("there are few steps"));
         }

@@ -8,7 +8,8 @@ use std::collections::VecDeque;
 use std::process::Abort;
 use std::test::Fail;
 
-/// The answer of an end to a step. What it says goes into `out`, and what it hears comes from `into`.
+/// The answer of an end to a step. What it says goes into `out`, and what it hears comes from
+/// `into`.
 fn answer(
     alloc: Global,
     end: &mut End,
@@ -36,9 +37,9 @@ fn answer(
     }
 }
 
-/// Plays the steps one after another on a new client and a new server with the usual limits, or with
-/// these: how many streams may be open, and the last id. Each step has the answer that stands beside
-/// it.
+/// Plays the steps one after another on a new client and a new server with the usual limits, or
+/// with these: how many streams may be open, and the last id. Each step has the answer that stands
+/// beside it.
 pub fn play_within(
     rt: &impl Abort,
     alloc: Global,

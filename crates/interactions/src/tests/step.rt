@@ -25,8 +25,8 @@ pub enum Act {
 /// What an end says to the other one.
 #[derive(Clone, Copy, Debug)]
 pub enum Said {
-    /// A request on a stream, its kind, its initial n, 0 for none, and whether nothing more follows, or
-    /// none where fragments follow.
+    /// A request on a stream, its kind, its initial n, 0 for none, and whether nothing more
+    /// follows, or none where fragments follow.
     Request(u32, Kind, u32, Option<bool>),
     /// A message on a stream, whether nothing more follows, and whether it is an item.
     Message(u32, bool, bool),
