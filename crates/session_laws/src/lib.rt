@@ -1,15 +1,15 @@
 //! The laws of a session, proved from its definitions alone.
 //!
 //! Each function here does nothing: its clauses are laws of the entries of one end (`one_end`), of
-//! the streams of one end (`streams`), or of two ends whose bytes crossed (`two_ends`), for sessions
-//! without resumption, leases and fragments. The frames that count are those of streams, and
-//! positions count their bytes (RSocket 1.0, "Resuming Operation").
+//! its streams (`streams`), or of two ends whose bytes crossed (`two_ends`), for sessions without
+//! resumption, leases and fragments. The frames that count are those of streams, and positions
+//! count their bytes (RSocket 1.0, "Resuming Operation").
 //!
 //! The promise to the layers above: what holds here holds of every list of entries that the core
 //! leaves, since each of them is legal, and fair where the caller keeps the conditions of events.
 //! First of all, what an end has handled is a prefix of what the other made, in order, with nothing
-//! lost and nothing twice; and no stream carries more items than were granted, or delivers after its
-//! end.
+//! lost and nothing twice; and no stream carries more items than were granted, or delivers after
+//! its end.
 //!
 //! Left out: how the entries come about (the core), and what only time decides, such as that all
 //! that is due comes in the end.

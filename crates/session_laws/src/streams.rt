@@ -10,7 +10,8 @@ ghost use Rattle.std.specs.Prelude.{◌≡◌, ◌≤◌, ◌++◌, ℕ, List, [
 ghost use Rattle.rs_wire.specs.declared.settings.Settings.{Settings};
 ghost use Rattle.rs_wire.specs.declared.words.Way.{Way};
 ghost use Rattle.tape.specs.declared.entry.Entry.{Entry};
-ghost use Rattle.stream_model.specs.Laws.{IsOver, OneEnd, OneResponse, TakenFirst, UsedWithinGranted};
+ghost use Rattle.stream_model.specs.Laws.{IsOver, OneEnd, OneResponse, TakenFirst};
+ghost use Rattle.stream_model.specs.Laws.{UsedWithinGranted};
 ghost use Rattle.stream_model.specs.Streams.{live};
 ghost use Rattle.stream_model.specs.Turns.{Turn, delivered, taken, waiting};
 ghost use Rattle.session_model.specs.Lists.{IsPrefix};
@@ -19,12 +20,13 @@ ghost use Rattle.session_laws.specs.Streams.{EndsReceiving, IsLawful, IsStream, 
 
 /// What came before any entry of a lawful list is lawful.
 pub fn what_came_before_is_lawful()
-    ensures { (g : Settings) (more past : List Entry) → IsLawful g (more ++ past) → IsLawful g past }
+    ensures { (g : Settings) (more past : List Entry) →
+        IsLawful g (more ++ past) → IsLawful g past }
 {}
 
-/// On each way of a stream or a channel no more items were used than were granted, by this end or by
-/// its peer: the initial n of the request and each REQUEST_N grant them (RSocket 1.0, "REQUEST_N
-/// Frame").
+/// On each way of a stream or a channel no more items were used than were granted, by this end or
+/// by its peer: the initial n of the request and each REQUEST_N grant them (RSocket 1.0,
+/// "REQUEST_N Frame").
 pub fn items_stay_within_credit()
     ensures { (g : Settings) (past : List Entry) (s : ℕ) (t : Turn) →
         IsStream g past s t → UsedWithinGranted t }
@@ -36,8 +38,8 @@ pub fn a_response_carries_one_payload()
         IsStream g past s t → OneResponse t }
 {}
 
-/// What was taken of a stream is a prefix of what was delivered, and the rest waits: nothing is lost,
-/// nothing comes twice and nothing out of its order.
+/// What was taken of a stream is a prefix of what was delivered, and the rest waits: nothing is
+/// lost, nothing comes twice and nothing out of its order.
 pub fn taken_is_what_was_delivered_first()
     ensures prefix { (g : Settings) (past : List Entry) (s : ℕ) (t : Turn) →
         IsStream g past s t → IsPrefix (taken t.words) (delivered t.opening t.words) }
@@ -45,7 +47,8 @@ pub fn taken_is_what_was_delivered_first()
         IsStream g past s t → TakenFirst t }
 {}
 
-/// What was delivered on a stream has one end at most, as its last: no stream delivers after its end.
+/// What was delivered on a stream has one end at most, as its last: no stream delivers after its
+/// end.
 pub fn a_stream_delivers_one_end()
     ensures { (g : Settings) (past : List Entry) (s : ℕ) (t : Turn) →
         IsStream g past s t → OneEnd t }
