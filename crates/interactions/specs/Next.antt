@@ -40,11 +40,12 @@ job_in s f step = []
 abbrev pub opened_jobs : ℕ → Opening → List Job
 opened_jobs s o = if is_role o.role Responder then opening_job s o o.whole else []
 
--- what breaks a rule changes nothing, and all else is counted
+-- where no rule is broken
 abbrev pub IfCounted : Effect → Type 0 → Type 0
 IfCounted (effect.Broken rule) P = Unit {0}
 IfCounted _ P = P
 
+-- where a rule is broken
 abbrev pub IfBroken : Effect → Type 0 → Type 0
 IfBroken (effect.Broken rule) P = P
 IfBroken _ P = Unit {0}

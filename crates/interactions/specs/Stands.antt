@@ -38,11 +38,12 @@ pub record HasRoom (p : Parts) (s : ℕ) : Type 0 where
   pub waits : 2 ≤ room_at p.waits s
   pub job : 0 < p.jobs.room
 
--- so it is for the stream of the one arrival that comes next
+-- there is room for the arrival that comes next, where it was made
 abbrev pub IsReady : Parts → Option ℕ → Type 0
 IsReady p None = Unit {0}
 IsReady p (Some s) = HasRoom p s
 
+-- what holds of the streams of an end with these marks, and with room for an arrival on that stream
 pub record IsSound (p : Parts) (seen : List Mark) (ready : Option ℕ) : Type 0 where
   pub stands : Stands p seen
   pub room : IsReady p ready

@@ -12,6 +12,7 @@ pub record WaitsOf : Type 0 where
   -- the empty queue that the next such stream is given
   pub fresh : QueueOf Delivery
 
+-- what is in a queue, where there is one
 abbrev pub items_of : Option (QueueOf Delivery) → List Delivery
 items_of None = []
 items_of (Some q) = q.items
@@ -20,6 +21,7 @@ items_of (Some q) = q.items
 abbrev pub waits_at : WaitsOf → ℕ → List Delivery
 waits_at w s = items_of (lookup (nat_eq s) w.queues)
 
+-- for how much a queue has room, or the fresh one where there is a place for it
 abbrev pub room_of : ℕ → QueueOf Delivery → Option (QueueOf Delivery) → ℕ
 room_of place fresh None = if place == 0 then 0 else fresh.room
 room_of place fresh (Some q) = q.room
