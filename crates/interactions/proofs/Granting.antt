@@ -3,10 +3,10 @@ use Rattle.std.proofs.Common.{◌≡◌, ◌≤◌, ◌<◌, ◌^◌, ◌*◌, �
 use Rattle.rs_wire.specs.declared.words.Way.{Way}
 use Rattle.rs_wire.specs.declared.words.Way.TheVariants as way
 use Rattle.credit.specs.declared.Credit.{Credit}
-use Rattle.stream_model.specs.Marks.{Mark, Opening}
-use Rattle.stream_model.specs.Turns.{Turn, Word, granted, needs_credit}
+use Rattle.stream_model.specs.Marks.{Mark}
+use Rattle.stream_model.specs.Turns.{Turn, granted, needs_credit}
 use Rattle.stream_model.specs.Streams.{turn}
-use Rattle.stream_model.specs.Kept.{credit_of, kept, stream_of}
+use Rattle.stream_model.specs.Kept.{kept, stream_of}
 use Rattle.stream_model.specs.Known.{known}
 use Rattle.stream_model.specs.Arriving.{MayGrant}
 use Rattle.stream_model.specs.Turns.{is_over}

@@ -1,5 +1,5 @@
 -- What is known after a mark, from what was known before and what the mark changes.
-use Rattle.std.proofs.Common.{◌≡◌, ◌<◌, ◌+◌, ◌%◌, ◌==◌, ◌&&◌, ℕ, Bool, true, false, cond, List, [], ◌∷◌, ◌++◌, Option, Some, None, is_some, nat_eq, length, refl, ap, subst, sym, ◌∙◌, arith, append-nil}
+use Rattle.std.proofs.Common.{◌≡◌, ◌<◌, ◌%◌, ◌==◌, ◌&&◌, ℕ, Bool, true, false, cond, List, [], ◌∷◌, ◌++◌, Option, Some, None, is_some, nat_eq, refl, ap, sym, ◌∙◌, arith, append-nil}
 use Rattle.std.proofs.Math.Path.{fun_ext}
 use Rattle.std.proofs.lemmas.Bool.Decides.{nat_tests}
 use Rattle.rs_wire.specs.declared.words.Role.{Role}
@@ -12,7 +12,7 @@ use Rattle.stream_model.specs.Turns.{Said, delivered_first, ends, brings, inboun
 use Rattle.stream_model.specs.Streams.{turn, live, on, one_if, highest, higher, has_room, is_admitted, is_live, jobs_in, jobs_waiting, jobs, jobs_taken, count_to, brings_job, opening_job}
 use Rattle.stream_model.specs.Kept.{after, first, kept, unless_done}
 use Rattle.stream_model.specs.Known.{Known, known, over_at, waiting_of}
-use Rattle.stream_model.specs.Fair.{Fair, Fits}
+use Rattle.stream_model.specs.Fair.{Fair}
 use Rattle.stream_model.proofs.Ids.{fresh, highest_said, highest_opens, others_stay, same_id, turn_job, is_opening}
 use Rattle.stream_model.proofs.Live.{live_said, live_opens, live_job}
 use Rattle.stream_model.proofs.Jobs.{jobs_more, jobs_after}

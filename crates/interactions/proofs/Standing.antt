@@ -1,7 +1,6 @@
 -- The parts go on to show what is known.
-use Rattle.std.proofs.Common.{◌≡◌, ◌≤◌, ◌<◌, ◌^◌, ◌%◌, ◌&&◌, ◌||◌, ℕ, Bool, true, false, not, cond, List, [], ◌∷◌, ◌++◌, Option, Some, None, option_to_list, ltb, append-nil, length, refl, ap, subst, sym, ◌∙◌, arith}
+use Rattle.std.proofs.Common.{◌≡◌, ◌≤◌, ◌<◌, ◌^◌, ◌&&◌, ℕ, Bool, true, false, not, cond, List, [], ◌∷◌, ◌++◌, Option, Some, None, ltb, append-nil, length, refl, ap, subst, sym, ◌∙◌}
 use Rattle.std.proofs.Math.Path.{fun_ext}
-use Rattle.std.proofs.lemmas.Bool.Decides.{nat_tests}
 use Rattle.rs_wire.specs.declared.message.Message.{Message}
 use Rattle.rs_wire.specs.declared.words.Kind.{Kind}
 use Rattle.rs_wire.specs.declared.words.Kind.TheVariants.{Response, Fnf, Stream as Streamed, Channel}
@@ -12,7 +11,7 @@ use Rattle.rs_wire.specs.declared.delivery.Delivery.TheVariants as delivery
 use Rattle.rs_wire.specs.declared.delivery.Job.{Job}
 use Rattle.stream_model.specs.declared.stream.Limits.{Limits}
 use Rattle.stream_model.specs.declared.stream.Stream.{Stream}
-use Rattle.stream_model.specs.Marks.{Mark, Opening, Step, Opens, Sent, Got, Payload}
+use Rattle.stream_model.specs.Marks.{Mark, Opening, Step, Opens, Sent, Got}
 use Rattle.stream_model.specs.Turns.{Said, carries, delivered_first, ends, brings, inbound, is_fnf, is_role, item_deliveries, other}
 use Rattle.stream_model.specs.Streams.{higher, highest, is_admitted, live}
 use Rattle.stream_model.specs.Kept.{after, first, is_done, kept, unless_done}

@@ -1,12 +1,11 @@
 -- The parts go on to show what is known after something is taken.
-use Rattle.std.proofs.Common.{◌≡◌, ℕ, Bool, true, false, cond, List, [], ◌∷◌, ◌++◌, Option, Some, None, option_to_list, nat_eq, length, refl, ap, subst, sym, ◌∙◌, arith, append-nil}
+use Rattle.std.proofs.Common.{◌≡◌, ℕ, true, false, cond, List, [], ◌∷◌, ◌++◌, Option, Some, None, option_to_list, nat_eq, length, refl, ap, subst, sym, ◌∙◌, arith, append-nil}
 use Rattle.std.proofs.Math.Path.{fun_ext}
 use Rattle.std.proofs.lemmas.Bool.Decides.{nat_tests}
 use Rattle.rs_wire.specs.declared.delivery.Delivery.{Delivery}
 use Rattle.rs_wire.specs.declared.delivery.Job.{Job}
 use Rattle.stream_model.specs.Marks.{Mark, Took, TookJob}
 use Rattle.stream_model.specs.Arriving.{took, took_job}
-use Rattle.stream_model.specs.Kept.{kept}
 use Rattle.stream_model.specs.Known.{Known, known}
 use Rattle.stream_model.specs.Fair.{Fair, Fits}
 use Rattle.stream_model.proofs.Steps.{took_fits}

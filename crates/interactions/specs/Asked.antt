@@ -1,5 +1,5 @@
 -- What a call asks of a stream that is open.
-use Rattle.std.specs.Prelude.{Option, Some, None}
+use Rattle.std.specs.Prelude.{Option, None}
 use Rattle.rs_wire.specs.declared.fault.Refusal.{Refusal}
 use Rattle.stream_model.specs.declared.stream.Stream.{Stream as Kept}
 use Rattle.stream_model.specs.Refused.{on_way, outbound_over, inbound_over, cancel_refused, take_refused}

@@ -1,5 +1,5 @@
 -- Items that credit counts.
-use Rattle.std.specs.Prelude.{◌≡◌, ◌<◌, ◌&&◌, not, Bool, true, false}
+use Rattle.std.specs.Prelude.{◌≡◌, ◌<◌, ◌&&◌, not, Bool, true}
 use Rattle.rs_wire.specs.declared.words.Role.{Role}
 use Rattle.rs_wire.specs.declared.words.Way.{Way}
 use Rattle.stream_model.specs.declared.stream.Stream.{Stream}

@@ -1,19 +1,17 @@
 -- What an act of either end does to what waits on its stream, and to the jobs.
-use Rattle.std.specs.Prelude.{◌≡◌, ◌<◌, ◌&&◌, ◌++◌, not, Bool, true, false, if◌then◌else◌, ℕ, List, [], ◌∷◌, Option, Some, None, IsSome}
-use Rattle.rs_wire.specs.declared.words.Way.{Way}
-use Rattle.rs_wire.specs.declared.words.Role.{Role}
+use Rattle.std.specs.Prelude.{◌&&◌, ◌++◌, not, Bool, if◌then◌else◌, ℕ, List, [], ◌∷◌, Option, Some, None}
 use Rattle.rs_wire.specs.declared.words.Role.TheVariants.{Responder}
 use Rattle.rs_wire.specs.declared.message.Message.{Message}
 use Rattle.rs_wire.specs.declared.delivery.Delivery.{Delivery}
 use Rattle.rs_wire.specs.declared.delivery.Job.{Job}
 use Rattle.rs_wire.specs.declared.delivery.Job.TheVariants as job
 use Rattle.stream_model.specs.Marks.{Opening, Step, Payload}
-use Rattle.stream_model.specs.Turns.{Said, item_in, needs_credit, is_role}
+use Rattle.stream_model.specs.Turns.{is_role}
 use Rattle.stream_model.specs.Streams.{if_amount, opening_job}
 use Rattle.stream_model.specs.declared.stream.Stream.{Stream}
 use Rattle.stream_model.specs.declared.arrival.Effect.{Effect}
 use Rattle.stream_model.specs.declared.arrival.Effect.TheVariants as effect
-use Rattle.stream_model.specs.Known.{Known, next_id, over_at, credit_at}
+use Rattle.stream_model.specs.Known.{Known, next_id}
 use Rattle.rs_wire.specs.declared.words.Side.{Side}
 use Rattle.rs_wire.specs.declared.call.Call.{Call}
 use Rattle.rs_wire.specs.declared.call.Call.TheVariants as call

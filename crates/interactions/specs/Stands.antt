@@ -1,5 +1,5 @@
 -- The streams of an end are as what happened on them leaves them.
-use Rattle.std.specs.Prelude.{◌≡◌, ◌<◌, ◌≤◌, ◌+◌, ◌++◌, ℕ, Bool, if◌then◌else◌, nat_eq, List, Option, Some, None, is_some, length}
+use Rattle.std.specs.Prelude.{◌≡◌, ◌<◌, ◌≤◌, ◌+◌, ◌++◌, ℕ, if◌then◌else◌, nat_eq, List, Option, Some, None, is_some, length}
 use Rattle.rs_wire.specs.declared.delivery.Delivery.{Delivery}
 use Rattle.rs_wire.specs.declared.delivery.Job.{Job}
 use Rattle.stream_model.specs.Marks.{Mark}

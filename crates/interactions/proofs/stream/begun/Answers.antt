@@ -1,4 +1,4 @@
-use Rattle.std.proofs.Common.{◌≡◌, ◌∙◌}
+use Rattle.std.proofs.Common.{◌∙◌}
 use Rattle.interactions.proofs.Beginning.{begun_part, begun_whole}
 use Rattle.interactions.proofs.stream.begun.Goals as goal
 

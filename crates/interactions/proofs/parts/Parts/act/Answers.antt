@@ -1,4 +1,4 @@
-use Rattle.std.proofs.Common.{◌≡◌, ◌∷◌, ◌++◌, ap, refl, rules, subst, sym}
+use Rattle.std.proofs.Common.{◌++◌, ap, rules, subst, sym}
 use Rattle.rs_wire.specs.declared.call.Call.{Call}
 use Rattle.stream_model.specs.Arriving.{said}
 use Rattle.stream_table.specs.Tables.{TableOf}

@@ -1,11 +1,11 @@
-use Rattle.std.proofs.Common.{◌≡◌, ◌∷◌, ◌++◌, ◌&&◌, [], None, Some, Option, ap, refl, rules, subst, sym, option_to_list, ◌∙◌, Bool, is_some, false, length}
+use Rattle.std.proofs.Common.{◌≡◌, ◌∷◌, ◌++◌, ◌&&◌, [], None, Some, ap, refl, rules, subst, sym, option_to_list, ◌∙◌, Bool, is_some}
 use Rattle.rs_wire.specs.declared.words.Role.TheVariants.{Responder}
 use Rattle.rs_wire.specs.declared.message.Message.{Message}
 use Rattle.rs_wire.specs.declared.delivery.Job.TheVariants as job
-use Rattle.stream_model.specs.Turns.{delivered_first, is_fnf}
+use Rattle.stream_model.specs.Turns.{delivered_first}
 use Rattle.stream_model.specs.Streams.{if_amount}
 use Rattle.stream_model.specs.Kept.{first, unless_done}
-use Rattle.stream_model.specs.Arriving.{or_zero, theirs}
+use Rattle.stream_model.specs.Arriving.{theirs}
 use Rattle.interactions.specs.Waiting.{waits_at}
 use Rattle.interactions.specs.Stands.{Begins, known_of}
 use Rattle.interactions.specs.Next.{opened_jobs}

@@ -1,4 +1,4 @@
-use Rattle.std.proofs.Common.{rules, ◌≡◌, ◌<◌, ◌^◌, ◌++◌, true, false, ltb, length, ap, subst, sym, refl}
+use Rattle.std.proofs.Common.{rules, ◌≡◌, ◌<◌, ◌^◌, true, false, ltb, length, ap, sym}
 use Rattle.stream_model.specs.Streams.{is_admitted}
 use Rattle.stream_model.specs.Arriving.{or_zero, theirs}
 use Rattle.stream_table.specs.Tables.{TableOf, highest_in}

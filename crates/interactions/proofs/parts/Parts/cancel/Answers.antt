@@ -1,4 +1,4 @@
-use Rattle.std.proofs.Common.{rules, refl}
+use Rattle.std.proofs.Common.{rules}
 use Rattle.stream_model.specs.Marks.{Cancel}
 use Rattle.stream_model.proofs.Fitting.{cancel_credited}
 use Rattle.interactions.proofs.Standing.{own_stands, sent_stands}

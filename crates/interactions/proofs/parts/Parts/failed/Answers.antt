@@ -1,4 +1,4 @@
-use Rattle.std.proofs.Common.{rules, refl, ap, ◌∙◌, ◌++◌, [], option_to_list}
+use Rattle.std.proofs.Common.{rules, ap, ◌∙◌, ◌++◌, [], option_to_list}
 use Rattle.stream_model.specs.Marks.{Fail}
 use Rattle.stream_model.specs.Turns.{Said, other}
 use Rattle.stream_model.specs.Kept.{after}

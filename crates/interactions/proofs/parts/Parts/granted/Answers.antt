@@ -1,4 +1,4 @@
-use Rattle.std.proofs.Common.{rules, refl, ap, ◌∙◌, []}
+use Rattle.std.proofs.Common.{rules, ap, ◌∙◌, []}
 use Rattle.stream_model.specs.Marks.{RequestN}
 use Rattle.stream_model.specs.Turns.{Said, is_fnf, other}
 use Rattle.stream_model.specs.Kept.{after}

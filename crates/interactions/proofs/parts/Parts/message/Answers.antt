@@ -1,4 +1,4 @@
-use Rattle.std.proofs.Common.{rules, refl, ap, subst, sym, ◌≡◌, ◌∙◌, ◌++◌, ◌&&◌, [], None, Some, option_to_list}
+use Rattle.std.proofs.Common.{rules, ap, subst, sym, ◌≡◌, ◌∙◌, ◌++◌, ◌&&◌, None, option_to_list}
 use Rattle.stream_model.specs.Marks.{Payload}
 use Rattle.stream_model.specs.Turns.{Said, carries, inbound, is_fnf, message_ends, other}
 use Rattle.stream_model.specs.Arriving.{over_credit}
@@ -6,7 +6,7 @@ use Rattle.stream_model.specs.Kept.{after}
 use Rattle.stream_model.proofs.Fitting.{whole_credited}
 use Rattle.interactions.specs.Credited.{HasCredit}
 use Rattle.interactions.proofs.Credits.{peer_credit}
-use Rattle.interactions.proofs.Standing.{got_stands, item_not_own, message_brings, peer_stands}
+use Rattle.interactions.proofs.Standing.{got_stands, message_brings, peer_stands}
 use Rattle.interactions.proofs.parts.Parts.message.Goals as goal
 
 pub returns-in_default-clause-stands : goal.returns-in_default-clause-stands

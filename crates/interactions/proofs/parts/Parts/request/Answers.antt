@@ -1,4 +1,4 @@
-use Rattle.std.proofs.Common.{◌≡◌, ◌<◌, ◌^◌, refl, subst, sym, true, false, length}
+use Rattle.std.proofs.Common.{◌<◌, ◌^◌, refl, subst, sym}
 use Rattle.stream_model.specs.Arriving.{no_message, or_zero, ours}
 use Rattle.rs_wire.specs.declared.words.Role.TheVariants.{Requester}
 use Rattle.interactions.proofs.Standing.{not_fnf, requested_stands}
