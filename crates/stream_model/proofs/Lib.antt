@@ -13,3 +13,4 @@ pub mod Places
 pub mod Lawful
 pub mod Steps
 pub mod Rows
+pub mod Fitting
