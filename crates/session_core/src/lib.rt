@@ -6,10 +6,14 @@
 //! on the connection (RSocket 1.0, "Setup", "Request", "Framing Protocol Usage"). It holds over every
 //! tape, also over one that tells nothing. An event costs what it carries.
 //!
-//! Built are SETUP and REQUEST_FNF: resumption, leases, fragments and the other interactions are
-//! left out, and frames that belong to them are answered as ones that may not come now.
+//! Built are SETUP and the four interactions with credit, cancel and errors. Resumption, leases, keepalive,
+//! metadata push and fragments are left out, and frames that belong to them are answered as ones that
+//! may not come now.
 #![tactic(auto)]
 
+mod arrivals;
+mod asked;
+mod came;
 mod counting;
 mod counts;
 mod history;
@@ -18,6 +22,7 @@ mod outgoing;
 mod queue;
 mod refusal;
 mod session;
+mod speak;
 mod state;
 
 pub use counts::Counts;

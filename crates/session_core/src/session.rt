@@ -80,13 +80,16 @@ impl<T: Tape> Session<T> {
         }) }
         ensures back { IfErr result (λ e. e.0 ≡ tape) }
     {
-        Ok(Session {
-            alloc,
-            settings,
-            state: State::new(alloc),
-            history: History::new(),
-            tape,
-        })
+        match State::new(alloc, &settings) {
+            Ok(state) => Ok(Session {
+                alloc,
+                settings,
+                state,
+                history: History::new(),
+                tape,
+            }),
+            Err(error) => Err((tape, error)),
+        }
     }
 
     /// Answers an event, which is no draw, and notes it on the tape for the caller `who`. An opening
@@ -109,7 +112,9 @@ impl<T: Tape> Session<T> {
         if self.tape.count() >= FULL {
             return Answer::TapeFull;
         }
-        let answer = judge(&self.settings, &self.state, event);
+        let Ok(answer) = judge(self.alloc, &self.settings, &self.state, event) else {
+            return Answer::OutOfMemory;
+        };
         if !answer.leaves_entry() {
             return answer;
         }
