@@ -1,5 +1,6 @@
 -- One end at most, and as the last.
-use Rattle.std.proofs.Common.{◌≡◌, ◌&&◌, ◌||◌, Bool, true, false, cond, ℕ, List, [], ◌∷◌, ◌++◌, Option, Some, None, refl, ap, subst, sym}
+use Rattle.std.proofs.Common.{◌≡◌, ◌&&◌, ◌||◌, Bool, true, false, cond, List, [], ◌∷◌, ◌++◌, Option, Some, None, refl, ap, subst, sym, ◌∙◌}
+use Rattle.std.proofs.Math.Bool.{or-false}
 use Rattle.rs_wire.specs.declared.delivery.Delivery.{Delivery}
 use Rattle.rs_wire.specs.declared.delivery.Delivery.TheVariants as delivery
 use Rattle.rs_wire.specs.declared.words.Role.{Role}
@@ -65,14 +66,10 @@ in_request : (role : Role) → role ≡ Responder → inbound role ≡ way.Reque
 in_request Requester h = absurd (cc)
 in_request Responder h = refl
 
-taken_over : (b : Bool) → (b || false) ≡ false → b ≡ false
-taken_over true f = f
-taken_over false f = refl
-
 pub one_end : (o : Opening) (xs : List Word) → FairWords o xs → Ends (over o xs (inbound o.role)) (delivered o xs)
 unfolding over delivered FairWords
 one_end o [] h = first_ends o.role (is_channel o.kind) (opening_ends o.kind o.whole way.Request) (opening_ends o.kind o.whole (inbound o.role)) (λ is. ap (opening_ends o.kind o.whole) (in_request o.role is))
-one_end o (Taken d ∷ xs) h = let e = one_end o xs h.0 in (λ f. e.0 (taken_over (over o xs (inbound o.role)) f), e.1)
+one_end o (Taken d ∷ xs) h = let e = one_end o xs h.0 in (λ f. e.0 (sym (or-false (over o xs (inbound o.role))) ∙ f), e.1)
 one_end o (Said by step ∷ xs) h =
     ends_said (over o xs (inbound o.role)) (is_role o.role by) (ends o.kind (inbound o.role) (Said by step)) (taken xs) (waiting o xs) (delivered o xs) (brings o.kind (is_whole o xs) (inbound o.role) by step)
     (taken_first o xs h.0) (one_end o xs h.0) (brought (is_fnf o.kind) (ends o.kind (inbound o.role) (Said by step)) (item_in o.kind (is_whole o xs) (inbound o.role) (Said by step)) (end_of step))

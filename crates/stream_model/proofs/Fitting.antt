@@ -1,7 +1,8 @@
 -- What is not refused, and what breaks no rule, fits the marks before it.
-use Rattle.std.proofs.Common.{◌≡◌, ◌≤◌, ◌<◌, ◌+◌, ◌-◌, ◌*◌, ◌^◌, ◌%◌, ◌==◌, ◌&&◌, ◌||◌, ◌⊎◌, inl, inr, not, ℕ, Bool, true, false, cond, max, List, [], ◌∷◌, ◌++◌, length, Option, Some, None, IsSome, ltb, refl, ap, subst, sym, ◌∙◌, arith}
+use Rattle.std.proofs.Common.{◌≡◌, ◌≤◌, ◌<◌, ◌+◌, ◌-◌, ◌^◌, ◌%◌, ◌==◌, ◌&&◌, ◌⊎◌, inl, inr, not, ℕ, Bool, true, false, cond, max, List, [], ◌∷◌, ◌++◌, Option, Some, None, IsSome, is_some, ltb, refl, ap, subst, sym, ◌∙◌, arith}
 use Rattle.std.proofs.lemmas.Bool.Decides.{nat_tests}
 use Rattle.std.specs.Option.{option_or}
+use Rattle.std.proofs.lemmas.Bool.{and_parts}
 use Rattle.rs_wire.specs.declared.words.Kind.{Kind}
 use Rattle.rs_wire.specs.declared.words.Kind.TheVariants.{Response, Fnf, Stream, Channel}
 use Rattle.rs_wire.specs.declared.words.Role.{Role}
@@ -16,21 +17,24 @@ use Rattle.rs_wire.specs.declared.fault.Refusal.TheVariants as refusal
 use Rattle.rs_wire.specs.declared.call.Call.{Call}
 use Rattle.rs_wire.specs.declared.call.Call.TheVariants as call
 use Rattle.credit.specs.declared.Credit.{Credit}
+use Rattle.stream_model.specs.declared.arrival.Arrival.{Arrival}
+use Rattle.stream_model.specs.declared.arrival.Arrival.TheVariants as arrival
+use Rattle.stream_model.specs.declared.arrival.Effect.{Effect}
+use Rattle.stream_model.specs.declared.arrival.Effect.TheVariants as effect
 use Rattle.stream_model.specs.declared.stream.Limits.{Limits}
 use Rattle.stream_model.specs.declared.stream.Stream.{Stream as Kept}
-use Rattle.stream_model.specs.Marks.{Opening, Step, Payload, RequestN, Cancel, Fail, Mark, Opens, Sent, Got}
-use Rattle.stream_model.specs.Turns.{Turn, Word, Said, carries, needs_credit, is_fnf, inbound, other, item_in, over, used, granted}
+use Rattle.stream_model.specs.Marks.{Opening, Payload, RequestN, Cancel, Fail, Mark, Opens, Sent, Got}
+use Rattle.stream_model.specs.Turns.{Word, carries, needs_credit, is_fnf, inbound, other, over}
 use Rattle.stream_model.specs.Streams.{turn, live, highest, higher}
 use Rattle.stream_model.specs.Kept.{stream_of, kept}
-use Rattle.stream_model.specs.Known.{Known, known, next_id, id_after, highest_at, over_at, credit_at}
+use Rattle.stream_model.specs.Known.{Known, known, next_id, id_after, highest_at, is_peers_next, is_own_parity, other_side, over_at, credit_at}
 use Rattle.stream_model.specs.Refused.{credit_refused, outbound_credit, by_state, by_credit, by_ids, by_live, refused_by}
-use Rattle.stream_model.specs.Arriving.{ours, theirs, no_message, said, heard, or_zero, over_credit, over_credit_on, effect_by, MayGrant}
+use Rattle.stream_model.specs.Arriving.{ours, theirs, no_message, said, heard, or_zero, over_credit, over_credit_on, asked_effect, used_unless, message_effect, effect_by}
 use Rattle.stream_model.specs.Fair.{Fair, Fits, FairWords}
 use Rattle.stream_model.proofs.Words.{used_within}
 use Rattle.stream_model.proofs.Streams.{fair_words}
 use Rattle.stream_model.proofs.Keeping.{live_turn}
-use Rattle.stream_model.proofs.Steps.{Credited, credit_is, sent_fits, got_fits}
-use Rattle.stream_model.proofs.Granted.{AtMost, granted_at_most}
+use Rattle.stream_model.proofs.Steps.{Credited, credit_is, nothing_taken, sent_fits, got_fits}
 use Rattle.stream_model.proofs.Places.{live_within}
 
 -- ---- ids
@@ -130,11 +134,6 @@ some_carried true some m h = absurd (cc)
 some_carried false true m h = (refl, refl)
 some_carried false false m h = absurd (cc)
 
-both_are : (a b : Bool) → (a && b) ≡ true → (a ≡ true) × (b ≡ true)
-both_are true true h = (refl, refl)
-both_are true false h = absurd (cc)
-both_are false b h = absurd (cc)
-
 -- an end's items go out on one way
 carried_by : (kind : Kind) (whole : Bool) (w : Way) (by : Role) (f : Kept) → carries kind whole w by ≡ true → credit_at f w ≡ outbound_credit by f
 carried_by kind whole way.Request Requester f h = refl
@@ -186,7 +185,7 @@ none_over false over needs none n h i o e = absurd (cc)
 pub whole_credited : (f : Kept) (m : Message) (complete next : Bool) → over_credit f next ≡ None → Credited f (other f.role) (Payload m complete next)
 whole_credited f m complete next h needs w some =
     let c = some_carried (over_at f w) (next && carries f.kind f.whole w (other f.role)) m some in
-    let e : w ≡ inbound f.role = carried_in f.kind f.whole w f.role (both_are next (carries f.kind f.whole w (other f.role)) c.1).1 in
+    let e : w ≡ inbound f.role = carried_in f.kind f.whole w f.role (and_parts next (carries f.kind f.whole w (other f.role)) c.1).1 in
     let credit = credit_at f (inbound f.role) in
     let over : over_at f (inbound f.role) ≡ false = subst (λ w. over_at f w ≡ false) e c.0 in
     let item : (next && carries f.kind f.whole (inbound f.role) (other f.role)) ≡ true = subst (λ w. (next && carries f.kind f.whole w (other f.role)) ≡ true) e c.1 in
@@ -194,22 +193,18 @@ whole_credited f m complete next h needs w some =
     let lt : credit.used < credit.granted = grind (arith, nat_tests) in
     subst (λ w. (credit_at f w).used < (credit_at f w).granted) (sym e) lt
 
-no_item : (over : Bool) → IsSome (cond {A = Option Message} over None None) → ⊥
-no_item true found = cc
-no_item false found = cc
-
 -- a step without an item
 pub done_credited : (f : Kept) (by : Role) (m : Message) (complete : Bool) → Credited f by (Payload m complete false)
-done_credited f by m complete needs w some = absurd (no_item (over_at f w) some)
+done_credited f by m complete needs w some = absurd (nothing_taken (over_at f w) some)
 
 pub grant_credited : (f : Kept) (by : Role) (n : ℕ) → Credited f by (RequestN n)
-grant_credited f by n needs w some = absurd (no_item (over_at f w) some)
+grant_credited f by n needs w some = absurd (nothing_taken (over_at f w) some)
 
 pub cancel_credited : (f : Kept) (by : Role) → Credited f by Cancel
-cancel_credited f by needs w some = absurd (no_item (over_at f w) some)
+cancel_credited f by needs w some = absurd (nothing_taken (over_at f w) some)
 
 pub fail_credited : (f : Kept) (by : Role) (code : ℕ) (content : List ℕ) → Credited f by (Fail code content)
-fail_credited f by code content needs w some = absurd (no_item (over_at f w) some)
+fail_credited f by code content needs w some = absurd (nothing_taken (over_at f w) some)
 
 pub next_fits : (most : ℕ) (seen : List Mark) (s : ℕ) (m : Message) (complete : Bool) → credit_refused (kept (turn most seen s)) ≡ None → Fits most seen (Sent s (Payload m complete true))
 next_fits most seen s m complete h = sent_fits most seen s (Payload m complete true) tt (λ f is. next_credited f m complete (subst (λ k. credit_refused k ≡ None) is h))
@@ -251,3 +246,39 @@ said_fair most seen l (call.Grant s k) h same n none = fair_and most seen (Sent 
 said_fair most seen l (call.Cancel s) h same n none = fair_and most seen (Sent s Cancel) h (sent_fits most seen s Cancel tt (λ f is. cancel_credited f f.role))
 said_fair most seen l (call.Fail s code content) h same n none = fair_and most seen (Sent s (Fail code content)) h (sent_fits most seen s (Fail code content) tt (λ f is. fail_credited f f.role code content))
 said_fair most seen l c h same n none = h
+
+abbrev pub ArrivalHasAmounts : Arrival → Type 0
+ArrivalHasAmounts (arrival.Asked s kind initial whole) = or_zero initial < 2 ^ 31
+ArrivalHasAmounts (arrival.Granted s n) = n < 2 ^ 31
+ArrivalHasAmounts a = Unit {0}
+
+-- an effect that is counted
+abbrev pub IsCounted : Effect → Type 0
+IsCounted (effect.Broken rule) = ⊥
+IsCounted e = Unit {0}
+
+next_counted : (is_next room fnf whole : Bool) (s : ℕ) → IsCounted (asked_effect is_next room fnf whole s) → is_next ≡ true
+next_counted true room fnf whole s h = refl
+next_counted false room fnf whole s h = absurd (h)
+
+used_counted : (o : Option ℕ) → IsCounted (used_unless o) → o ≡ None
+used_counted None h = refl
+used_counted (Some n) h = absurd (h)
+
+message_counted : (k : Option Kept) (next : Bool) → IsCounted (message_effect k next) → over_credit_on k next ≡ None
+message_counted None next h = refl
+message_counted (Some f) next h = used_counted (over_credit f next) h
+
+peers_above : (t : Known) (side : Side) (s : ℕ) → is_peers_next side t s ≡ true → highest_at t s < s
+peers_above t side s is = let above : ltb (highest_at t s) s ≡ true = (and_parts (is_own_parity (other_side side) s) (ltb (highest_at t s) s) is).1 in grind (arith, nat_tests)
+
+-- what the peer says and breaks no rule by
+pub heard_fair : (most : ℕ) (seen : List Mark) (l : Limits) (a : Arrival) → Fair most seen → ArrivalHasAmounts a → IsCounted (effect_by l (known most seen) a) → Fair most (heard a ∷ seen)
+unfolding known
+heard_fair most seen l (arrival.Asked s kind initial whole) h n counted =
+    fair_and most seen (Opens s (theirs kind initial whole)) h
+    (asked_fits most seen s kind initial whole n (peers_above (known most seen) l.side s (next_counted (is_peers_next l.side (known most seen) s) (ltb (live most seen) l.max_streams) (is_fnf kind) (is_some whole) s counted)))
+heard_fair most seen l (arrival.Whole s m complete next) h n counted = fair_and most seen (Got s (Payload m complete next)) h (whole_fits most seen s m complete next (message_counted (kept (turn most seen s)) next counted))
+heard_fair most seen l (arrival.Granted s k) h n counted = fair_and most seen (Got s (RequestN k)) h (got_fits most seen s (RequestN k) n (λ f is. grant_credited f (other f.role) k))
+heard_fair most seen l (arrival.Canceled s) h n counted = fair_and most seen (Got s Cancel) h (got_fits most seen s Cancel tt (λ f is. cancel_credited f (other f.role)))
+heard_fair most seen l (arrival.Failed s code content) h n counted = fair_and most seen (Got s (Fail code content)) h (got_fits most seen s (Fail code content) tt (λ f is. fail_credited f (other f.role) code content))

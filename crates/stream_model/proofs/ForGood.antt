@@ -1,10 +1,10 @@
 -- A way is over for good.
-use Rattle.std.proofs.Common.{◌≡◌, ℕ, Bool, true, false, cond, List, ◌∷◌, Option, Some, None, refl, ap, subst, arith, ltb}
+use Rattle.std.proofs.Common.{◌≡◌, ℕ, Bool, true, false, cond, List, ◌∷◌, Option, None, refl, ap, subst, arith, ltb}
 use Rattle.std.proofs.lemmas.Bool.Decides.{nat_tests}
 use Rattle.rs_wire.specs.declared.words.Role.{Role}
 use Rattle.rs_wire.specs.declared.words.Way.{Way}
 use Rattle.stream_model.specs.Marks.{Mark, Opens, Sent, Got, Took, TookJob}
-use Rattle.stream_model.specs.Turns.{Turn, Word, Said, Taken, over, other}
+use Rattle.stream_model.specs.Turns.{Turn, Word, Said, Taken, other}
 use Rattle.stream_model.specs.Streams.{turn, turn_after, goes_on, on, live}
 use Rattle.stream_model.specs.Fair.{Fair, Fits}
 use Rattle.stream_model.specs.Laws.{IsOver, OverForGood}

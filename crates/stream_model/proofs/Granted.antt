@@ -1,5 +1,5 @@
 -- How much was granted on a way.
-use Rattle.std.proofs.Common.{◌≡◌, ◌≤◌, ◌<◌, ◌+◌, ◌*◌, ◌^◌, ℕ, Bool, true, false, cond, List, [], ◌∷◌, length, Option, Some, None, refl, subst, sym, arith, ltb}
+use Rattle.std.proofs.Common.{◌≡◌, ◌≤◌, ◌<◌, ◌+◌, ◌*◌, ◌^◌, ℕ, Bool, true, false, cond, List, [], ◌∷◌, length, Option, Some, None, refl, subst, arith, ltb}
 use Rattle.rs_wire.specs.declared.words.Kind.{Kind}
 use Rattle.rs_wire.specs.declared.words.Role.{Role}
 use Rattle.rs_wire.specs.declared.words.Way.{Way}

@@ -1,8 +1,8 @@
 -- The ids that were used, and the streams that a mark changes.
-use Rattle.std.proofs.Common.{◌≡◌, ◌≤◌, ◌<◌, ◌%◌, ◌==◌, ℕ, Bool, true, false, cond, List, [], ◌∷◌, Option, Some, None, max, refl, ap, subst, sym, ◌∙◌, arith, ltb}
+use Rattle.std.proofs.Common.{◌≡◌, ◌≤◌, ◌<◌, ◌%◌, ◌==◌, ℕ, Bool, true, false, cond, List, [], ◌∷◌, Some, None, max, refl, ◌∙◌, arith, ltb}
 use Rattle.std.proofs.lemmas.Bool.Decides.{nat_tests}
 use Rattle.stream_model.specs.Marks.{Opening, Step, Mark, Opens, Sent, Got, Took, TookJob}
-use Rattle.stream_model.specs.Turns.{Turn, Said, Taken, other}
+use Rattle.stream_model.specs.Turns.{Said, Taken, other}
 use Rattle.stream_model.specs.Streams.{turn, turn_after, goes_on, is_admitted, live, on, highest, higher, higher_in, top}
 use Rattle.stream_model.specs.Fair.{Fair, Fits}
 use Rattle.rs_wire.specs.declared.delivery.Delivery.{Delivery}

@@ -1,5 +1,6 @@
 -- What is kept of a stream goes on, word by word, to be what the definitions say.
-use Rattle.std.proofs.Common.{◌≡◌, ◌<◌, ◌%◌, ◌+◌, ◌&&◌, ◌||◌, ◌==◌, ℕ, Bool, true, false, not, cond, List, [], ◌∷◌, length, Option, Some, None, is_some, option_to_list, refl, ap, subst, sym, ◌∙◌, length-append, arith, ltb, IsSome}
+use Rattle.std.proofs.Common.{◌≡◌, ◌<◌, ◌%◌, ◌+◌, ◌&&◌, ◌||◌, ℕ, Bool, true, false, not, cond, List, [], ◌∷◌, length, Option, Some, None, is_some, option_to_list, refl, ap, ◌∙◌, length-append, arith}
+use Rattle.std.proofs.Math.Bool.{or-false}
 use Rattle.rs_wire.specs.declared.words.Kind.{Kind}
 use Rattle.rs_wire.specs.declared.words.Role.{Role}
 use Rattle.rs_wire.specs.declared.words.Way.{Way}
@@ -8,10 +9,10 @@ use Rattle.rs_wire.specs.declared.message.Message.{Message}
 use Rattle.rs_wire.specs.declared.delivery.Delivery.{Delivery}
 use Rattle.credit.specs.declared.Credit.{Credit}
 use Rattle.stream_model.specs.declared.stream.Stream.{Stream}
-use Rattle.stream_model.specs.Marks.{Opening, Step, Payload, RequestN, Cancel, Fail, Mark, Opens, Sent, Got, Took}
-use Rattle.stream_model.specs.Turns.{Turn, Word, Said, Taken, carries, needs_credit, over, is_over, ends, is_whole, item_next, items, used, granted, grants, other}
+use Rattle.stream_model.specs.Marks.{Opening, Step, Payload, Mark, Opens, Sent, Got, Took}
+use Rattle.stream_model.specs.Turns.{Turn, Word, Said, Taken, carries, needs_credit, over, is_over, ends, is_whole, item_next, items, used, granted, other}
 use Rattle.stream_model.specs.Streams.{turn, highest, goes_on, is_admitted, is_live, has_room, one_if}
-use Rattle.stream_model.specs.Kept.{stream_of, credit_of, credit_after, kept, first, after, kept_after, items_in, is_done, unless_done}
+use Rattle.stream_model.specs.Kept.{stream_of, credit_of, credit_after, kept, first, after, kept_after, items_in, unless_done}
 use Rattle.stream_model.proofs.Ids.{turn_opened, turn_sent, turn_got, turn_took}
 
 -- ---- one stream
@@ -101,16 +102,12 @@ live_turn (Some u) f is =
 
 -- ---- taking changes nothing
 
-or_false : (b : Bool) → (b || false) ≡ b
-or_false true = refl
-or_false false = refl
-
 taken_credit : (c : Credit) (needs : Bool) → ◌≡◌ {A = Credit} (record { granted = c.granted + cond needs 0 0; used = c.used + 0 }) c
 taken_credit c true = let g : c.granted + 0 ≡ c.granted = omega arith in let u : c.used + 0 ≡ c.used = omega arith in simp (g, u)
 taken_credit c false = let g : c.granted + 0 ≡ c.granted = omega arith in let u : c.used + 0 ≡ c.used = omega arith in simp (g, u)
 
 pub after_taken : (f : Stream) (d : Delivery) → after f (Taken d) ≡ f
-after_taken f d = simp (or_false f.whole, or_false f.request_over, or_false f.reply_over, taken_credit f.request (needs_credit f.kind), taken_credit f.reply (needs_credit f.kind))
+after_taken f d = simp (or-false f.whole, or-false f.request_over, or-false f.reply_over, taken_credit f.request (needs_credit f.kind), taken_credit f.reply (needs_credit f.kind))
 
 -- ---- all streams
 

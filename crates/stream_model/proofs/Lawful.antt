@@ -1,8 +1,7 @@
 -- Each stream keeps its laws.
-use Rattle.std.proofs.Common.{◌≡◌, ℕ, List, Some}
+use Rattle.std.proofs.Common.{ℕ, List}
 use Rattle.stream_model.specs.Marks.{Mark}
-use Rattle.stream_model.specs.Turns.{Turn, inbound}
-use Rattle.stream_model.specs.Fair.{Fair, FairWords}
+use Rattle.stream_model.specs.Fair.{Fair}
 use Rattle.stream_model.specs.Laws.{EachStream}
 use Rattle.stream_model.proofs.Words.{used_within, taken_first}
 use Rattle.stream_model.proofs.Response.{one_response}

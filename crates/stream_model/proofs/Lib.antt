@@ -14,3 +14,5 @@ pub mod Lawful
 pub mod Steps
 pub mod Rows
 pub mod Fitting
+pub mod Credits
+pub mod Delivered

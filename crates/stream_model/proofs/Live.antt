@@ -1,5 +1,5 @@
 -- How many streams are open after a mark.
-use Rattle.std.proofs.Common.{◌≡◌, ◌≤◌, ◌<◌, ◌+◌, ◌%◌, ◌==◌, ℕ, Bool, true, false, List, [], ◌∷◌, Option, Some, None, refl, ap, subst, sym, ◌∙◌, arith, ltb}
+use Rattle.std.proofs.Common.{◌≡◌, ◌≤◌, ◌<◌, ◌+◌, ◌%◌, ◌==◌, ℕ, true, false, List, ◌∷◌, Option, Some, None, refl, ap, subst, sym, ◌∙◌, arith, ltb}
 use Rattle.std.proofs.lemmas.Bool.Decides.{nat_tests}
 use Rattle.stream_model.specs.Marks.{Opening, Mark, Opens, TookJob}
 use Rattle.stream_model.specs.Turns.{Turn}

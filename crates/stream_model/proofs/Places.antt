@@ -1,6 +1,7 @@
 -- No more streams are open than may be.
-use Rattle.std.proofs.Common.{◌≡◌, ◌≤◌, ◌<◌, ◌+◌, ◌%◌, ◌==◌, ◌&&◌, ◌||◌, ℕ, Bool, true, false, not, cond, List, [], ◌∷◌, Option, Some, None, IsSome, is_some, refl, ap, subst, sym, ◌∙◌, arith, ltb}
+use Rattle.std.proofs.Common.{◌≡◌, ◌≤◌, ◌<◌, ◌+◌, ◌&&◌, ◌||◌, ℕ, Bool, true, false, not, cond, List, [], ◌∷◌, Option, Some, None, IsSome, is_some, refl, arith}
 use Rattle.std.proofs.lemmas.Bool.Decides.{nat_tests}
+use Rattle.std.proofs.lemmas.Bool.{and_parts}
 use Rattle.rs_wire.specs.declared.words.Kind.{Kind}
 use Rattle.rs_wire.specs.declared.words.Kind.TheVariants.{Response, Fnf, Stream, Channel}
 use Rattle.rs_wire.specs.declared.words.Role.{Role}
@@ -8,9 +9,9 @@ use Rattle.rs_wire.specs.declared.words.Role.TheVariants.{Requester, Responder}
 use Rattle.rs_wire.specs.declared.words.Way.TheVariants as way
 use Rattle.rs_wire.specs.declared.message.Message.{Message}
 use Rattle.stream_model.specs.Marks.{Opening, Mark, Opens, Sent, Got, Took, TookJob}
-use Rattle.stream_model.specs.Turns.{Turn, Word, Said, Taken, over, is_over, is_fnf, is_role, ends, opening_ends, other}
+use Rattle.stream_model.specs.Turns.{Turn, Word, Said, Taken, over, is_fnf, is_role, ends, opening_ends, other}
 use Rattle.stream_model.specs.Streams.{turn, live, on, is_live, one_if, is_admitted, goes_on, highest, count_to, has_room}
-use Rattle.stream_model.specs.Fair.{Fair, Fits, FitsOpening, FindsPlace}
+use Rattle.stream_model.specs.Fair.{Fair, Fits, FindsPlace}
 use Rattle.stream_model.specs.Laws.{LiveWithin}
 use Rattle.stream_model.proofs.Ids.{is_opening, same_id, turn_opened, turn_sent, turn_got, turn_took}
 use Rattle.stream_model.proofs.Live.{live_said, live_opens, live_job}
@@ -50,17 +51,12 @@ own_place o n most f le =
       | false ↦ λ other. let lt = f.1 other in let one = one_at_most (is_live (opened true o)) in omega arith
     ] refl
 
-both_are : (a b : Bool) → (a && b) ≡ true → (a ≡ true) × (b ≡ true)
-both_are true true is = (refl, refl)
-both_are true false is = absurd (cc)
-both_are false b is = absurd (cc)
-
 -- one of the peer's is admitted where there is a place, or is over at once
 peer_place : (o : Opening) (n most : ℕ) (room : Bool) → (room ≡ true → n < most) → n ≤ most → one_if (is_live (opened (room || (is_fnf o.kind && is_some o.whole)) o)) + n ≤ most
 peer_place o n most true f le = let lt = f refl in let one = one_at_most (is_live (opened true o)) in omega arith
 peer_place o n most false f le =
     elim (is_fnf o.kind && is_some o.whole) as (λ v. (is_fnf o.kind && is_some o.whole) ≡ v → one_if (is_live (opened v o)) + n ≤ most) [
-      | true ↦ λ is. let b = both_are (is_fnf o.kind) (is_some o.whole) is in rw (over_at_once true o b.0 b.1) (omega arith)
+      | true ↦ λ is. let b = and_parts (is_fnf o.kind) (is_some o.whole) is in rw (over_at_once true o b.0 b.1) (omega arith)
       | false ↦ λ is. omega arith
     ] refl
 

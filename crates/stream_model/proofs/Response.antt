@@ -1,12 +1,11 @@
 -- A response carries one payload at most.
-use Rattle.std.proofs.Common.{◌≡◌, ◌≤◌, ◌⊎◌, inl, inr, ◌+◌, ◌&&◌, ◌||◌, ℕ, Bool, true, false, cond, List, [], ◌∷◌, ◌++◌, length, Option, Some, None, option_to_list, refl, ap, subst, sym, ◌∙◌, arith, length-append}
+use Rattle.std.proofs.Common.{◌≡◌, ◌≤◌, ◌⊎◌, inl, inr, ◌+◌, ◌||◌, ℕ, Bool, true, false, cond, List, [], ◌∷◌, ◌++◌, length, Option, None, option_to_list, refl, ap, subst, sym, ◌∙◌, arith, length-append}
 use Rattle.rs_wire.specs.declared.words.Kind.{Kind}
-use Rattle.rs_wire.specs.declared.words.Kind.TheVariants.{Response, Fnf, Stream, Channel}
-use Rattle.rs_wire.specs.declared.words.Role.{Role}
+use Rattle.rs_wire.specs.declared.words.Kind.TheVariants.{Response}
 use Rattle.rs_wire.specs.declared.words.Role.TheVariants.{Requester, Responder}
 use Rattle.rs_wire.specs.declared.words.Way.TheVariants as way
 use Rattle.rs_wire.specs.declared.message.Message.{Message}
-use Rattle.stream_model.specs.Marks.{Opening, Step, Payload, RequestN, Cancel, Fail}
+use Rattle.stream_model.specs.Marks.{Opening, Payload}
 use Rattle.stream_model.specs.Turns.{Word, Said, Taken, is_response, over, ends, is_whole, item_in, item_next, items}
 
 -- the item of a word ends the way

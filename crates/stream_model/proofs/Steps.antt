@@ -1,7 +1,8 @@
 -- What a mark on a stream changes, by what is kept of the stream.
-use Rattle.std.proofs.Common.{◌≡◌, ◌<◌, ◌%◌, ◌^◌, ◌&&◌, ◌||◌, ℕ, Bool, true, false, not, cond, List, [], ◌∷◌, Option, Some, None, IsSome, refl, ap, subst, sym, ◌∙◌, arith}
+use Rattle.std.proofs.Common.{◌≡◌, ◌<◌, ◌%◌, ◌^◌, ◌&&◌, ℕ, Bool, true, false, not, cond, List, [], ◌∷◌, Option, Some, None, IsSome, refl, ap, subst, sym, ◌∙◌}
+use Rattle.std.proofs.lemmas.Bool.{and_parts}
 use Rattle.rs_wire.specs.declared.words.Role.{Role}
-use Rattle.rs_wire.specs.declared.words.Role.TheVariants.{Requester, Responder}
+use Rattle.rs_wire.specs.declared.words.Role.TheVariants.{Responder}
 use Rattle.rs_wire.specs.declared.words.Way.{Way}
 use Rattle.rs_wire.specs.declared.words.Way.TheVariants as way
 use Rattle.rs_wire.specs.declared.message.Message.{Message}
@@ -36,15 +37,10 @@ unfolding stream_of
 credit_is o xs way.Request needs = counted (needs_credit o.kind) _ _ needs
 credit_is o xs way.Reply needs = counted (needs_credit o.kind) _ _ needs
 
-over_both : (a b : Bool) → (a && b) ≡ true → (a ≡ true) × (b ≡ true)
-over_both true true is = (refl, refl)
-over_both true false is = absurd (cc)
-over_both false b is = absurd (cc)
-
 -- both ways of a stream that is over are
 pub over_each : (t : Turn) → is_over t ≡ true → (w : Way) → over t.opening t.words w ≡ true
-over_each t is way.Request = (over_both (over t.opening t.words way.Request) (over t.opening t.words way.Reply) is).0
-over_each t is way.Reply = (over_both (over t.opening t.words way.Request) (over t.opening t.words way.Reply) is).1
+over_each t is way.Request = (and_parts (over t.opening t.words way.Request) (over t.opening t.words way.Reply) is).0
+over_each t is way.Reply = (and_parts (over t.opening t.words way.Request) (over t.opening t.words way.Reply) is).1
 
 -- ---- what waits
 
@@ -196,7 +192,8 @@ sent_fits most seen s step n h = fits_turn (turn most seen s) (λ role. role) st
 pub got_fits : (most : ℕ) (seen : List Mark) (s : ℕ) (step : Step) → StepGrants step → ((f : Stream) → kept (turn most seen s) ≡ Some f → Credited f (other f.role) step) → Fits most seen (Got s step)
 got_fits most seen s step n h = fits_turn (turn most seen s) (λ role. other role) step n h
 
-nothing_taken : (over : Bool) → IsSome (cond {A = Option Message} over None None) → ⊥
+-- a word without an item has none
+pub nothing_taken : (over : Bool) → IsSome (cond {A = Option Message} over None None) → ⊥
 nothing_taken true found = cc
 nothing_taken false found = cc
 

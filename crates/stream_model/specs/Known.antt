@@ -1,5 +1,5 @@
 -- All that the answers of an end depend on of its streams.
-use Rattle.std.specs.Prelude.{ℕ, ◌+◌, ◌-◌, ◌%◌, ◌==◌, ◌||◌, ◌&&◌, not, nat_lt, Bool, true, false, if◌then◌else◌, List, [], ◌∷◌, Option, Some, None}
+use Rattle.std.specs.Prelude.{ℕ, ◌+◌, ◌-◌, ◌%◌, ◌==◌, ◌||◌, ◌&&◌, not, nat_lt, Bool, false, if◌then◌else◌, List, [], ◌∷◌, Option, Some, None}
 use Rattle.rs_wire.specs.declared.words.Side.{Side}
 use Rattle.rs_wire.specs.declared.words.Side.TheVariants.{Client, Server}
 use Rattle.rs_wire.specs.declared.words.Role.{Role}

@@ -1,13 +1,12 @@
 -- What holds of the streams of an end whose rules were kept.
-use Rattle.std.specs.Prelude.{◌≡◌, ◌≤◌, ◌+◌, ◌*◌, ◌^◌, ℕ, Bool, true, false, List, [], ◌∷◌, ◌++◌, Option, Some, length}
+use Rattle.std.specs.Prelude.{◌≡◌, ◌≤◌, ◌*◌, ◌^◌, ℕ, Bool, true, false, List, [], ◌∷◌, ◌++◌, Option, Some, length}
 use Rattle.rs_wire.specs.declared.words.Way.{Way}
 use Rattle.rs_wire.specs.declared.words.Way.TheVariants as way
 use Rattle.rs_wire.specs.declared.delivery.Delivery.{Delivery}
 use Rattle.rs_wire.specs.declared.delivery.Delivery.TheVariants as delivery
 use Rattle.stream_model.specs.Marks.{Mark}
-use Rattle.stream_model.specs.Turns.{Word, Turn, over, items, used, granted, delivered, taken, waiting, needs_credit, is_response}
+use Rattle.stream_model.specs.Turns.{Turn, over, items, used, granted, delivered, taken, waiting, needs_credit, is_response}
 use Rattle.stream_model.specs.Streams.{turn, live}
-use Rattle.stream_model.specs.Fair.{Fair}
 
 -- no more items than were granted
 abbrev pub UsedWithinGranted : Turn → Type 0
