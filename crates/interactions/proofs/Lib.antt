@@ -1,2 +1,6 @@
 pub mod Credits
 pub mod Beginning
+pub mod Knowing
+pub mod Standing
+pub mod Requests
+pub mod Taken

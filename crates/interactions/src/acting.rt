@@ -8,7 +8,7 @@ ghost use Rattle.stream_model.specs.Kept.{is_done, unless_done, FitsCredit};
 ghost use Rattle.stream_model.specs.Known.{next_id, over_at};
 ghost use Rattle.stream_model.specs.Arriving.{CanAct, MayGrant, ours, said};
 ghost use Rattle.stream_model.specs.Refused.{credit_refused, refused_by};
-ghost use Rattle.stream_table.specs.Tables.{kept_at};
+ghost use Rattle.stream_table.specs.Tables.{IsNew, kept_at};
 ghost use Rattle.interactions.specs.Waiting.{waits_at};
 ghost use Rattle.interactions.specs.Stands.{known_of, Begins, KeepsRoom, Says, Stands};
 ghost use Rattle.interactions.specs.Next.{stream_by, waits_own};
@@ -85,6 +85,20 @@ impl Parts {
         }
     }
 
+    // A stream of this end's begins, or is over at once.
+    fn begin_own(&mut self, stream: u32, begun: Stream)
+        requires new { IsNew self.old.table stream }
+        requires credit { FitsCredit begun }
+        requires live { is_done begun ≡ false →
+            length self.old.table.kept < self.old.table.limits.max_streams }
+        requires place { 0 < self.old.table.place }
+        ensures limits { self.new.table.limits ≡ self.old.table.limits }
+        ensures begins { Begins (known_of self.old) (known_of self.new) stream (unless_done begun)
+            (waits_at self.old.waits stream) [] }
+    {
+        self.table.begin(stream, begun);
+    }
+
     // Makes a request on the next id.
     fn request(&mut self, kind: Kind, initial: Option<Amount>, complete: bool) -> u32
         requires id { next_id self.old.table.limits.side (known_of self.old) ≤
@@ -100,8 +114,8 @@ impl Parts {
         let Some(stream) = self.table.next_id() else {
             unreachable!()
         };
-        let first = number_of(initial);
-        self.table.begin(stream, begun(Role::Requester, kind, first, Some(complete)));
+        let begun = begun(Role::Requester, kind, number_of(initial), Some(complete));
+        self.begin_own(stream, begun);
         stream
     }
 
@@ -109,6 +123,7 @@ impl Parts {
     pub fn act(&mut self, call: &Call) -> Result<u32, OutOfMemory>
         requires accepted { refused_by self.old.table.limits (known_of self.old) call.now ≡ None }
         requires acts { CanAct (known_of self.old) call.now }
+        requires live { length self.old.table.kept ≤ self.old.table.limits.max_streams }
         ensures limits { self.new.table.limits ≡ self.old.table.limits }
         ensures stream { IfOk result (λ s. s ≡
             stream_by self.old.table.limits.side (known_of self.old) call.now) }

@@ -5,10 +5,10 @@ ghost use Rattle.rs_wire.specs.declared.message.Message.{Message as Content};
 ghost use Rattle.rs_wire.specs.declared.words.Role.TheVariants.{Responder};
 ghost use Rattle.stream_model.specs.Marks.{Mark, Opens, Got, Payload, RequestN, Cancel as Cancels, Fail as Fails};
 ghost use Rattle.stream_model.specs.Turns.{carries, delivered_first, inbound, is_fnf, is_role, other};
-ghost use Rattle.stream_model.specs.Kept.{first, is_done, unless_done, FitsCredit};
+ghost use Rattle.stream_model.specs.Kept.{first as first_of, is_done, unless_done, FitsCredit};
 ghost use Rattle.stream_model.specs.Known.{is_peers_next, over_at};
 ghost use Rattle.stream_model.specs.Streams.{if_amount};
-ghost use Rattle.stream_model.specs.Arriving.{CanArrive, MayGrant, asked_effect, effect_by, heard, message_effect, step_effect, stream_in, theirs};
+ghost use Rattle.stream_model.specs.Arriving.{CanArrive, MayGrant, asked_effect, effect_by, heard, message_effect, or_zero, step_effect, stream_in, theirs};
 ghost use Rattle.stream_table.specs.Tables.{IsNew, highest_in, kept_at};
 ghost use Rattle.interactions.specs.Waiting.{room_at, waits_at};
 ghost use Rattle.interactions.specs.Stands.{known_of, Begins, HasRoom, Says, Stands};
@@ -204,39 +204,51 @@ impl Parts {
         }
     }
 
-    // A request of the peer's is admitted.
-    fn admit(
-        &mut self,
-        stream: u32,
-        kind: Kind,
-        initial: Option<Amount>,
-        whole: Option<(Message, bool)>,
-    )
+    // A stream of the peer's begins, or is over at once.
+    fn begin(&mut self, stream: u32, begun: Stream, end: Option<Delivery>, job: Option<Job>)
         requires new { IsNew self.old.table stream }
+        requires credit { FitsCredit begun }
+        requires live { is_done begun ≡ false →
+            length self.old.table.kept < self.old.table.limits.max_streams }
+        requires room { HasRoom self.old stream }
+        ensures limits { self.new.table.limits ≡ self.old.table.limits }
+        ensures begins { Begins (known_of self.old) (known_of self.new) stream (unless_done begun)
+            (waits_at self.old.waits stream ++ option_to_list end) (option_to_list job) }
+    {
+        self.table.begin(stream, begun);
+        self.waits.push_some(stream, end);
+        self.jobs.push_some(job);
+    }
+
+    // A request of the peer's is admitted.
+    fn admit(&mut self, stream: u32, kind: Kind, first: u32, whole: Option<(Message, bool)>)
+        requires new { IsNew self.old.table stream }
+        requires initial { first < 2 ^ 31 }
         requires live { (is_fnf kind && is_some whole) ≡ false →
             length self.old.table.kept < self.old.table.limits.max_streams }
         requires room { HasRoom self.old stream }
         ensures limits { self.new.table.limits ≡ self.old.table.limits }
-        ensures begins { Begins (known_of self.old) (known_of self.new) stream
-            (unless_done (first (theirs kind initial whole)))
+        ensures begins { (initial : Option ℕ) → or_zero initial ≡ first →
+            Begins (known_of self.old) (known_of self.new) stream
+            (unless_done (first_of (theirs kind initial whole)))
             (waits_at self.old.waits stream ++ delivered_first (theirs kind initial whole))
             (opened_jobs stream (theirs kind initial whole)) }
     {
-        let first = number_of(initial);
         match whole {
-            None => self
-                .table
-                .begin(stream, begun(Role::Responder, kind, first, None)),
+            None => {
+                let begun = begun(Role::Responder, kind, first, None);
+                self.begin(stream, begun, None, None);
+            }
             Some((message, complete)) => {
-                self.table.begin(stream, begun(Role::Responder, kind, first, Some(complete)));
-                self.waits.push_some(stream, first_end(kind, complete));
-                self.jobs.push(Job::Asked {
+                let begun = begun(Role::Responder, kind, first, Some(complete));
+                let job = Job::Asked {
                     stream,
                     kind,
                     initial: Amount::of(first),
                     message,
                     complete,
-                });
+                };
+                self.begin(stream, begun, first_end(kind, complete), Some(job));
             }
         }
     }
@@ -260,11 +272,12 @@ impl Parts {
             IfCounted result (Stands self.new (Opens stream (theirs kind initial whole) ∷ seen)) }
         ensures broken { IfBroken result (self.new ≡ self.old) }
     {
+        let first = number_of(initial);
         if !self.is_peers_next(stream) {
             return Effect::Broken(Rule::StreamId(stream));
         }
         if self.admits(kind, whole.is_some()) {
-            self.admit(stream, kind, initial, whole);
+            self.admit(stream, kind, first, whole);
             return Effect::Used;
         }
         self.table.skip(stream);

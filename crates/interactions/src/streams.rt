@@ -2,15 +2,15 @@
 
 ghost use Rattle.std.specs.Prelude.{◌≡◌, ◌<◌, ◌^◌, ◌++◌, [], ◌∷◌, ℕ, Some, None, IfOk, OnOk, OnErr, IsOk, IsSome};
 ghost use Rattle.rs_wire.specs.Calls.{CanBeAsked};
-ghost use Rattle.stream_model.specs.Arriving.{CanAct, CanArrive, effect_by, stream_in};
+ghost use Rattle.stream_model.specs.Arriving.{CanAct, CanArrive, effect_by, stream_in, took, took_job};
 ghost use Rattle.stream_model.specs.Fair.{Fair};
 ghost use Rattle.stream_model.specs.Known.{limits_of};
 ghost use Rattle.stream_model.specs.Refused.{refused_by};
-ghost use Rattle.interactions.specs.Seen.{acted, arrived, known_to, stream_of_call};
+ghost use Rattle.interactions.specs.Seen.{acted, arrived, front_of, known_to, stream_of_call};
 
 use crate::history::History;
 use crate::parts::Parts;
-use rs_wire::{Call, Checked, OutOfMemory};
+use rs_wire::{Call, Checked, Delivery, Job, OutOfMemory, Side};
 use std::alloc::Global;
 use std::marker::Model;
 use std::snapshot::Snapshot;
@@ -98,13 +98,35 @@ impl Streams {
         effect
     }
 
+    /// Takes what waits first on a stream: `None` exactly where nothing waits. The room for an arrival
+    /// stays.
+    pub fn take(&mut self, stream: u32) -> Option<Delivery>
+        ensures first { result ≡ front_of ((known_to self.old).waits stream) }
+        ensures after { self.new ≡ record self.old { marks = took stream result ++ self.old.marks } }
+    {
+        let delivery = self.parts.take(stream)?;
+        self.history.took(stream, &delivery);
+        Some(delivery)
+    }
+
+    /// Takes the job that waits first: `None` exactly where none waits. The room for an arrival stays.
+    pub fn take_job(&mut self) -> Option<Job>
+        ensures first { result ≡ front_of (known_to self.old).jobs }
+        ensures after { self.new ≡ record self.old { marks = took_job result ++ self.old.marks } }
+    {
+        let job = self.parts.take_job()?;
+        self.history.took_job();
+        Some(job)
+    }
+
     /// The marks are ones that the rules of an end let through. It does nothing.
     pub fn fair(&self)
         ensures fair { Fair self.now.limits.max_streams self.now.marks }
         ensures even { (known_to self.now).even < 2 ^ 31 }
         ensures odd { (known_to self.now).odd < 2 ^ 31 }
     {
-        // The parts that are read tell all three.
-        let _ = &self.parts;
+        // The highest ids that are read have 31 bits.
+        let _even = self.parts.table.highest(Side::Server);
+        let _odd = self.parts.table.highest(Side::Client);
     }
 }

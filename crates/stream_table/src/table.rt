@@ -120,6 +120,13 @@ impl Table {
         })
     }
 
+    /// The limits of the end.
+    pub fn limits(&self) -> Limits
+        ensures { result ≡ self.now.limits }
+    {
+        self.limits
+    }
+
     /// How many streams are open.
     pub fn live(&self) -> u32
         ensures count { result ≡ length self.now.kept }
