@@ -1,5 +1,5 @@
 -- The parts go on to show what is known.
-use Rattle.std.proofs.Common.{◌≡◌, ◌<◌, ◌^◌, ◌%◌, ◌&&◌, ◌||◌, ℕ, Bool, true, false, not, cond, List, [], ◌∷◌, ◌++◌, Option, Some, None, option_to_list, ltb, append-nil, length, refl, ap, subst, sym, ◌∙◌, arith}
+use Rattle.std.proofs.Common.{◌≡◌, ◌≤◌, ◌<◌, ◌^◌, ◌%◌, ◌&&◌, ◌||◌, ℕ, Bool, true, false, not, cond, List, [], ◌∷◌, ◌++◌, Option, Some, None, option_to_list, ltb, append-nil, length, refl, ap, subst, sym, ◌∙◌, arith}
 use Rattle.std.proofs.Math.Path.{fun_ext}
 use Rattle.std.proofs.lemmas.Bool.Decides.{nat_tests}
 use Rattle.rs_wire.specs.declared.message.Message.{Message}
@@ -19,14 +19,17 @@ use Rattle.stream_model.specs.Kept.{after, first, is_done, kept, unless_done}
 use Rattle.stream_model.specs.Known.{Known, known, highest_at, over_at}
 use Rattle.stream_model.specs.Fair.{Fair, FindsPlace, Fits}
 use Rattle.stream_model.specs.Arriving.{or_zero, ours, theirs}
-use Rattle.stream_model.proofs.Steps.{Credited as Finds, StepGrants, sent_fits, got_fits}
+use Rattle.stream_model.proofs.Steps.{Credited, StepGrants, sent_fits, got_fits}
 use Rattle.stream_model.specs.Refused.{credit_refused}
-use Rattle.stream_model.proofs.Fitting.{done_credited, next_credited, peer_fresh}
+use Rattle.stream_model.proofs.Fitting.{peer_fresh}
+use Rattle.stream_model.proofs.Places.{live_within}
 use Rattle.stream_table.specs.Tables.{kept_at, highest_in}
 use Rattle.interactions.specs.declared.parts.Parts.{Parts}
 use Rattle.interactions.specs.Waiting.{waits_at}
 use Rattle.interactions.specs.Stands.{Stands, Says, Begins, known_of, most_of}
-use Rattle.interactions.specs.Next.{Credited, job_in, opened_jobs, waits_own, waits_peer}
+use Rattle.interactions.specs.Next.{job_in, opened_jobs, waits_own, waits_peer}
+use Rattle.interactions.specs.Credited.{HasCredit}
+use Rattle.interactions.proofs.Credits.{no_item, own_credit}
 use Rattle.interactions.proofs.Knowing.{own_known, peer_known, sent_ignored, got_ignored, begun_known, passed_known, none_known, same_known}
 
 -- a mark more
@@ -58,7 +61,7 @@ pub own_stands : (old new : Parts) (seen : List Mark) (s : ℕ) (step : Step) (f
 own_stands old new seen s step f next e k l is ends_is n credit says h =
     let most = most_of old in
     let kk = kept_is old seen s (Some f) h k in
-    let fits = sent_fits most seen s step n (of_known most seen s (λ k. (g : Stream) → k ≡ Some g → Finds g g.role step) (only_one _ f (λ g. Finds g g.role step) kk credit)) in
+    let fits = sent_fits most seen s step n (of_known most seen s (λ k. (g : Stream) → k ≡ Some g → Credited g g.role step) (only_one _ f (λ g. Credited g g.role step) kk credit)) in
     next_stands old new seen (Sent s step) l h fits (own_known most seen s step f (known_of new) h.fair kk
     (subst (λ (t : Known). Says t (known_of new) s (unless_done (after f (Said f.role step))) (waits_own (over_at f (inbound f.role)) (ends f.kind (inbound f.role) (Said f.role step)) (t.waits s)) []) h.known
     (subst (λ e. Says (known_of old) (known_of new) s (unless_done (after f (Said f.role step))) (waits_own (over_at f (inbound f.role)) e (waits_at old.waits s)) []) ends_is
@@ -72,7 +75,7 @@ pub peer_stands : (old new : Parts) (seen : List Mark) (s : ℕ) (step : Step) (
 peer_stands old new seen s step f next more k l is brings_is n credit says h =
     let most = most_of old in
     let kk = kept_is old seen s (Some f) h k in
-    let fits = got_fits most seen s step n (of_known most seen s (λ k. (g : Stream) → k ≡ Some g → Finds g (other g.role) step) (only_one _ f (λ g. Finds g (other g.role) step) kk credit)) in
+    let fits = got_fits most seen s step n (of_known most seen s (λ k. (g : Stream) → k ≡ Some g → Credited g (other g.role) step) (only_one _ f (λ g. Credited g (other g.role) step) kk credit)) in
     next_stands old new seen (Got s step) l h fits (peer_known most seen s step f (known_of new) h.fair kk
     (subst (λ (t : Known). Says t (known_of new) s (unless_done (after f (Said (other f.role) step))) (waits_peer (over_at f (inbound f.role)) (t.waits s) (brings f.kind f.whole (inbound f.role) (other f.role) step)) (job_in s f step)) h.known
     (subst (λ more. Says (known_of old) (known_of new) s (unless_done (after f (Said (other f.role) step))) (waits_peer (over_at f (inbound f.role)) (waits_at old.waits s) more) (job_in s f step)) brings_is
@@ -83,14 +86,14 @@ pub sent_stands : (p : Parts) (seen : List Mark) (s : ℕ) (step : Step) → Ste
 sent_stands p seen s step n k h =
     let most = most_of p in
     let kk = kept_is p seen s None h k in
-    let fits = sent_fits most seen s step n (of_known most seen s (λ k. (g : Stream) → k ≡ Some g → Finds g g.role step) (not_none _ (λ g. Finds g g.role step) kk)) in
+    let fits = sent_fits most seen s step n (of_known most seen s (λ k. (g : Stream) → k ≡ Some g → Credited g g.role step) (not_none _ (λ g. Credited g g.role step) kk)) in
     next_stands p p seen (Sent s step) refl h fits (h.known ∙ sent_ignored most seen s step h.fair kk)
 
 pub got_stands : (p : Parts) (seen : List Mark) (s : ℕ) (step : Step) → StepGrants step → kept_at p.table.kept s ≡ None → Stands p seen → Stands p (Got s step ∷ seen)
 got_stands p seen s step n k h =
     let most = most_of p in
     let kk = kept_is p seen s None h k in
-    let fits = got_fits most seen s step n (of_known most seen s (λ k. (g : Stream) → k ≡ Some g → Finds g (other g.role) step) (not_none _ (λ g. Finds g (other g.role) step) kk)) in
+    let fits = got_fits most seen s step n (of_known most seen s (λ k. (g : Stream) → k ≡ Some g → Credited g (other g.role) step) (not_none _ (λ g. Credited g (other g.role) step) kk)) in
     next_stands p p seen (Got s step) refl h fits (h.known ∙ got_ignored most seen s step h.fair kk)
 
 -- more room, and nothing else
@@ -111,6 +114,10 @@ none_stands p k e o w j = record {
 pub live_is : (p : Parts) (seen : List Mark) → Stands p seen → length p.table.kept ≡ live (most_of p) seen
 unfolding known
 live_is p seen h = ap (λ (t : Known). t.live) h.known
+
+-- no more streams are open than may be
+pub live_stands : (p : Parts) (seen : List Mark) → Stands p seen → length p.table.kept ≤ most_of p
+live_stands p seen h = subst (λ n. n ≤ most_of p) (sym (live_is p seen h)) (live_within (most_of p) seen h.fair)
 
 -- one that is admitted
 pub begun_stands : (old new : Parts) (seen : List Mark) (s : ℕ) (o : Opening) → new.table.limits ≡ old.table.limits → highest_in old.table s < s → is_admitted (ltb (length old.table.kept) (most_of old)) o ≡ true
@@ -170,9 +177,9 @@ begins_as old new s f g before l k i j e d is h = subst (λ j. Begins old new s 
 -- ---- items
 
 -- an item of this end's that is not refused finds credit, and what is no item needs none
-pub send_credited : (k : Option Stream) (f : Stream) (m : Message) (complete next : Bool) → k ≡ Some f → (next ≡ true → credit_refused k ≡ None) → Credited f f.role (Payload m complete next)
-send_credited k f m complete true is h = next_credited f m complete (subst (λ k. credit_refused k ≡ None) is (h refl))
-send_credited k f m complete false is h = done_credited f f.role m complete
+pub send_credit : (k : Option Stream) (f : Stream) (next : Bool) → k ≡ Some f → (next ≡ true → credit_refused k ≡ None) → HasCredit f f.role next
+send_credit k f true is h = own_credit f (subst (λ k. credit_refused k ≡ None) is (h refl))
+send_credit k f false is h = no_item f f.role
 
 -- what a fire-and-forget does not deliver
 pub message_brings : (fnf item ends : Bool) (m : Message) (i e : List Delivery) → i ≡ cond fnf [] (cond item (delivery.Item m ∷ []) []) → e ≡ cond fnf [] (cond ends (delivery.Complete ∷ []) [])

@@ -23,10 +23,6 @@ abbrev pub completes : Option (Message × Bool) → Option Bool
 completes None = None
 completes (Some m) = Some m.1
 
--- an item that needs credit finds some left on its way
-abbrev pub Credited : Stream → Role → Step → Type 0
-Credited f by step = needs_credit f.kind ≡ true → (w : Way) → IsSome (if over_at f w then None else item_in f.kind f.whole w (Said by step)) → (credit_at f w).used < (credit_at f w).granted
-
 -- what waits after an act of this end, which drops it where it ends the way that this end receives
 abbrev pub waits_own : Bool → Bool → List Delivery → List Delivery
 waits_own over ends before = if over then before else if ends then [] else before

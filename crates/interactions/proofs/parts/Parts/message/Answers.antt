@@ -4,7 +4,8 @@ use Rattle.stream_model.specs.Turns.{Said, carries, inbound, is_fnf, message_end
 use Rattle.stream_model.specs.Arriving.{over_credit}
 use Rattle.stream_model.specs.Kept.{after}
 use Rattle.stream_model.proofs.Fitting.{whole_credited}
-use Rattle.interactions.specs.Next.{Credited}
+use Rattle.interactions.specs.Credited.{HasCredit}
+use Rattle.interactions.proofs.Credits.{peer_credit}
 use Rattle.interactions.proofs.Standing.{got_stands, item_not_own, message_brings, peer_stands}
 use Rattle.interactions.proofs.parts.Parts.message.Goals as goal
 
@@ -12,10 +13,10 @@ pub returns-in_default-clause-stands : goal.returns-in_default-clause-stands
 returns-in_default-clause-stands c = λ seen h. got_stands c.args.self.now seen c.args.stream (Payload c.args.message c.args.complete c.args.next) tt (search rules) h
 
 pub after_message-after-requires-clause-credit : goal.after_message-after-requires-clause-credit
-after_message-after-requires-clause-credit c = λ message.
+after_message-after-requires-clause-credit c =
     let f = c.in-Some.kept in
     let none : over_credit f c.args.next ≡ None = search rules in
-    subst (λ by. Credited f by (Payload message c.args.complete c.args.next)) (sym c.other-by.ensures) (whole_credited f message c.args.complete c.args.next none)
+    subst (λ by. HasCredit f by c.args.next) (sym c.other-by.ensures) (peer_credit f c.args.next none)
 
 pub returns-clause-stands : goal.returns-clause-stands
 returns-clause-stands c = λ seen h.
