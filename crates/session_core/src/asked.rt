@@ -1,6 +1,6 @@
 //! The answer to a call.
 
-ghost use Rattle.std.specs.Prelude.{◌≡◌, ◌+◌, ◌<◌, ◌≤◌, ◌^◌, ◌++◌, ℕ, None, Some, IfOk, length};
+ghost use Rattle.std.specs.Prelude.{◌≡◌, ◌+◌, ◌<◌, ◌≤◌, ◌^◌, ◌++◌, ℕ, None, Some, IfOk, IfSome, length};
 ghost use Rattle.std.specs.Option.{option_map};
 ghost use Rattle.rs_wire.specs.Calls.{CanBeAsked};
 ghost use Rattle.rs_wire.specs.Message.{size_of};
@@ -65,11 +65,14 @@ fn size_in(call: &Call) -> u64
 // How many bytes the frame of a call has, where it makes one.
 fn spoken_length(call: &Call) -> Option<u64>
     requires { size_in call.now ≤ 16000000 }
-    ensures { (t : Known) (id : ℕ) → result ≡ option_map length_of (spoken t id call.now) }
+    ensures value { (t : Known) (id : ℕ) → result ≡ option_map length_of (spoken t id call.now) }
+    ensures bound { IfSome result (λ n. n < 2 ^ 62) }
 {
     match call {
         Call::Request {
-            initial, message, ..
+            initial,
+            message,
+            ..
         } => Some(HEADER + number_length(*initial) + payload_length(message)),
         Call::Next { message, .. } => Some(HEADER + payload_length(message)),
         Call::Done { .. } | Call::Cancel { .. } => Some(HEADER),
@@ -116,7 +119,7 @@ fn finds_full(settings: &Checked, state: &State, length: u64) -> bool
 }
 
 // A frame of this length can't be made.
-fn refused_sending(settings: &Checked, state: &State, length: u64) -> Option<Refusal>
+fn refused_length(settings: &Checked, state: &State, length: u64) -> Option<Refusal>
     requires room { HasRoom state.now }
     requires length { length < 2 ^ 62 }
     ensures { (f : Frame) → length_of f ≡ length → result ≡
@@ -134,20 +137,39 @@ fn refused_sending(settings: &Checked, state: &State, length: u64) -> Option<Ref
     None
 }
 
-// Close needs no connection, and room for its ERROR where there is one.
+// The frame of a call, where it makes one, can't be made.
+fn refused_sending(settings: &Checked, state: &State, call: &Call) -> Option<Refusal>
+    requires room { HasRoom state.now }
+    requires size { size_in call.now ≤ 16000000 }
+    ensures { (t : Known) (id : ℕ) → result ≡
+        refused_sending settings.now (facts_of state.now) (spoken t id call.now) }
+{
+    match spoken_length(call) {
+        Some(length) => refused_length(settings, state, length),
+        None => None,
+    }
+}
+
+// The ERROR that closes finds no room in the queue, where there is a connection.
+fn refused_closing(settings: &Checked, state: &State) -> Option<Refusal>
+    ensures { result ≡ by_sending settings.now (facts_of state.now) Call.Close }
+{
+    if finds_full(settings, state, CLOSING_ERROR) {
+        return Some(Refusal::OutFull(state.queue.len()));
+    }
+    None
+}
+
+// Close needs no connection.
 fn by_sending(settings: &Checked, state: &State, call: &Call) -> Option<Refusal>
     requires room { HasRoom state.now }
     requires size { size_in call.now ≤ 16000000 }
     ensures { result ≡ by_sending settings.now (facts_of state.now) call.now }
 {
-    if let Call::Close = call {
-        if finds_full(settings, state, CLOSING_ERROR) {
-            return Some(Refusal::OutFull(state.queue.len()));
-        }
-        return None;
+    match call {
+        Call::Close => refused_closing(settings, state),
+        _ => refused_sending(settings, state, call),
     }
-    let length = spoken_length(call)?;
-    refused_sending(settings, state, length)
 }
 
 // The first refusal of a call, from its size on.

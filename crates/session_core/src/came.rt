@@ -1,6 +1,6 @@
 //! The answer to a frame that came.
 
-ghost use Rattle.std.specs.Prelude.{◌≡◌, ◌≤◌, Some};
+ghost use Rattle.std.specs.Prelude.{◌≡◌, if◌then◌else◌, None, Some};
 ghost use Rattle.rs_wire.specs.Message.{size_of};
 ghost use Rattle.rs_frame.specs.Spelling.{IsSpellable};
 ghost use Rattle.interactions.specs.Seen.{known_to};
@@ -166,7 +166,11 @@ fn peer_error(frame: &Frame) -> Option<u32>
     ensures { result ≡ peer_error frame.now }
 {
     match frame {
-        Frame::Error { stream: 0, code, .. } => Some(*code),
+        Frame::Error {
+            stream: 0,
+            code,
+            ..
+        } => Some(*code),
         _ => None,
     }
 }
@@ -196,4 +200,3 @@ pub fn to_frame(settings: &Checked, state: &State, conn: u64, frame: &Frame) -> 
         None => Answer::Handled,
     }
 }
-

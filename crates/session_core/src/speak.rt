@@ -1,10 +1,11 @@
 //! What an event and its answer say on the streams.
 
-ghost use Rattle.std.specs.Prelude.{◌≡◌, ◌++◌, None, OnErr, OnOk};
-ghost use Rattle.interactions.specs.Seen.{known_to};
-ghost use Rattle.stream_model.specs.Arriving.{stream_in};
+ghost use Rattle.std.specs.Prelude.{◌≡◌, ◌++◌, IfSome, OnErr, OnOk, option_to_list};
+ghost use Rattle.std.specs.Option.{option_map};
+ghost use Rattle.interactions.specs.Seen.{stream_of_call};
+ghost use Rattle.stream_model.specs.Arriving.{heard, said, stream_in};
 ghost use Rattle.session_model.specs.Streams.{marks_in};
-ghost use Rattle.session_core.specs.Speaking.{FindsRoom, arrival_for, speaks_on};
+ghost use Rattle.session_core.specs.Speaking.{Acts, CanSay, Comes, FindsRoom, arrival_for, named, speaks_on, stream_heard};
 
 use interactions::Streams;
 use rs_wire::{Call, OutOfMemory};
@@ -24,25 +25,37 @@ fn stream_in(arrival: &Arrival) -> u32
     }
 }
 
-// The stream that a call names.
-fn named(call: &Call) -> Option<u32> {
+fn stream_heard(arrival: &Option<Arrival>) -> Option<u32>
+    ensures { result ≡ stream_heard arrival.now }
+{
+    match arrival {
+        Some(arrival) => Some(stream_in(arrival)),
+        None => None,
+    }
+}
+
+// The stream on which a call goes on, where it names one.
+fn named(call: &Call) -> Option<u32>
+    ensures { result ≡ named call.now }
+{
     match call {
         Call::Next { stream, .. }
         | Call::Done { stream }
         | Call::Grant { stream, .. }
         | Call::Cancel { stream }
-        | Call::Fail { stream, .. }
-        | Call::Take { stream } => Some(*stream),
-        Call::Request { .. } | Call::TakeJob | Call::Close => None,
+        | Call::Fail { stream, .. } => Some(*stream),
+        Call::Request { .. } | Call::Take { .. } | Call::TakeJob | Call::Close => None,
     }
 }
 
 // The stream that a frame that is handled, or a call that acts, speaks on.
-fn speaks_on(event: &Event, answer: &Answer, arrival: &Option<Arrival>) -> Option<u32> {
-    match (answer, event, arrival) {
-        (Answer::Handled, _, Some(arrival)) => Some(stream_in(arrival)),
-        (Answer::Started(id), Event::Asked(_), _) => Some(*id),
-        (Answer::Done, Event::Asked(call), _) => named(call),
+fn speaks_on(answer: &Answer, event: &Event, arrival: &Option<Arrival>) -> Option<u32>
+    ensures { result ≡ speaks_on answer.now event.now arrival.now }
+{
+    match (answer, event) {
+        (Answer::Handled, _) => stream_heard(arrival),
+        (Answer::Started(id), Event::Asked(_)) => Some(*id),
+        (Answer::Done, Event::Asked(call)) => named(call),
         _ => None,
     }
 }
@@ -53,25 +66,50 @@ pub fn make_room(
     event: &Event,
     answer: &Answer,
     arrival: &Option<Arrival>,
-) -> Result<(), OutOfMemory> {
-    match speaks_on(event, answer, arrival) {
+) -> Result<(), OutOfMemory>
+    ensures same { streams.new ≡ record streams.old { ready = streams.new.ready } }
+    ensures room { OnOk result (FindsRoom
+        (speaks_on answer.now event.now arrival.now) streams.new.ready) }
+{
+    match speaks_on(answer, event, arrival) {
         Some(stream) => streams.reserve(stream),
         None => Ok(()),
     }
 }
 
-/// Says it.
-pub fn say(streams: &mut Streams, event: &Event, answer: &Answer, arrival: Option<Arrival>) {
+// What the peer says comes.
+fn hear(streams: &mut Streams, arrival: Option<Arrival>)
+    requires { IfSome arrival (Comes streams.old) }
+    ensures marks { streams.new.marks ≡
+        option_to_list (option_map heard arrival) ++ streams.old.marks }
+    ensures limits { streams.new.limits ≡ streams.old.limits }
+{
+    if let Some(arrival) = arrival {
+        let _effect = streams.arrive(arrival);
+    }
+}
+
+// A call acts.
+fn act(streams: &mut Streams, call: &Call)
+    requires { Acts streams.old call.now }
+    ensures marks { streams.new.marks ≡
+        said (stream_of_call streams.old call.now) call.now ++ streams.old.marks }
+    ensures limits { streams.new.limits ≡ streams.old.limits }
+{
+    let _stream = streams.act(call);
+}
+
+/// Says what an event and its answer say, for which room was made.
+pub fn say(streams: &mut Streams, event: &Event, answer: &Answer, arrival: Option<Arrival>)
+    requires fits { CanSay streams.old answer.now event.now arrival }
+    requires arrival { arrival ≡ arrival_for answer.now event.now }
+    ensures marks { streams.new.marks ≡ marks_in answer.now event.now ++ streams.old.marks }
+    ensures limits { streams.new.limits ≡ streams.old.limits }
+{
     match (answer, event) {
-        (Answer::Handled, _) => {
-            if let Some(arrival) = arrival {
-                let _effect = streams.arrive(arrival);
-            }
-        }
+        (Answer::Handled, _) => hear(streams, arrival),
         (Answer::Done, Event::Asked(Call::Close)) => {}
-        (Answer::Started(_) | Answer::Done, Event::Asked(call)) => {
-            let _said = streams.act(call);
-        }
+        (Answer::Started(_) | Answer::Done, Event::Asked(call)) => act(streams, call),
         (Answer::Got(_), Event::Asked(Call::Take { stream })) => {
             let _taken = streams.take(*stream);
         }
