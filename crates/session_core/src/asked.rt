@@ -101,7 +101,8 @@ fn by_closed(state: &State, call: &Call) -> Option<Refusal>
 }
 
 fn by_size(settings: &Checked, call: &Call) -> Option<Refusal>
-    ensures { result ≡ by_size settings.now call.now }
+    ensures value { result ≡ by_size settings.now call.now }
+    ensures small { result ≡ None → size_in call.now ≤ 16000000 }
 {
     let size = size_in(call);
     if size > u64::from(settings.settings().max_payload) {
@@ -194,6 +195,7 @@ fn refused_later(settings: &Checked, state: &State, call: &Call) -> Option<Refus
 }
 
 // The first refusal of a call.
+#[tactic(auto, unfolding(session_model::specs::Answers::refused_call))]
 fn refused_call(settings: &Checked, state: &State, call: &Call) -> Option<Refusal>
     requires room { HasRoom state.now }
     requires limits { AreLimits settings.now state.now }
@@ -229,6 +231,7 @@ fn accepted(alloc: Global, state: &State, call: &Call) -> Result<Answer, OutOfMe
 }
 
 /// The answer to a call. It copies what is taken.
+#[tactic(auto, using(crate::proofs::Asking::ids_left))]
 pub fn to_call(
     alloc: Global,
     settings: &Checked,
