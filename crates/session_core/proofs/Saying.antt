@@ -41,7 +41,7 @@ no_rule (effect.Broken rule) h = absurd h
 no_rule _ h = tt
 
 is_some_room : (ready : Option ℕ) (n : ℕ) → ready ≡ Some n → IsSome ready
-is_some_room ready n is = subst IsSome (sym is) tt
+is_some_room ready n is = subst IsSome (sym is) refl
 
 -- what a frame says that breaks no rule comes
 comes : (g : Settings) (s : State) (past : List Entry) (ready : Option ℕ) (f : Frame) (o : Option Arrival) → Fits g s past → length past < 2 ^ 63 → IsSpellable f

@@ -73,6 +73,7 @@ fn too_large(settings: &Checked, taken: bool, message: &Message) -> Option<Rule>
 }
 
 // The least rule that a request breaks.
+#[tactic(auto, unfolding(session_model::specs::Answers::broken_rule))]
 fn broken_request(
     settings: &Checked,
     state: &State,
@@ -101,6 +102,7 @@ fn broken_request(
 }
 
 // The least rule that a payload breaks, which is the whole frame.
+#[tactic(auto, unfolding(session_model::specs::Answers::broken_rule))]
 fn broken_payload(
     settings: &Checked,
     state: &State,
@@ -137,6 +139,7 @@ fn only_position(settings: &Checked, state: &State, frame: &Frame) -> Option<Rul
 }
 
 // The least rule that the frame breaks.
+#[tactic(auto, unfolding(session_model::specs::Answers::broken_rule))]
 fn broken_rule(settings: &Checked, state: &State, frame: &Frame) -> Option<Rule>
     requires room { HasRoom state.now }
     requires limits { AreLimits settings.now state.now }
