@@ -32,12 +32,15 @@
 //! It writes `client: Opened(1)`, `client: Started(1)`, `client: Drawn(82)`, `server: Opened(1)`
 //! and `server: Handled`, a line each.
 //!
-//! Built are SETUP, REQUEST_FNF, the ERROR of the connection, and frames of unknown types, which are
-//! ignored where they may be: resumption, leases, fragments and the other interactions are left out,
-//! and frames that belong to them are answered as ones that may not come now. [`refusal_frame`] is
-//! what a server gives on a connection that it refuses.
+//! Built are SETUP and the four interactions with credit, cancel and errors; frames of unknown types are
+//! ignored where they may be. Resumption, leases, keepalive, metadata push and fragments are left out,
+//! and frames that belong to them are answered as ones that may not come now. [`refusal_frame`] is what
+//! a server gives on a connection that it refuses.
 #![tactic(auto)]
 
+mod arrivals;
+mod asked;
+mod came;
 mod counting;
 mod counts;
 mod history;
@@ -46,6 +49,7 @@ mod outgoing;
 mod queue;
 mod refusal;
 mod session;
+mod speak;
 mod state;
 
 pub use counts::Counts;

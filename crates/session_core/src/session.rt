@@ -7,7 +7,7 @@ ghost use Rattle.tape.specs.Told.{entry_of};
 ghost use Rattle.session_model.specs.Life.{carrying, closed, live, setup};
 ghost use Rattle.session_model.specs.Frames.{drawn, due, queued};
 ghost use Rattle.session_model.specs.Answers.{answer_to};
-ghost use Rattle.session_model.specs.Legal.{Fair, IsFair, IsPlain, LeavesEntry, Legal};
+ghost use Rattle.session_model.specs.Legal.{CanBring, Fair, IsFair, IsPlain, LeavesEntry, Legal};
 ghost use Rattle.session_core.specs.Queued.{IfDrawn, IsBrief, IsOfCut, IsOfDraw, IsUntouched};
 ghost use Rattle.session_core.specs.Seen.{IsCutEvent, IsNoDrawEvent, IsUnlessWant, counts_of, entries_after, told_by};
 
@@ -16,7 +16,7 @@ use crate::history::History;
 use crate::judge::{judge, judge_cut, judge_draw};
 use crate::state::State;
 use rs_frame::Setup;
-use rs_wire::{Cause, Checked, OutOfMemory};
+use rs_wire::{Call, Cause, Checked, OutOfMemory};
 use std::alloc::Global;
 use std::marker::Model;
 use tape::{Answer, Entry, Event, Tape};
@@ -53,6 +53,23 @@ impl<T: Tape> Model for Session<T> {
         IsSound s.settings s.state s.history (T.told s.tape) (T.count s.tape) };
 }
 
+// The amounts that an event brings each have their range.
+fn amounts_fit(settings: &Checked, event: &Event)
+    requires brings { CanBring settings.now event.now }
+    ensures fair { IsFair settings.now event.now }
+{
+    if let Event::Asked(
+        Call::Request {
+            initial: Some(n),
+            ..
+        }
+        | Call::Grant { n, .. },
+    ) = event
+    {
+        let _granted = n.get();
+    }
+}
+
 // The answer to a draw or a cut that leaves an entry, again.
 fn answered_again(answer: &Answer) -> Answer
     requires { IsBrief answer.now }
@@ -81,13 +98,16 @@ impl<T: Tape> Session<T> {
         }) }
         ensures back { IfErr result (λ e. e.0 ≡ tape) }
     {
-        Ok(Session {
-            alloc,
-            settings,
-            state: State::new(alloc),
-            history: History::new(),
-            tape,
-        })
+        match State::new(alloc, &settings) {
+            Ok(state) => Ok(Session {
+                alloc,
+                settings,
+                state,
+                history: History::new(),
+                tape,
+            }),
+            Err(error) => Err((tape, error)),
+        }
     }
 
     /// Answers an event, which is no draw, and notes it on the tape for the caller `who`. An opening
@@ -97,7 +117,7 @@ impl<T: Tape> Session<T> {
     /// answer that leaves an entry, but at a cut only where there is no spare. These two, `NotYet` and
     /// `OutBusy` leave all as it was.
     pub fn step(&mut self, who: u32, event: &Event) -> Answer
-        requires fair { IsFair self.old.settings event.now }
+        requires fair { CanBring self.old.settings event.now }
         requires no_draw { IsNoDrawEvent event.now }
         ensures answer { IsUnlessWant result
             (answer_to self.old.settings self.old.entries event.now) }
@@ -115,10 +135,13 @@ impl<T: Tape> Session<T> {
         if let Event::Cut { conn } = event {
             return self.cut(who, *conn);
         }
-        let answer = judge(&self.settings, &self.state, event);
+        let Ok(answer) = judge(self.alloc, &self.settings, &self.state, event) else {
+            return Answer::OutOfMemory;
+        };
         if !answer.leaves_entry() {
             return answer;
         }
+        amounts_fit(&self.settings, event);
         match self.note(who, event, &answer) {
             Ok(()) => answer,
             Err(OutOfMemory) => Answer::OutOfMemory,

@@ -38,6 +38,11 @@ IsFair g (event.Came conn f) = IsSpellable f
 IsFair g (event.Bad conn number) = (0 < number) × (number ≤ LONG_FRAME)
 IsFair g (event.Asked asked) = CanBeAsked asked × AmountsFit asked
 
+-- the same but for the amounts, which each have their range: what a caller ensures
+abbrev pub CanBring : Settings → Event → Type 0
+CanBring g (event.Asked asked) = CanBeAsked asked
+CanBring g e = IsFair g e
+
 -- an answer that leaves an entry
 abbrev pub LeavesEntry : Answer → Type 0
 LeavesEntry a = IsTrue (leaves a)
