@@ -49,7 +49,7 @@ fn event_of(end: &Session<Kept>, frame: Frame) -> Event {
 // The next frame that crossed whole.
 fn next_frame(alloc: Global, crossing: &mut Reader) -> Result<Option<Frame>, Fail> {
     let frame = match crossing.front() {
-        Front::Whole(bytes) => decode(alloc, bytes)?,
+        Front::Whole(bytes) if bytes.len() <= MAX_IN as usize => decode(alloc, bytes)?,
         _ => return Ok(None),
     };
     crossing.pass();
