@@ -52,7 +52,7 @@ comes g s past ready f (Some what) h short spellable unbroken is room =
       room = room;
       fits = subst (λ (t : Known). CanArrive t what) (same_streams g s past h) (can_arrive g past f what h.legal h.fair short spellable is);
       counts = subst (λ (l : Limits). IsNoRule (effect_by l (known_to s.streams) what)) (sym h.limits_are)
-      (no_rule (effect_by (limits_of g) (known_to s.streams) what) (arrival_counted g (facts_of s) f what unbroken is));
+          (no_rule (effect_by (limits_of g) (known_to s.streams) what) (arrival_counted g (facts_of s) f what unbroken is));
     }
 
 -- a call that is not refused and has a frame acts

@@ -173,7 +173,7 @@ fn a_closed_session_refuses_for_its_first_cause(rt: HostRuntime) -> Result<(), F
         BEGUN.after(7, 0).closed(third),
     )?;
     let not_now = Cause::Broken(Rule::NotNow);
-    let odd = Step::Odd(1, Strange::Cancel);
+    let odd = Step::Odd(1, Strange::Setup);
     play(
         &rt,
         alloc,

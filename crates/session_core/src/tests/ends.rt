@@ -9,6 +9,7 @@ use tape::Answer;
 pub const CLIENT: Limits = Limits {
     side: Side::Client,
     max_payload: 100,
+    max_streams: 1024,
     last_id: 3,
     top_position: 16,
 };
@@ -17,6 +18,7 @@ pub const CLIENT: Limits = Limits {
 pub const WIDE_CLIENT: Limits = Limits {
     side: Side::Client,
     max_payload: 16_000_000,
+    max_streams: 1024,
     last_id: 9,
     top_position: 100_000_000,
 };
@@ -25,8 +27,15 @@ pub const WIDE_CLIENT: Limits = Limits {
 pub const SERVER: Limits = Limits {
     side: Side::Server,
     max_payload: 4,
+    max_streams: 1024,
     last_id: 9,
     top_position: 14,
+};
+
+/// A server without narrow limits.
+pub const WIDE_SERVER: Limits = Limits {
+    side: Side::Server,
+    ..WIDE_CLIENT
 };
 
 /// No frame was made or handled.

@@ -2,13 +2,14 @@
 //! end.
 
 ghost use Rattle.std.specs.Prelude.{IsTrue};
-ghost use Rattle.session_model.specs.Legal.{IsAskable, IsFair};
+ghost use Rattle.rs_wire.specs.Calls.{CanBeAsked};
+ghost use Rattle.session_model.specs.Legal.{CanBring};
 ghost use Rattle.session_core.specs.Seen.{IsNoDrawEvent};
 
 use super::step::Step;
 use crate::{Counts, Session};
 use rs_frame::spellable;
-use rs_wire::{Call, Cause, Kind, Settings, Side, check};
+use rs_wire::{Call, Cause, Kind, Settings, Side, check, is_stream_code};
 use std::alloc::Global;
 use std::process::Abort;
 use std::test::Fail;
@@ -21,6 +22,8 @@ pub struct Limits {
     pub side: Side,
     /// How many bytes a message may have.
     pub max_payload: u32,
+    /// How many streams may be open.
+    pub max_streams: u32,
     /// The last stream id that the end uses.
     pub last_id: u32,
     /// The last position, in bytes.
@@ -98,11 +101,13 @@ impl Shown {
     }
 }
 
-fn session(alloc: Global, limits: Limits) -> Result<Session<Kept>, Fail> {
+/// A session that is not begun.
+pub fn session(alloc: Global, limits: Limits) -> Result<Session<Kept>, Fail> {
     let mut settings = Settings::usual(alloc, limits.side)?;
     settings.hold = 0;
     settings.slack = 0;
     settings.max_payload = limits.max_payload;
+    settings.max_streams = limits.max_streams;
     settings.last_id = limits.last_id;
     settings.top_position = limits.top_position;
     let Ok(checked) = check(settings) else {
@@ -116,9 +121,9 @@ fn session(alloc: Global, limits: Limits) -> Result<Session<Kept>, Fail> {
     }
 }
 
-// A call that can be made: a fire-and-forget, or Close.
-fn is_askable(call: &Call) -> bool
-    ensures { IsTrue result → IsAskable call.now }
+// A call that can be made: what a request carries fits its kind, and an error has a code of a stream.
+fn can_be_asked(call: &Call) -> bool
+    ensures { IsTrue result → CanBeAsked call.now }
 {
     match call {
         Call::Request {
@@ -126,15 +131,18 @@ fn is_askable(call: &Call) -> bool
             initial,
             complete,
             ..
-        } => *kind == Kind::Fnf && initial.is_none() && !*complete,
-        Call::Close => true,
-        _ => false,
+        } => {
+            initial.is_some() == matches!(kind, Kind::Stream | Kind::Channel)
+                && (!*complete || *kind == Kind::Channel)
+        }
+        Call::Fail { code, .. } => is_stream_code(*code),
+        _ => true,
     }
 }
 
 // An event that can happen at that end, and is no draw.
 fn is_act(settings: &Settings, event: &Event) -> bool
-    ensures fair { IsTrue result → IsFair settings.now event.now }
+    ensures fair { IsTrue result → CanBring settings.now event.now }
     ensures no_draw { IsTrue result → IsNoDrawEvent event.now }
 {
     match event {
@@ -147,19 +155,20 @@ fn is_act(settings: &Settings, event: &Event) -> bool
         Event::Draw { .. } => false,
         Event::Came { frame, .. } => spellable(frame),
         Event::Bad { rule, .. } => 0 < *rule && *rule <= 10,
-        Event::Asked(call) => is_askable(call),
+        Event::Asked(call) => can_be_asked(call),
     }
 }
 
-fn act(session: &mut Session<Kept>, event: &Event) -> Result<Answer, Fail> {
+/// The answer to an event that can happen.
+pub fn act(session: &mut Session<Kept>, event: &Event) -> Result<Answer, Fail> {
     if !is_act(session.settings().settings(), event) {
         return Err(Fail::from("the event can happen"));
     }
     Ok(session.step(1, event))
 }
 
-// The answer to a draw. The bytes drawn are appended to those sent.
-fn draw(
+/// The answer to a draw. The bytes drawn are appended to those sent.
+pub fn draw(
     alloc: Global,
     session: &mut Session<Kept>,
     conn: u64,

@@ -96,12 +96,11 @@ fn play_broken(rt: &impl Abort, alloc: Global, second: Step, rule: Rule) -> Resu
 #[test]
 fn a_frame_breaks_the_least_rule(rt: HostRuntime) -> Result<(), Fail> {
     for (second, rule) in [
-        (Step::Odd(1, Strange::Cancel), Rule::NotNow),
-        (Step::Odd(1, Strange::StreamError), Rule::NotNow),
+        (Step::Odd(1, Strange::StreamError), Rule::PositionSpent),
         (Step::Odd(1, Strange::Unknown(0x1FF)), Rule::UnknownType(48)),
         (Step::Odd(1, Strange::Extension(0)), Rule::UnknownType(63)),
         (Step::Odd(1, Strange::Setup), Rule::NotNow),
-        (Step::Odd(1, Strange::Response), Rule::NotNow),
+        (Step::Odd(1, Strange::Response), Rule::StreamId(4)),
         (Step::Odd(1, Strange::Fragment), Rule::NotNow),
         (Step::Came(4, 5), Rule::StreamId(4)),
         (Step::Came(3, 5), Rule::StreamId(3)),

@@ -73,13 +73,15 @@ fn empty(alloc: Global) -> Blob {
     Blob::from_vec(Vec::new(alloc))
 }
 
-fn repeated(alloc: Global, len: usize) -> Result<Blob, Fail> {
+/// This many bytes 0x68.
+pub fn repeated(alloc: Global, len: usize) -> Result<Blob, Fail> {
     let mut bytes = Vec::new(alloc);
     bytes.resize(len, 0x68)?;
     Ok(Blob::from_vec(bytes))
 }
 
-fn message(alloc: Global, len: usize) -> Result<Message, Fail> {
+/// A message of this many bytes.
+pub fn message(alloc: Global, len: usize) -> Result<Message, Fail> {
     Ok(Message {
         metadata: None,
         content: repeated(alloc, len)?,
