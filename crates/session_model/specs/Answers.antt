@@ -156,11 +156,13 @@ to_call g t (call.Request kind initial message complete) =
     let id = next_id g.side t.streams in
     let refused = refused_request g t (size_of message) (request_frame id kind initial message complete) id in
     refused_if_closed t.closed (started_unless refused id)
+to_call g t _ = answer.Refused refusal.UnknownStream
 
 -- ---- any event
 
 abbrev pub answer_by : Settings → Facts → Event → Answer
 answer_by g t (event.Open first taken) = to_open g t first taken
+answer_by g t (event.Cut conn) = answer.Stale t.live
 answer_by g t (event.Draw conn room) = to_draw t conn room
 answer_by g t (event.Came conn f) = to_frame g t conn f
 answer_by g t (event.Bad conn number) = to_bad g t conn number

@@ -24,11 +24,13 @@ pub record IsPlain (g : Settings) : Type 0 where
 -- a call that can be made: a fire-and-forget without metadata
 abbrev pub IsAskable : Call → Type 0
 IsAskable (call.Request k initial message complete) = (k ≡ kind.Fnf) × (initial ≡ None) × (message.metadata ≡ None) × (complete ≡ false)
+IsAskable _ = ⊥
 
 -- what whoever brings an event ensures: a first frame exactly on a server, frames that can be spelled, rules that there are
 abbrev pub IsFair : Settings → Event → Type 0
 IsFair g (event.Open None taken) = g.side ≡ Client
 IsFair g (event.Open (Some f) taken) = (g.side ≡ Server) × IsSpellable f
+IsFair g (event.Cut conn) = ⊥
 IsFair g (event.Draw conn room) = (0 < room) × (room < 2 ^ 32)
 IsFair g (event.Came conn f) = IsSpellable f
 IsFair g (event.Bad conn number) = (0 < number) × (number ≤ 10)

@@ -67,6 +67,7 @@ abbrev pub Strays : Facts → Event → Type 0
 Strays t (event.Came conn f) = is_live t.live conn ≡ false
 Strays t (event.Bad conn rule) = is_live t.live conn ≡ false
 Strays t (event.Draw conn room) = is_live t.live conn ≡ false
+Strays t (event.Cut conn) = Unit {0}
 Strays t (event.Open first taken) = Unit {0}
 Strays t (event.Asked asked) = ⊥
 
@@ -94,8 +95,13 @@ FindsNothing t _ = ⊥
 abbrev pub Means : Settings → Facts → Event → Answer → Type 0
 Means g t e (answer.Opened n) = Opens g t n e
 Means g t e (answer.Started id) = Starts g t id e
+Means g t e answer.Done = ⊥
+Means g t e (answer.Got delivery) = ⊥
+Means g t e (answer.GotJob job) = ⊥
 Means g t e (answer.Drawn n) = GivesBytes t n e
+Means g t e answer.Parted = ⊥
 Means g t e answer.Handled = Handles g t e
+Means g t e (answer.PeerError code) = ⊥
 Means g t e (answer.Violation rule) = Lands t e
 Means g t e (answer.OutBusy n) = Lands t e
 Means g t e (answer.SetupRefused fault) = RefusesFirst t e

@@ -111,13 +111,15 @@ fn session(alloc: Global, limits: Limits) -> Result<Session<Kept>, Fail> {
 fn is_askable(call: &Call) -> bool
     ensures { IsTrue result → IsAskable call.now }
 {
-    let Call::Request {
-        kind,
-        initial,
-        message,
-        complete,
-    } = call;
-    *kind == Kind::Fnf && initial.is_none() && message.metadata.is_none() && !*complete
+    match call {
+        Call::Request {
+            kind,
+            initial,
+            message,
+            complete,
+        } => { *kind == Kind::Fnf && initial.is_none() && message.metadata.is_none() && !*complete }
+        _ => false,
+    }
 }
 
 // An event that can happen at that end, and is no draw.
@@ -131,7 +133,7 @@ fn is_act(settings: &Settings, event: &Event) -> bool
             first: Some(first),
             ..
         } => settings.side == Side::Server && spellable(first),
-        Event::Draw { .. } => false,
+        Event::Cut { .. } | Event::Draw { .. } => false,
         Event::Came { frame, .. } => spellable(frame),
         Event::Bad { rule, .. } => 0 < *rule && *rule <= 10,
         Event::Asked(call) => is_askable(call),
