@@ -10,7 +10,7 @@ use Rattle.tape.specs.declared.entry.Entry.{Entry}
 use Rattle.session_model.specs.Legal.{IsPlain}
 use Rattle.session_core.specs.Seen.{Seen}
 use Rattle.session_laws.specs.Ends.{AreEnds}
-use Rattle.cable.specs.declared.line.Line.{Line}
+use Rattle.cable.specs.declared.script.line.Line.{Line}
 use Rattle.cable.specs.Played.{Ends, Played, PlaysLine, PlaysLines, Sides, begins, nothing, usual_sides}
 use Rattle.cable.proofs.Drawing.{same_trans}
 use Rattle.cable.specs.Wires.{At, Keeps, Reaches, Wires, sides_of, IsOfSession}

@@ -12,7 +12,7 @@ ghost use Rattle.cable.specs.Wires.{Arrives, At, IsAt, Keeps, Reaches, ServerAt,
 use crate::bringing::{ask, connect};
 use crate::carrying::{Most, carry};
 use crate::hearing::{Crossing, Known, hear, meet};
-use crate::line::Line;
+use crate::script::line::Line;
 use rs_chunk::Reader;
 use rs_wire::{Call, OutOfMemory, Side};
 use session_core::Session;

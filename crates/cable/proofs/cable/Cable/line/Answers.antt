@@ -1,5 +1,5 @@
 use Rattle.std.proofs.Common.{ℕ, sym, subst, OnOk}
-use Rattle.cable.specs.declared.line.Line.{Line}
+use Rattle.cable.specs.declared.script.line.Line.{Line}
 use Rattle.cable.specs.declared.carrying.Most.TheVariants as most
 use Rattle.cable.specs.Played.{PlaysLine, Ups}
 use Rattle.cable.specs.Wires.{Reaches, sides_of}

@@ -1,15 +1,11 @@
--- A run that went to its end, and what was read for it.
-use Rattle.std.proofs.Common.{◌≡◌, ℕ, ◌≤◌, ◌+◌, List, [], ◌∷◌, ◌++◌, length, Option, Some, is_some, refl, sym, ap, subst, ◌∙◌, append_assoc, append-nil, ⊎_elim, arith, Result, Ok, Err, IfOk, OnOk}
-use Rattle.outside.specs.Streams.{ByteStream}
+-- A script that was played over tapes of a shelf.
+use Rattle.std.proofs.Common.{◌≡◌, ℕ, ◌≤◌, ◌+◌, List, [], ◌∷◌, ◌++◌, length, Option, Some, is_some, refl, sym, ap, subst, ◌∙◌, append_assoc, arith, Result, Ok, Err, IfOk, OnOk}
 use Rattle.rs_wire.specs.declared.words.Side.{Side}
 use Rattle.rs_wire.specs.declared.words.Side.TheVariants.{Client, Server}
 use Rattle.tape.specs.declared.entry.Entry.{Entry}
 use Rattle.session_core.specs.Seen.{Seen, told_by}
 use Rattle.cable.specs.Report.{report_of}
-use Rattle.cable.specs.declared.line.Line.{Line}
-use Rattle.cable.specs.Script.{IsScript}
-use Rattle.rsocket_run.specs.Run.{GotTapes, WasScript, end_of}
-use Rattle.rsocket_run.specs.Streams.{IsReadTo}
+use Rattle.cable.specs.Shelves.{GotTapes, end_of}
 
 both_back : (b b' b'' : List (Option (List Entry))) (c s : Option (List Entry)) → b' ≡ b ++ c ∷ [] → b'' ≡ b' ++ s ∷ [] → b'' ≡ b ++ c ∷ s ∷ []
 both_back b b' b'' c s p q = q ∙ ap (λ (x : List (Option (List Entry))). x ++ s ∷ []) p ∙ append_assoc b (c ∷ []) (s ∷ [])
@@ -43,30 +39,12 @@ pub got_both : (b b' b'' b3 : List (Option (List Entry))) (t u t' u' : Option (L
 got_both b b' b'' b3 t u t' u' same one two t_is u_is =
     cc (both_back b' b'' b3 t u one two)
 
--- what was read is the whole text, where it is below the limit
-pub whole_text : (most : ℕ) (text bytes : List ℕ) (left : Option (List ℕ)) → IsReadTo most text bytes left → length bytes + 1 ≤ most → (text ≡ bytes) × (left ≡ Some [])
-whole_text most text bytes left r short = ⊎_elim
-    (λ none. (r.text_is ∙ ap (λ (x : List ℕ). bytes ++ x) none ∙ append-nil bytes, r.left_is ∙ ap Some none))
-    (λ full. absurd (omega (arith, full, short)))
-    r.to_the_end
-
-pub script_read : (text bytes given : List ℕ) (left : Option (List ℕ)) (script : List Line) → IsReadTo 16777217 text bytes left → given ≡ bytes → IsScript given script → (IsScript text script) × (left ≡ Some [])
-script_read text bytes given left script r same is =
-    let here : IsScript bytes script = subst (λ (t : List ℕ). IsScript t script) same is in
-    let whole = whole_text 16777217 text bytes left r (omega (arith, here.short)) in
-    (subst (λ (t : List ℕ). IsScript t script) (sym whole.0) here, whole.1)
-
-pub was_script : (input : ByteStream) (bytes given : List ℕ) (left : Option (List ℕ)) (script : List Line) → ((text : List ℕ) → input.told ≡ Some text → IsReadTo 16777217 text bytes left) → given ≡ bytes → IsScript given script → WasScript input left
-was_script input bytes given left script whole same is = λ text told.
-    let read = script_read text bytes given left script (whole text told) same is in
-    (read.1, (script, read.0))
-
 pub at_ok : {X E : Type 0} (r : Result X E) (P : X → Type 0) → ((x : X) → r ≡ Ok x → P x) → IfOk r P
 at_ok {X} {E} (Ok x) P f = f x refl
 at_ok {X} {E} (Err e) P f = tt
 
-pub on_ok : {X E : Type 0} (r : Result X E) (x : X) (P : Type 0) → r ≡ Ok x → OnOk r P → P
-on_ok r x P is h = subst (λ s. OnOk s P) is h
+pub ok_is : {X E : Type 0} (r : Result X E) (x : X) (P : Type 0) → r ≡ Ok x → OnOk r P → P
+ok_is r x P is h = subst (λ s. OnOk s P) is h
 
 pub if_ok : {X E : Type 0} (r : Result X E) (x : X) (P : X → Type 0) → r ≡ Ok x → IfOk r P → P x
 if_ok r x P is h = subst (λ s. IfOk s P) is h

@@ -2,10 +2,12 @@
 
 ghost use Rattle.std.specs.Prelude.{◌≡◌, IfOk, OnOk, false};
 ghost use Rattle.cable.specs.Report.{report_of};
-ghost use Rattle.rsocket_run.specs.Run.{GotTapes, Reports};
+ghost use Rattle.cable.specs.Shelves.{GotTapes, Reports};
 
 use crate::ends::both_ends;
-use cable::{Ran, Script, report, scheduled};
+use crate::reports::report;
+use crate::run::{Ran, scheduled};
+use crate::script::Script;
 use rs_wire::OutOfMemory;
 use std::alloc::Global;
 use tape::{Shelf, Tape};

@@ -1,9 +1,9 @@
-use Rattle.rsocket_run.proofs.Playing.{at_ok, got_both, if_ok, on_ok, report_is, told_of, two_tapes, went_on}
-use Rattle.rsocket_run.proofs.play.play.Goals as goal
+use Rattle.cable.proofs.OverShelf.{at_ok, got_both, if_ok, ok_is, report_is, told_of, two_tapes, went_on}
+use Rattle.cable.proofs.shelved.play.Goals as goal
 
 pub returns-clause-reports : goal.returns-clause-reports
 returns-clause-reports g c = at_ok c.report_of-text.result _ (λ text is.
-    let went = on_ok _ _ _ is c.report_of-text.ensures.went in
+    let went = ok_is _ _ _ is c.report_of-text.ensures.went in
     let client = went_on _ _ _ _ c.in_ok-client.ensures.client c.scheduled-ran.ensures.client in
     let server = went_on _ _ _ _ c.in_ok-client.ensures.server c.scheduled-ran.ensures.server in
     record {

@@ -2,7 +2,7 @@
 
 ghost use Rattle.std.specs.Prelude.{◌≡◌, ◌+◌, ◌<◌, [], IfOk, IfSome, OnErr, OnOk};
 ghost use Rattle.rs_wire.specs.Settings.{usual};
-ghost use Rattle.rsocket_run.specs.Run.{GotTapes, end_of};
+ghost use Rattle.cable.specs.Shelves.{GotTapes, end_of};
 
 use rs_wire::{Checked, OutOfMemory, Settings, Side, check};
 use session_core::Session;
