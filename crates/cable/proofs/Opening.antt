@@ -80,6 +80,11 @@ paired_with s r (answer.Violation v) is p = unlinked s r _ (open_goes s r (answe
 paired_with s r (answer.SetupRefused f) is p = unlinked s r _ (open_goes s r (answer.SetupRefused f) p)
 paired_with s r (answer.Stale c) is p = unlinked s r _ (open_goes s r (answer.Stale c) p)
 paired_with s r (answer.Refused f) is p = unlinked s r _ (open_goes s r (answer.Refused f) p)
+paired_with s r answer.Done is p = unlinked s r _ (open_goes s r answer.Done p)
+paired_with s r (answer.Got d) is p = unlinked s r _ (open_goes s r (answer.Got d) p)
+paired_with s r (answer.GotJob j) is p = unlinked s r _ (open_goes s r (answer.GotJob j) p)
+paired_with s r answer.Parted is p = unlinked s r _ (open_goes s r answer.Parted p)
+paired_with s r (answer.PeerError code) is p = unlinked s r _ (open_goes s r (answer.PeerError code) p)
 paired_with s r (answer.Closed w) is p = unlinked s r _ (open_goes s r (answer.Closed w) p)
 
 pub paired_open : (s : Sides) (r : Ends) → Paired s r → Paired s (opens s r)
