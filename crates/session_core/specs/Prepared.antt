@@ -27,10 +27,11 @@ pub record AreReady (g : Settings) (old : State) (e : Event) (a : Answer) (p : P
 abbrev pub with_line : Settings → State → Event → Answer → State
 with_line g old e a = record old { queue = old.queue ++ lined_on (live_after a old.live) (framed_all (lines_up g old.streams a e)) }
 
--- what waits once a connection is opened: what was put in line for it alone
-abbrev pub from_opening : Answer → ℕ → List ℕ → List ℕ
-from_opening (answer.Opened n) before queue = drop before queue
-from_opening _ before queue = queue
+-- what stays in line: on an opened connection what was put in line for it, on a parted one nothing
+abbrev pub left_in_line : Answer → ℕ → List ℕ → List ℕ
+left_in_line (answer.Opened n) before queue = drop before queue
+left_in_line answer.Parted before queue = []
+left_in_line _ before queue = queue
 
 -- a session of which nothing happened yet
 abbrev pub nothing_yet : State

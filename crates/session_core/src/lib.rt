@@ -16,10 +16,12 @@ mod history;
 mod judge;
 mod outgoing;
 mod queue;
+mod refusal;
 mod session;
 mod state;
 
 pub use counts::Counts;
+pub use refusal::refusal_frame;
 pub use session::Session;
 
 #[cfg(test)]

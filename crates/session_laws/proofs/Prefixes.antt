@@ -1,6 +1,6 @@
 -- Lists that are a prefix of others.
-use Rattle.std.proofs.Common.{◌≡◌, ◌≤◌, ℕ, List, [], ◌++◌, length, take, drop, refl, ap, sym, ◌∙◌, append_assoc, append-nil}
-use Rattle.std.proofs.lemmas.List.{drop-append-le, drop_at, take-append-drop}
+use Rattle.std.proofs.Common.{ℕ, List, [], ◌++◌, take, drop, refl, ap, sym, ◌∙◌, append_assoc, append-nil}
+use Rattle.std.proofs.lemmas.List.{take-append-drop}
 use Rattle.session_model.specs.Lists.{IsPrefix}
 
 pub prefix_refl : {A : Type 0} (xs : List A) → IsPrefix xs xs
@@ -17,7 +17,3 @@ prefix_more xs ys more p = (p.0 ++ more, sym (append_assoc xs p.0 more) ∙ ap (
 
 pub prefix_take : {A : Type 0} (n : ℕ) (xs : List A) → IsPrefix (take n xs) xs
 prefix_take n xs = (drop n xs, take-append-drop n xs)
-
--- a prefix of two lists after one another, as long as the first at least, goes on with a prefix of the second
-pub prefix_drop : {A : Type 0} (n : ℕ) (xs first ys : List A) → n ≤ length xs → length first ≡ n → IsPrefix xs (first ++ ys) → IsPrefix (drop n xs) ys
-prefix_drop n xs first ys le e p = (p.0, sym (drop-append-le n xs p.0 le) ∙ (ap (λ l. drop n l) p.1 ∙ drop_at first ys n e))

@@ -1,6 +1,8 @@
 -- What is made, due and come can be spelled.
-use Rattle.std.proofs.Common.{ℕ, Bool, List, [], ◌∷◌, Option, arith}
+use Rattle.std.proofs.Common.{ℕ, ◌<◌, ◌^◌, Bool, List, [], ◌∷◌, length, Option, arith}
 use Rattle.std.proofs.lemmas.Grind.{common_steps}
+use Rattle.rs_wire.specs.Words.{rule_word}
+use Rattle.rs_wire.specs.declared.fault.Rule.{Rule}
 use Rattle.rs_wire.specs.declared.words.Kind.{Kind}
 use Rattle.rs_wire.specs.declared.message.Message.{Message}
 use Rattle.rs_wire.specs.declared.settings.Settings.{Settings}
@@ -8,7 +10,7 @@ use Rattle.rs_wire.specs.declared.call.Call.TheVariants as call
 use Rattle.rs_wire.specs.Settings.{IsChecked}
 use Rattle.rs_frame.specs.Spelling.{IsSpellable}
 use Rattle.tape.specs.declared.entry.Entry.{Entry}
-use Rattle.session_model.specs.Frames.{made, due, came, request_frame, setup_frame}
+use Rattle.session_model.specs.Frames.{made, due, came, closing_error, request_frame, setup_frame}
 use Rattle.session_model.specs.Answers.{Facts, facts}
 use Rattle.session_model.specs.Legal.{Fair, IsAskable, IsPlain, Legal}
 use Rattle.session_model.specs.Means.{Starting}
@@ -23,6 +25,13 @@ asked_spelled g t kind initial message complete id checked s askable =
     let below = checked.last_id.below in
     let small = checked.max_payload.below in
     grind (arith, common_steps)
+
+words_short : (r : Rule) → length (rule_word r) < 2 ^ 14
+words_short r = grind (arith, common_steps)
+
+-- an ERROR with a short word
+closing_spelled : (word : List ℕ) → length word < 2 ^ 14 → IsSpellable (closing_error word)
+closing_spelled word h = grind (arith, common_steps)
 
 pub made_spelled : (g : Settings) (past : List Entry) → IsPlain g → Legal g past → Fair g past → AreSpellable (made g past)
 unfolding Legal Fair made facts
@@ -48,7 +57,7 @@ due_spelled g [] c plain legal fair = tt
 due_spelled g (x ∷ past) c plain legal fair =
     let new = last_means g x past legal in
     let before = due_spelled g past c plain legal.0 fair.0 in
-    grind (arith, common_steps, asked_spelled, setup_spelled g plain, spellable-append)
+    grind (arith, common_steps, asked_spelled, setup_spelled g plain, closing_spelled, words_short, spellable-append)
 
 pub came_spelled : (g : Settings) (past : List Entry) (c : ℕ) → Fair g past → AreSpellable (came past c)
 unfolding Fair came

@@ -15,6 +15,12 @@ unfolding Legal live openings facts
 live_le g [] legal = omega arith
 live_le g (x ∷ past) legal = grind (arith, common_steps, last_means g x past legal, live_le g past legal.0)
 
+-- nothing is due on no connection
+pub due_nowhere : (g : Settings) (past : List Entry) → due g past 0 ≡ []
+unfolding due
+due_nowhere g [] = refl
+due_nowhere g (x ∷ past) = grind (arith, common_steps, due_nowhere g past)
+
 -- nothing is due on a connection that is not opened yet
 pub due_later : (g : Settings) (past : List Entry) (c : ℕ) → Legal g past → openings past < c → due g past c ≡ []
 unfolding Legal live openings due facts

@@ -1,8 +1,9 @@
 -- The answer to an event, after the entries so far.
-use Rattle.std.specs.Prelude.{ℕ, ◌+◌, ◌==◌, ◌&&◌, Bool, true, false, not, nat_lt, min, if◌then◌else◌, List, [], ◌∷◌, length, Option, Some, None, is_none}
+use Rattle.std.specs.Prelude.{ℕ, ◌+◌, ◌==◌, ◌&&◌, Bool, true, false, not, nat_lt, min, if◌then◌else◌, List, [], ◌∷◌, length, Option, Some, None}
 use Rattle.rs_wire.specs.Message.{size_of}
 use Rattle.rs_wire.specs.Ranges.{first_true}
 use Rattle.rs_wire.specs.Settings.{out_limit_of}
+use Rattle.rs_wire.specs.declared.message.Message.{Message}
 use Rattle.rs_wire.specs.declared.words.Kind.{Kind}
 use Rattle.rs_wire.specs.declared.words.Kind.TheVariants as kind
 use Rattle.rs_wire.specs.declared.fault.Cause.{Cause}
@@ -20,6 +21,7 @@ use Rattle.rs_frame.specs.declared.frame.Frame.TheVariants as frame
 use Rattle.rs_frame.specs.declared.frame.Request.{Request}
 use Rattle.rs_frame.specs.declared.frame.Setup.{Setup}
 use Rattle.rs_frame.specs.Spelling.{length_of}
+use Rattle.rs_frame.specs.Table.{flag}
 use Rattle.setup_core.specs.Setup.{setup_fault}
 use Rattle.tape.specs.declared.event.Event.{Event}
 use Rattle.tape.specs.declared.event.Event.TheVariants as event
@@ -30,8 +32,9 @@ use Rattle.position.specs.Boundaries.{pos}
 use Rattle.session_model.specs.Life.{openings, live, is_live, carrying, begun, setup, closed}
 use Rattle.session_model.specs.declared.facts.Counted.{Counted}
 use Rattle.session_model.specs.declared.facts.Known.{Known}
+use Rattle.session_model.specs.declared.numbers.TheConstants.{ANSWER_ROOM, EXTENSION, MAY_IGNORE}
 use Rattle.session_model.specs.Streams.{known, next_id, is_peers_next}
-use Rattle.session_model.specs.Frames.{request_frame, made, handled, queued}
+use Rattle.session_model.specs.Frames.{request_frame, closing_error, made, handled, queued}
 
 -- how many frames there are, and the position after them
 abbrev pub counted : List Frame → Counted
@@ -86,30 +89,43 @@ unless_closed None next = next
 abbrev pub to_open : Settings → Facts → Option Frame → Bool → Answer
 to_open g t first taken = unless_closed t.closed (to_first g t first taken)
 
--- ---- a draw
+-- ---- a cut and a draw
 
 abbrev pub on_live : Facts → ℕ → Answer → Answer
 on_live t conn next = if is_live t.live conn then next else answer.Stale t.live
+
+abbrev pub to_cut : Facts → ℕ → Answer
+to_cut t conn = on_live t conn answer.Parted
 
 abbrev pub to_draw : Facts → ℕ → ℕ → Answer
 to_draw t conn room = on_live t conn (if t.queued == 0 then answer.NotYet else answer.Drawn (min room t.queued))
 
 -- ---- what comes
 
--- room stays for an answer after what comes: the largest that is made at once has 67 bytes, an ERROR with its word and length among them
-abbrev pub answer_room : ℕ
-answer_room = 67
-
+-- room stays in the queue for what answers a frame of this length
 abbrev pub unless_busy : Settings → Facts → ℕ → Answer → Answer
-unless_busy g t len next = if nat_lt (out_limit_of g) (t.queued + len + answer_room) then answer.OutBusy t.queued else next
+unless_busy g t len next = if nat_lt (out_limit_of g) (t.queued + len + ANSWER_ROOM) then answer.OutBusy t.queued else next
 
--- a request that this end knows: a whole fire-and-forget without metadata
+-- the code of an ERROR on stream 0, which closes the session whatever it is (RSocket 1.0, "Error Codes")
+abbrev pub peer_error : Frame → Option ℕ
+peer_error (frame.Error stream code content) = if stream == 0 then Some code else None
+peer_error _ = None
+
+abbrev pub unless_error : Option ℕ → Answer → Answer
+unless_error (Some code) next = answer.PeerError code
+unless_error None next = next
+
+-- a request that this end knows: a whole fire-and-forget
 abbrev pub is_fnf : Kind → Bool
 is_fnf kind.Fnf = true
 is_fnf _ = false
 
 abbrev pub is_known : Request → Bool
-is_known r = (is_fnf r.kind && not r.follows) && is_none r.message.metadata
+is_known r = is_fnf r.kind && not r.follows
+
+-- a frame of a type that this end doesn't know breaks a rule, but where it may be ignored (RSocket 1.0, "Frame Header Format")
+abbrev pub unknown_type : ℕ → ℕ → Option Rule
+unknown_type number flags = if flag MAY_IGNORE flags then None else Some (rule.UnknownType number)
 
 -- the least rule that a frame breaks
 abbrev pub broken_rule : Settings → Facts → Frame → Option Rule
@@ -119,6 +135,8 @@ broken_rule g t (frame.Request r) = first_true (
     ∷ (nat_lt g.max_payload (size_of r.message), rule.TooLarge (size_of r.message))
     ∷ (nat_lt g.top_position (t.handled.position + length_of (frame.Request r)), rule.PositionSpent)
     ∷ [])
+broken_rule g t (frame.Unknown stream number flags rest) = unknown_type number flags
+broken_rule g t (frame.Ext stream flags extended rest) = unknown_type EXTENSION flags
 broken_rule g t _ = Some rule.NotNow
 
 abbrev pub handled_unless : Option Rule → Answer
@@ -126,12 +144,16 @@ handled_unless None = answer.Handled
 handled_unless (Some r) = answer.Violation r
 
 abbrev pub to_frame : Settings → Facts → ℕ → Frame → Answer
-to_frame g t conn f = on_live t conn (unless_closed t.closed (unless_busy g t (length_of f) (handled_unless (broken_rule g t f))))
+to_frame g t conn f = on_live t conn (unless_closed t.closed (unless_busy g t (length_of f) (unless_error (peer_error f) (handled_unless (broken_rule g t f)))))
 
 abbrev pub to_bad : Settings → Facts → ℕ → ℕ → Answer
 to_bad g t conn number = on_live t conn (unless_closed t.closed (unless_busy g t 0 (answer.Violation (rule.BadFrame number))))
 
 -- ---- a call
+
+-- a frame of this length goes out at once, and finds no room in the queue for itself and its length field
+abbrev pub finds_full : Settings → Facts → ℕ → Bool
+finds_full g t len = t.carrying && nat_lt (out_limit_of g) (t.queued + (3 + len))
 
 -- the first refusal of a request
 abbrev pub refused_request : Settings → Facts → ℕ → Frame → ℕ → Option Refusal
@@ -139,7 +161,7 @@ refused_request g t size f id = first_true (
     (nat_lt g.max_payload size, refusal.TooLarge size)
     ∷ (nat_lt g.last_id id, refusal.IdsGone)
     ∷ (not t.begun, refusal.NotConnected)
-    ∷ (t.carrying && nat_lt (out_limit_of g) (t.queued + (3 + length_of f)), refusal.OutFull t.queued)
+    ∷ (finds_full g t (length_of f), refusal.OutFull t.queued)
     ∷ (nat_lt g.top_position (t.made.position + length_of f), refusal.PositionSpent)
     ∷ [])
 
@@ -151,18 +173,26 @@ abbrev pub refused_if_closed : Option Cause → Answer → Answer
 refused_if_closed (Some why) next = answer.Refused (refusal.Closed why)
 refused_if_closed None next = next
 
-abbrev pub to_call : Settings → Facts → Call → Answer
-to_call g t (call.Request kind initial message complete) =
+abbrev pub to_request : Settings → Facts → Kind → Option ℕ → Message → Bool → Answer
+to_request g t kind initial message complete =
     let id = next_id g.side t.streams in
     let refused = refused_request g t (size_of message) (request_frame id kind initial message complete) id in
     refused_if_closed t.closed (started_unless refused id)
+
+-- Close needs no connection, and room for its ERROR where there is one
+abbrev pub to_close : Settings → Facts → Answer
+to_close g t = refused_if_closed t.closed (if finds_full g t (length_of (closing_error [])) then answer.Refused (refusal.OutFull t.queued) else answer.Done)
+
+abbrev pub to_call : Settings → Facts → Call → Answer
+to_call g t (call.Request kind initial message complete) = to_request g t kind initial message complete
+to_call g t call.Close = to_close g t
 to_call g t _ = answer.Refused refusal.UnknownStream
 
 -- ---- any event
 
 abbrev pub answer_by : Settings → Facts → Event → Answer
 answer_by g t (event.Open first taken) = to_open g t first taken
-answer_by g t (event.Cut conn) = answer.Stale t.live
+answer_by g t (event.Cut conn) = to_cut t conn
 answer_by g t (event.Draw conn room) = to_draw t conn room
 answer_by g t (event.Came conn f) = to_frame g t conn f
 answer_by g t (event.Bad conn number) = to_bad g t conn number

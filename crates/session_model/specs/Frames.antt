@@ -1,5 +1,6 @@
 -- The frames of a session, over its entries, the newest first: made, due, come and handled.
 use Rattle.std.specs.Prelude.{ℕ, ◌+◌, ◌-◌, ◌==◌, ◌&&◌, Bool, false, nat_le, nat_lt, if◌then◌else◌, List, [], ◌∷◌, ◌++◌, length, take, map, Option, Some, None, is_none}
+use Rattle.rs_wire.specs.Words.{rule_word, setup_word}
 use Rattle.rs_wire.specs.declared.words.Kind.{Kind}
 use Rattle.rs_wire.specs.declared.message.Message.{Message}
 use Rattle.rs_wire.specs.declared.settings.Settings.{Settings}
@@ -8,6 +9,7 @@ use Rattle.rs_frame.specs.declared.frame.Frame.{Frame}
 use Rattle.rs_frame.specs.declared.frame.Frame.TheVariants as frame
 use Rattle.rs_frame.specs.Spelling.{is_resumable}
 use Rattle.rs_frame.specs.Framed.{framed_all}
+use Rattle.setup_core.specs.Setup.{code_of}
 use Rattle.tape.specs.declared.event.Event.{Event}
 use Rattle.tape.specs.declared.event.Event.TheVariants as event
 use Rattle.tape.specs.declared.answer.Answer.{Answer}
@@ -16,6 +18,7 @@ use Rattle.tape.specs.declared.entry.Entry.{Entry}
 use Rattle.session_model.specs.Lists.{first_of}
 use Rattle.session_model.specs.Life.{openings, live, live_after, is_live}
 use Rattle.session_model.specs.declared.facts.Known.{Known}
+use Rattle.session_model.specs.declared.numbers.TheConstants.{CONNECTION_ERROR}
 use Rattle.session_model.specs.Streams.{known}
 
 -- the SETUP of a client: version 1.0, its intervals, its token where it resumes, its MIME texts, no payload
@@ -43,6 +46,15 @@ request_frame id kind initial message complete = frame.Request (record {
   message = message;
 })
 
+-- the ERROR on stream 0 that closes the session (RSocket 1.0, "ERROR Frame")
+abbrev pub closing_error : List ℕ → Frame
+closing_error content = frame.Error 0 CONNECTION_ERROR content
+
+-- the ERROR on stream 0 that a server gives on a connection whose first frame it refuses, and nothing else (RSocket 1.0, "Setup")
+abbrev pub refusal : Answer → Option Frame
+refusal (answer.SetupRefused fault) = Some (frame.Error 0 (code_of fault) (setup_word fault))
+refusal _ = None
+
 -- ---- made
 
 -- the resumable frames that an entry makes, by what is known of the streams before it
@@ -65,6 +77,8 @@ greets g _ = []
 -- the frames of the connection that an entry puts in line before those that it makes; no position counts them
 abbrev pub beside : Settings → Answer → Event → List Frame
 beside g (answer.Opened n) e = greets g e
+beside g (answer.Violation rule) e = closing_error (rule_word rule) ∷ []
+beside g answer.Done (event.Asked call.Close) = closing_error [] ∷ []
 beside g _ e = []
 
 -- the frames that an entry puts in line

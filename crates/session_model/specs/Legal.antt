@@ -5,6 +5,7 @@ use Rattle.rs_wire.specs.declared.words.Kind.TheVariants as kind
 use Rattle.rs_wire.specs.declared.settings.Settings.{Settings}
 use Rattle.rs_wire.specs.declared.call.Call.{Call}
 use Rattle.rs_wire.specs.declared.call.Call.TheVariants as call
+use Rattle.rs_wire.specs.Calls.{CanBeAsked}
 use Rattle.rs_wire.specs.Settings.{IsChecked}
 use Rattle.rs_frame.specs.Spelling.{IsSpellable}
 use Rattle.tape.specs.declared.event.Event.{Event}
@@ -13,6 +14,7 @@ use Rattle.tape.specs.declared.answer.Answer.{Answer}
 use Rattle.tape.specs.Answers.{leaves}
 use Rattle.tape.specs.declared.entry.Entry.{Entry}
 use Rattle.session_model.specs.Answers.{answer_to}
+use Rattle.session_model.specs.declared.numbers.TheConstants.{LONG_FRAME}
 
 -- settings that were tested, of an end without resumption, leases and fragments
 pub record IsPlain (g : Settings) : Type 0 where
@@ -21,19 +23,25 @@ pub record IsPlain (g : Settings) : Type 0 where
   pub no_leases : g.lease ≡ false
   pub no_fragments : g.mtu ≡ 0
 
--- a call that can be made: a fire-and-forget without metadata
-abbrev pub IsAskable : Call → Type 0
-IsAskable (call.Request k initial message complete) = (k ≡ kind.Fnf) × (initial ≡ None) × (message.metadata ≡ None) × (complete ≡ false)
-IsAskable _ = ⊥
+-- the calls that a session knows: a fire-and-forget, and Close
+abbrev pub IsKnownCall : Call → Type 0
+IsKnownCall (call.Request k initial message complete) = k ≡ kind.Fnf
+IsKnownCall call.Close = Unit {0}
+IsKnownCall _ = ⊥
+
+-- a call that can be made
+pub record IsAskable (asked : Call) : Type 0 where
+  pub fits : CanBeAsked asked
+  pub known : IsKnownCall asked
 
 -- what whoever brings an event ensures: a first frame exactly on a server, frames that can be spelled, rules that there are
 abbrev pub IsFair : Settings → Event → Type 0
 IsFair g (event.Open None taken) = g.side ≡ Client
 IsFair g (event.Open (Some f) taken) = (g.side ≡ Server) × IsSpellable f
-IsFair g (event.Cut conn) = ⊥
+IsFair g (event.Cut conn) = Unit {0}
 IsFair g (event.Draw conn room) = (0 < room) × (room < 2 ^ 32)
 IsFair g (event.Came conn f) = IsSpellable f
-IsFair g (event.Bad conn number) = (0 < number) × (number ≤ 10)
+IsFair g (event.Bad conn number) = (0 < number) × (number ≤ LONG_FRAME)
 IsFair g (event.Asked asked) = IsAskable asked
 
 -- an answer that leaves an entry

@@ -1,5 +1,5 @@
 -- What an answer says of the event and of what was before it: a table by answer and event, with nothing where the two never meet.
-use Rattle.std.specs.Prelude.{◌≡◌, ◌≤◌, ℕ, ◌+◌, Bool, true, false, Option, Some, None}
+use Rattle.std.specs.Prelude.{◌≡◌, ◌≤◌, ℕ, ◌+◌, Bool, true, false, [], Option, Some, None}
 use Rattle.rs_wire.specs.Message.{size_of}
 use Rattle.rs_wire.specs.declared.words.Kind.{Kind}
 use Rattle.rs_wire.specs.declared.message.Message.{Message}
@@ -14,8 +14,8 @@ use Rattle.tape.specs.declared.answer.Answer.{Answer}
 use Rattle.tape.specs.declared.answer.Answer.TheVariants as answer
 use Rattle.session_model.specs.Life.{is_live}
 use Rattle.session_model.specs.Streams.{next_id}
-use Rattle.session_model.specs.Frames.{request_frame}
-use Rattle.session_model.specs.Answers.{Facts, broken_rule}
+use Rattle.session_model.specs.Frames.{request_frame, closing_error}
+use Rattle.session_model.specs.Answers.{Facts, broken_rule, finds_full, peer_error}
 
 -- the first frame, where there is one, is one that a server can keep
 abbrev pub SuitsFirst : Settings → Option Frame → Bool → Type 0
@@ -46,6 +46,15 @@ pub record Handling (g : Settings) (t : Facts) (conn : ℕ) (f : Frame) : Type 0
   pub free : t.closed ≡ None
   pub unbroken : broken_rule g t f ≡ None
 
+pub record Failing (t : Facts) (conn : ℕ) (f : Frame) (code : ℕ) : Type 0 where
+  pub here : is_live t.live conn ≡ true
+  pub free : t.closed ≡ None
+  pub error : peer_error f ≡ Some code
+
+pub record Closing (g : Settings) (t : Facts) : Type 0 where
+  pub free : t.closed ≡ None
+  pub fits : finds_full g t (length_of (closing_error [])) ≡ false
+
 abbrev pub Opens : Settings → Facts → ℕ → Event → Type 0
 Opens g t n (event.Open first taken) = Opening g t first taken n
 Opens g t n _ = ⊥
@@ -53,6 +62,14 @@ Opens g t n _ = ⊥
 abbrev pub Starts : Settings → Facts → ℕ → Event → Type 0
 Starts g t id (event.Asked (call.Request kind initial message complete)) = Starting g t kind initial message complete id
 Starts g t id _ = ⊥
+
+abbrev pub Closes : Settings → Facts → Event → Type 0
+Closes g t (event.Asked call.Close) = Closing g t
+Closes g t _ = ⊥
+
+abbrev pub Parts : Facts → Event → Type 0
+Parts t (event.Cut conn) = is_live t.live conn ≡ true
+Parts t _ = ⊥
 
 abbrev pub GivesBytes : Facts → ℕ → Event → Type 0
 GivesBytes t n (event.Draw conn room) = Drawing t conn room n
@@ -62,12 +79,16 @@ abbrev pub Handles : Settings → Facts → Event → Type 0
 Handles g t (event.Came conn f) = Handling g t conn f
 Handles g t _ = ⊥
 
+abbrev pub Fails : Facts → ℕ → Event → Type 0
+Fails t code (event.Came conn f) = Failing t conn f code
+Fails t code _ = ⊥
+
 -- what comes is answered so on another connection than the live one alone
 abbrev pub Strays : Facts → Event → Type 0
 Strays t (event.Came conn f) = is_live t.live conn ≡ false
 Strays t (event.Bad conn rule) = is_live t.live conn ≡ false
 Strays t (event.Draw conn room) = is_live t.live conn ≡ false
-Strays t (event.Cut conn) = Unit {0}
+Strays t (event.Cut conn) = is_live t.live conn ≡ false
 Strays t (event.Open first taken) = Unit {0}
 Strays t (event.Asked asked) = ⊥
 
@@ -95,13 +116,13 @@ FindsNothing t _ = ⊥
 abbrev pub Means : Settings → Facts → Event → Answer → Type 0
 Means g t e (answer.Opened n) = Opens g t n e
 Means g t e (answer.Started id) = Starts g t id e
-Means g t e answer.Done = ⊥
+Means g t e answer.Done = Closes g t e
 Means g t e (answer.Got delivery) = ⊥
 Means g t e (answer.GotJob job) = ⊥
 Means g t e (answer.Drawn n) = GivesBytes t n e
-Means g t e answer.Parted = ⊥
+Means g t e answer.Parted = Parts t e
 Means g t e answer.Handled = Handles g t e
-Means g t e (answer.PeerError code) = ⊥
+Means g t e (answer.PeerError code) = Fails t code e
 Means g t e (answer.Violation rule) = Lands t e
 Means g t e (answer.OutBusy n) = Lands t e
 Means g t e (answer.SetupRefused fault) = RefusesFirst t e

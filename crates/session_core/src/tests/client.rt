@@ -1,7 +1,7 @@
 //! Lists of a client. SETUP has 68 bytes, and a fire-and-forget 6 and those of its message: each 3
 //! more in the queue, for its length.
 
-use super::ends::{BEGUN, CLIENT, NOT_BEGUN, SETUP, WIDE_CLIENT, refused_as_closed};
+use super::ends::{BEGUN, CLIENT, CLOSING, NOT_BEGUN, SETUP, WIDE_CLIENT, refused_as_closed};
 use super::play::play;
 use super::step::{Step, Strange};
 use rs_wire::{Cause, Refusal, Rule};
@@ -130,7 +130,7 @@ fn a_full_queue_refuses_and_makes_wait(rt: HostRuntime) -> Result<(), Fail> {
             .handled(1, 778_092),
     )?;
     let third = Rule::BadFrame(3);
-    let at_end = BEGUN.after(5, 16_778_172).made(2, 16_778_162);
+    let at_end = BEGUN.after(6, 16_778_172 + 22).made(2, 16_778_162);
     play(
         &rt,
         alloc,
@@ -139,6 +139,7 @@ fn a_full_queue_refuses_and_makes_wait(rt: HostRuntime) -> Result<(), Fail> {
             (Step::Open, Answer::Opened(1)),
             (Step::Ask(16_000_000), Answer::Started(1)),
             (Step::Ask(778_150), Answer::Started(3)),
+            (Step::Close, Answer::Refused(Refusal::OutFull(16_778_239))),
             (Step::Bad(1, 3), Answer::OutBusy(16_778_239)),
             (Step::Draw(1, 67), Answer::Drawn(67)),
             (Step::Bad(1, 3), Answer::Violation(third)),
@@ -163,9 +164,12 @@ fn a_closed_session_refuses_for_its_first_cause(rt: HostRuntime) -> Result<(), F
             (Step::Odd(1, Strange::Cancel), Answer::Closed(third)),
             (Step::Open, Answer::Closed(third)),
             (Step::Ask(101), refused_as_closed(third)),
-            (Step::Draw(1, 99), Answer::Drawn(71)),
+            (Step::Draw(1, 99), Answer::Drawn(93)),
         ],
-        &[SETUP],
+        &[
+            SETUP,
+            b"\x00\x00\x13\x00\x00\x00\x00\x2c\x00\x00\x00\x01\x01bad-frame",
+        ],
         BEGUN.after(7, 0).closed(third),
     )?;
     let not_now = Cause::Broken(Rule::NotNow);
@@ -181,7 +185,7 @@ fn a_closed_session_refuses_for_its_first_cause(rt: HostRuntime) -> Result<(), F
             (Step::Ask(0), refused_as_closed(not_now)),
         ],
         &[],
-        BEGUN.after(4, 71).closed(not_now),
+        BEGUN.after(4, 71 + 20).closed(not_now),
     )
 }
 
@@ -189,7 +193,7 @@ fn a_closed_session_refuses_for_its_first_cause(rt: HostRuntime) -> Result<(), F
 fn frames_both_ways_are_counted(rt: HostRuntime) -> Result<(), Fail> {
     let alloc = rt.alloc();
     let third = Rule::BadFrame(3);
-    let at_end = BEGUN.after(6, 14).made(2, 12).handled(1, 6);
+    let at_end = BEGUN.after(6, 14 + 22).made(2, 12).handled(1, 6);
     play(
         &rt,
         alloc,
@@ -217,6 +221,91 @@ fn frames_both_ways_are_counted(rt: HostRuntime) -> Result<(), Fail> {
             (Step::Came(5, 0), Answer::Violation(odd)),
         ],
         &[],
-        BEGUN.after(3, 71).handled(1, 6).closed(Cause::Broken(odd)),
+        BEGUN
+            .after(3, 71 + 22)
+            .handled(1, 6)
+            .closed(Cause::Broken(odd)),
+    )
+}
+
+#[test]
+fn a_cut_closes_in_mid_frame(rt: HostRuntime) -> Result<(), Fail> {
+    play(
+        &rt,
+        rt.alloc(),
+        CLIENT,
+        &[
+            (Step::Cut(1), Answer::Stale(0)),
+            (Step::Open, Answer::Opened(1)),
+            (Step::Ask(2), Answer::Started(1)),
+            (Step::Draw(1, 76), Answer::Drawn(76)),
+            (Step::Cut(2), Answer::Stale(1)),
+            (Step::Cut(1), Answer::Parted),
+            (Step::Cut(1), Answer::Stale(0)),
+            (Step::Draw(1, 9), Answer::Stale(0)),
+            (Step::Ask(1), refused_as_closed(Cause::Cut)),
+            (Step::Open, Answer::Closed(Cause::Cut)),
+        ],
+        &[SETUP, b"\x00\x00\x08\x00\x00"],
+        BEGUN.after(10, 0).parted().made(1, 8).closed(Cause::Cut),
+    )
+}
+
+#[test]
+fn a_caller_closes_with_an_error(rt: HostRuntime) -> Result<(), Fail> {
+    let alloc = rt.alloc();
+    play(
+        &rt,
+        alloc,
+        CLIENT,
+        &[
+            (Step::Open, Answer::Opened(1)),
+            (Step::Close, Answer::Done),
+            (Step::Ask(1), refused_as_closed(Cause::Local)),
+            (Step::Close, refused_as_closed(Cause::Local)),
+            (Step::Draw(1, 99), Answer::Drawn(84)),
+            (Step::Cut(1), Answer::Parted),
+        ],
+        &[SETUP, CLOSING],
+        BEGUN.after(6, 0).parted().closed(Cause::Local),
+    )?;
+    // Without a connection nothing is sent.
+    play(
+        &rt,
+        alloc,
+        CLIENT,
+        &[
+            (Step::Close, Answer::Done),
+            (Step::Open, Answer::Closed(Cause::Local)),
+        ],
+        &[],
+        NOT_BEGUN.after(2, 0).closed(Cause::Local),
+    )
+}
+
+#[test]
+fn metadata_counts_with_its_length(rt: HostRuntime) -> Result<(), Fail> {
+    let alloc = rt.alloc();
+    play(
+        &rt,
+        alloc,
+        CLIENT,
+        &[
+            (Step::Open, Answer::Opened(1)),
+            (Step::Draw(1, 71), Answer::Drawn(71)),
+            (
+                Step::AskWith(90, 11),
+                Answer::Refused(Refusal::TooLarge(101)),
+            ),
+            (Step::AskWith(2, 6), Answer::Refused(Refusal::PositionSpent)),
+            (Step::AskWith(2, 1), Answer::Started(1)),
+            (Step::CameWith(2, 0, 0), Answer::Handled),
+            (Step::Draw(1, 99), Answer::Drawn(15)),
+        ],
+        &[
+            SETUP,
+            b"\x00\x00\x0c\x00\x00\x00\x01\x15\x00\x00\x00\x01hhh",
+        ],
+        BEGUN.after(7, 0).made(1, 12).handled(1, 9),
     )
 }

@@ -71,6 +71,10 @@ pub const SETUP: &[u8] = b"\
     \x18application/octet-stream\
     \x18application/octet-stream";
 
+/// The ERROR that closes a session, without content, after its length of 10: stream 0, type 11, code
+/// 0x101.
+pub const CLOSING: &[u8] = b"\x00\x00\x0a\x00\x00\x00\x00\x2c\x00\x00\x00\x01\x01";
+
 /// A call is refused, since the session is closed for this cause.
 pub fn refused_as_closed(cause: Cause) -> Answer {
     Answer::Refused(Refusal::Closed(cause))

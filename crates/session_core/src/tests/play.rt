@@ -56,6 +56,15 @@ impl Shown {
         }
     }
 
+    /// The same without a live connection.
+    pub fn parted(self) -> Shown {
+        Shown {
+            live: 0,
+            carrying: false,
+            ..self
+        }
+    }
+
     /// The same, closed for this cause.
     pub fn closed(self, cause: Cause) -> Shown {
         Shown {
@@ -107,7 +116,7 @@ fn session(alloc: Global, limits: Limits) -> Result<Session<Kept>, Fail> {
     }
 }
 
-// A call that can be made: a fire-and-forget without metadata.
+// A call that can be made: a fire-and-forget, or Close.
 fn is_askable(call: &Call) -> bool
     ensures { IsTrue result → IsAskable call.now }
 {
@@ -115,9 +124,10 @@ fn is_askable(call: &Call) -> bool
         Call::Request {
             kind,
             initial,
-            message,
             complete,
-        } => { *kind == Kind::Fnf && initial.is_none() && message.metadata.is_none() && !*complete }
+            ..
+        } => *kind == Kind::Fnf && initial.is_none() && !*complete,
+        Call::Close => true,
         _ => false,
     }
 }
@@ -133,7 +143,8 @@ fn is_act(settings: &Settings, event: &Event) -> bool
             first: Some(first),
             ..
         } => settings.side == Side::Server && spellable(first),
-        Event::Cut { .. } | Event::Draw { .. } => false,
+        Event::Cut { .. } => true,
+        Event::Draw { .. } => false,
         Event::Came { frame, .. } => spellable(frame),
         Event::Bad { rule, .. } => 0 < *rule && *rule <= 10,
         Event::Asked(call) => is_askable(call),

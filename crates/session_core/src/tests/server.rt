@@ -4,7 +4,9 @@
 use super::ends::{NOT_BEGUN, OPENED, SERVER, refused_as_closed};
 use super::play::play;
 use super::step::{First, Step, Strange};
-use rs_wire::{Cause, Refusal, Rule, SetupFault};
+use crate::refusal_frame;
+use rs_frame::Frame;
+use rs_wire::{Blob, Cause, Refusal, Rule, SetupFault};
 use std::alloc::Global;
 use std::process::Abort;
 use std::test::Fail;
@@ -70,8 +72,10 @@ fn a_wrong_first_frame_is_refused(rt: HostRuntime) -> Result<(), Fail> {
     Ok(())
 }
 
-// Plays a request of 8 bytes on stream 3, and a second frame that breaks a rule.
+// Plays a request of 8 bytes on stream 3, and a second frame that breaks a rule. Its ERROR waits
+// then: a length of 3, 10 bytes and the rule's word.
 fn play_broken(rt: &impl Abort, alloc: Global, second: Step, rule: Rule) -> Result<(), Fail> {
+    let waits = 13 + rule.word().len() as u64;
     let cause = Cause::Broken(rule);
     play(
         rt,
@@ -85,7 +89,7 @@ fn play_broken(rt: &impl Abort, alloc: Global, second: Step, rule: Rule) -> Resu
             (Step::Odd(2, Strange::Cancel), Answer::Stale(1)),
         ],
         &[],
-        OPENED.after(5, 0).handled(1, 8).closed(cause),
+        OPENED.after(5, waits).handled(1, 8).closed(cause),
     )
 }
 
@@ -93,20 +97,102 @@ fn play_broken(rt: &impl Abort, alloc: Global, second: Step, rule: Rule) -> Resu
 fn a_frame_breaks_the_least_rule(rt: HostRuntime) -> Result<(), Fail> {
     for (second, rule) in [
         (Step::Odd(1, Strange::Cancel), Rule::NotNow),
-        (Step::Odd(1, Strange::Unknown), Rule::NotNow),
+        (Step::Odd(1, Strange::StreamError), Rule::NotNow),
+        (Step::Odd(1, Strange::Unknown(0x1FF)), Rule::UnknownType(48)),
+        (Step::Odd(1, Strange::Extension(0)), Rule::UnknownType(63)),
         (Step::Odd(1, Strange::Setup), Rule::NotNow),
         (Step::Odd(1, Strange::Response), Rule::NotNow),
         (Step::Odd(1, Strange::Fragment), Rule::NotNow),
-        (Step::Odd(1, Strange::WithMetadata), Rule::NotNow),
         (Step::Came(4, 5), Rule::StreamId(4)),
         (Step::Came(3, 5), Rule::StreamId(3)),
         (Step::Came(1, 5), Rule::StreamId(1)),
         (Step::Came(5, 5), Rule::TooLarge(5)),
+        (Step::CameWith(5, 2, 3), Rule::TooLarge(5)),
         (Step::Came(5, 1), Rule::PositionSpent),
         (Step::Bad(1, 10), Rule::BadFrame(10)),
     ] {
         play_broken(&rt, rt.alloc(), second, rule)?;
     }
+    Ok(())
+}
+
+#[test]
+fn the_error_of_a_violation_is_drawn(rt: HostRuntime) -> Result<(), Fail> {
+    let large = Rule::TooLarge(5);
+    play(
+        &rt,
+        rt.alloc(),
+        SERVER,
+        &[
+            (Step::Opened(First::Good, false), Answer::Opened(1)),
+            (Step::Came(1, 5), Answer::Violation(large)),
+            (Step::Draw(1, 99), Answer::Drawn(22)),
+        ],
+        &[b"\x00\x00\x13\x00\x00\x00\x00\x2c\x00\x00\x00\x01\x01too-large"],
+        OPENED.after(3, 0).closed(Cause::Broken(large)),
+    )
+}
+
+#[test]
+fn a_frame_that_may_be_ignored_is_not_counted(rt: HostRuntime) -> Result<(), Fail> {
+    play(
+        &rt,
+        rt.alloc(),
+        SERVER,
+        &[
+            (Step::Opened(First::Good, false), Answer::Opened(1)),
+            (Step::Odd(1, Strange::Unknown(0x200)), Answer::Handled),
+            (Step::Odd(1, Strange::Extension(0x3FF)), Answer::Handled),
+            (Step::Came(1, 2), Answer::Handled),
+        ],
+        &[],
+        OPENED.after(4, 0).handled(1, 8),
+    )
+}
+
+#[test]
+fn an_error_of_the_connection_closes(rt: HostRuntime) -> Result<(), Fail> {
+    // 0x101 and 0x102 are of the connection; the code of a stream closes on stream 0 too.
+    for code in [0x101, 0x102, 0x201] {
+        let cause = Cause::Peer(code);
+        play(
+            &rt,
+            rt.alloc(),
+            SERVER,
+            &[
+                (Step::Opened(First::Good, false), Answer::Opened(1)),
+                (Step::Ask(0), Answer::Started(2)),
+                (Step::Error(code), Answer::PeerError(code)),
+                (Step::Error(code), Answer::Closed(cause)),
+                (Step::Close, refused_as_closed(cause)),
+                (Step::Draw(1, 4), Answer::Drawn(4)),
+                (Step::Cut(1), Answer::Parted),
+                (Step::Error(code), Answer::Stale(0)),
+            ],
+            &[b"\x00\x00\x06\x00"],
+            OPENED.after(8, 0).parted().made(1, 6).closed(cause),
+        )?;
+    }
+    Ok(())
+}
+
+#[test]
+fn a_refused_first_frame_has_its_error(rt: HostRuntime) -> Result<(), Fail> {
+    let alloc = rt.alloc();
+    for (fault, code, word) in [
+        (SetupFault::NoLease, 0x002, "no-lease"),
+        (SetupFault::TokenTaken, 0x003, "token-taken"),
+    ] {
+        let given = refusal_frame(alloc, &Answer::SetupRefused(fault))?;
+        let error = Frame::Error {
+            stream: 0,
+            code,
+            content: Blob::from_slice(alloc, word.as_bytes())?,
+        };
+        assert_eq!(rt; given, Some(error));
+    }
+    let none = refusal_frame(alloc, &Answer::Violation(Rule::NotNow))?;
+    assert!(rt; none.is_none());
     Ok(())
 }
 

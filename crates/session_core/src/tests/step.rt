@@ -21,21 +21,23 @@ pub enum First {
     Other,
 }
 
-/// A frame that no end takes yet. Those of a stream name stream 4.
+/// A frame that is no request that an end takes. Those of a stream name stream 4.
 #[derive(Clone, Copy, Debug)]
 pub enum Strange {
     /// CANCEL.
     Cancel,
-    /// A frame of type 0x30, which the standard does not have.
-    Unknown,
+    /// An ERROR on a stream.
+    StreamError,
+    /// A frame of type 0x30, which the standard does not have, with these flags.
+    Unknown(u16),
+    /// An extension, with these flags.
+    Extension(u16),
     /// A SETUP after the first frame.
     Setup,
     /// A REQUEST_RESPONSE.
     Response,
     /// A fire-and-forget of which fragments follow.
     Fragment,
-    /// A fire-and-forget with metadata.
-    WithMetadata,
 }
 
 /// An event in short. A message is given by how many bytes it has: each is 0x68.
@@ -45,28 +47,49 @@ pub enum Step {
     Open,
     /// A server is opened, by a first frame whose token is free or taken.
     Opened(First, bool),
+    /// A connection is gone.
+    Cut(u64),
     /// Up to this many bytes are drawn on a connection.
     Draw(u64, u32),
     /// Bytes that break a rule come on a connection.
     Bad(u64, u8),
-    /// A frame that no end takes yet comes on a connection.
+    /// Another frame comes on a connection.
     Odd(u64, Strange),
+    /// An ERROR of this code comes on stream 0 of connection 1.
+    Error(u32),
     /// A fire-and-forget comes on connection 1, on a stream, of this many bytes.
     Came(u32, usize),
+    /// The same with metadata of so many bytes more.
+    CameWith(u32, usize, usize),
     /// A fire-and-forget of this many bytes is asked for.
     Ask(usize),
+    /// The same with metadata of so many bytes more.
+    AskWith(usize, usize),
+    /// The session is to be closed.
+    Close,
 }
 
 fn empty(alloc: Global) -> Blob {
     Blob::from_vec(Vec::new(alloc))
 }
 
-fn message(alloc: Global, len: usize) -> Result<Message, Fail> {
+fn repeated(alloc: Global, len: usize) -> Result<Blob, Fail> {
     let mut bytes = Vec::new(alloc);
     bytes.resize(len, 0x68)?;
+    Ok(Blob::from_vec(bytes))
+}
+
+fn message(alloc: Global, len: usize) -> Result<Message, Fail> {
     Ok(Message {
         metadata: None,
-        content: Blob::from_vec(bytes),
+        content: repeated(alloc, len)?,
+    })
+}
+
+fn with_metadata(alloc: Global, len: usize, metadata: usize) -> Result<Message, Fail> {
+    Ok(Message {
+        metadata: Some(repeated(alloc, metadata)?),
+        content: repeated(alloc, len)?,
     })
 }
 
@@ -105,36 +128,43 @@ fn request(stream: u32, kind: Kind, follows: bool, message: Message) -> Frame {
     })
 }
 
-fn with_metadata(alloc: Global) -> Message {
-    Message {
-        metadata: Some(empty(alloc)),
-        content: empty(alloc),
-    }
-}
-
 fn strange_frame(alloc: Global, strange: Strange) -> Result<Frame, Fail> {
     match strange {
         Strange::Cancel => Ok(Frame::Cancel { stream: 4 }),
-        Strange::Unknown => Ok(Frame::Unknown {
+        Strange::StreamError => Ok(Frame::Error {
+            stream: 4,
+            code: 0x201,
+            content: empty(alloc),
+        }),
+        Strange::Unknown(flags) => Ok(Frame::Unknown {
             stream: 4,
             number: 0x30,
-            flags: 0,
+            flags,
+            rest: empty(alloc),
+        }),
+        Strange::Extension(flags) => Ok(Frame::Ext {
+            stream: 4,
+            flags,
+            extended: 7,
             rest: empty(alloc),
         }),
         Strange::Setup => setup(alloc, 1, None, false),
         Strange::Response => Ok(request(4, Kind::Response, false, message(alloc, 0)?)),
         Strange::Fragment => Ok(request(4, Kind::Fnf, true, message(alloc, 0)?)),
-        Strange::WithMetadata => Ok(request(4, Kind::Fnf, false, with_metadata(alloc))),
     }
 }
 
-fn call(message: Message) -> Call {
-    Call::Request {
+fn ask(message: Message) -> Event {
+    Event::Asked(Call::Request {
         kind: Kind::Fnf,
         initial: None,
         message,
         complete: false,
-    }
+    })
+}
+
+fn came(conn: u64, frame: Frame) -> Event {
+    Event::Came { conn, frame }
 }
 
 impl Step {
@@ -149,17 +179,30 @@ impl Step {
                 first: Some(first_frame(alloc, first)?),
                 taken,
             }),
+            Step::Cut(conn) => Ok(Event::Cut { conn }),
             Step::Draw(conn, room) => Ok(Event::Draw { conn, room }),
             Step::Bad(conn, rule) => Ok(Event::Bad { conn, rule }),
-            Step::Odd(conn, strange) => Ok(Event::Came {
-                conn,
-                frame: strange_frame(alloc, strange)?,
-            }),
-            Step::Came(stream, len) => Ok(Event::Came {
-                conn: 1,
-                frame: request(stream, Kind::Fnf, false, message(alloc, len)?),
-            }),
-            Step::Ask(len) => Ok(Event::Asked(call(message(alloc, len)?))),
+            Step::Odd(conn, strange) => Ok(came(conn, strange_frame(alloc, strange)?)),
+            Step::Error(code) => {
+                let content = empty(alloc);
+                let error = Frame::Error {
+                    stream: 0,
+                    code,
+                    content,
+                };
+                Ok(came(1, error))
+            }
+            Step::Came(stream, len) => {
+                let message = message(alloc, len)?;
+                Ok(came(1, request(stream, Kind::Fnf, false, message)))
+            }
+            Step::CameWith(stream, len, metadata) => {
+                let message = with_metadata(alloc, len, metadata)?;
+                Ok(came(1, request(stream, Kind::Fnf, false, message)))
+            }
+            Step::Ask(len) => Ok(ask(message(alloc, len)?)),
+            Step::AskWith(len, metadata) => Ok(ask(with_metadata(alloc, len, metadata)?)),
+            Step::Close => Ok(Event::Asked(Call::Close)),
         }
     }
 }

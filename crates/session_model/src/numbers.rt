@@ -1,0 +1,19 @@
+//! Numbers that the definitions speak of.
+
+/// The code of the ERROR that closes a session: CONNECTION_ERROR (RSocket 1.0, "Error Codes").
+pub const CONNECTION_ERROR: u32 = 0x101;
+
+/// The flag I of a frame's header, in its flags word: an end that doesn't know the frame ignores it
+/// (RSocket 1.0, "Frame Header Format").
+pub const MAY_IGNORE: u16 = 0x200;
+
+/// The type number of EXT (RSocket 1.0, "EXT (Extension) Frame").
+pub const EXTENSION: u8 = 0x3F;
+
+/// The rule that a length field above the longest frame of the settings breaks: the number after the
+/// nine rules of a frame's own bytes.
+pub const LONG_FRAME: u8 = 10;
+
+/// Bytes that stay free in the queue after a frame came, beyond the frame's own length, for what
+/// answers it: a length field of 3, and 64. The longest ERROR that names a rule has 24.
+pub const ANSWER_ROOM: u64 = 67;
