@@ -10,13 +10,17 @@ use Rattle.session_model.specs.Frames.{made, handled}
 use Rattle.session_model.specs.Legal.{Fair, Legal}
 use Rattle.session_model.specs.Joined.{Joined}
 use Rattle.cable.specs.declared.script.line.Line.{Line}
-use Rattle.cable.specs.Played.{Played, pair_of, usual_sides}
+use Rattle.cable.specs.Played.{Played, Sides, pair_of}
 use Rattle.cable.specs.Report.{report_of}
 
 -- an end with the usual settings and these entries, the newest first, over a tape that tells them where a fresh one tells; its spare
 -- is left out
 abbrev pub end_of : Side → Option (List Entry) → List Entry → Seen
 end_of side fresh entries = record { settings = usual side; entries = entries; tells = is_some fresh; spare = 0 }
+
+-- the defaults of both
+abbrev pub usual_sides : Sides
+usual_sides = record { client = usual Client; server = usual Server }
 
 -- the two ends of a run of this script, their entries the newest first: each list is a session's, the bytes of the two
 -- crossed, and what each end has handled is a prefix of what the other made

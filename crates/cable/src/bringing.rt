@@ -71,3 +71,13 @@ pub(crate) fn ask<T: Tape>(
 {
     tell(end, &asked(call.copy(alloc)?))
 }
+
+/// A connection is gone at an end.
+pub(crate) fn cut<T: Tape>(end: &mut Session<T>, conn: u64) -> Result<(), OutOfMemory>
+    ensures end { end.new ≡ record end.old { entries = end.new.entries; spare = end.new.spare } }
+    ensures noted { OnOk result (end.new.entries ≡
+        adds end.old.settings end.old.entries (Event.Cut conn)) }
+{
+    tell(end, &Event::Cut { conn })?;
+    Ok(())
+}
