@@ -5,7 +5,9 @@ use Rattle.rs_wire.specs.declared.words.Side.TheVariants.{Client, Server}
 use Rattle.tape.specs.declared.entry.Entry.{Entry}
 use Rattle.session_core.specs.Seen.{Seen, told_by}
 use Rattle.cable.specs.Report.{report_of}
-use Rattle.cable.specs.Shelves.{GotTapes, end_of}
+use Rattle.rs_wire.specs.declared.settings.Settings.{Settings}
+use Rattle.rs_wire.specs.Settings.{usual}
+use Rattle.cable.specs.Shelves.{GotTapes, end_of, usual_sides}
 
 both_back : (b b' b'' : List (Option (List Entry))) (c s : Option (List Entry)) → b' ≡ b ++ c ∷ [] → b'' ≡ b' ++ s ∷ [] → b'' ≡ b ++ c ∷ s ∷ []
 both_back b b' b'' c s p q = q ∙ ap (λ (x : List (Option (List Entry))). x ++ s ∷ []) p ∙ append_assoc b (c ∷ []) (s ∷ [])
@@ -27,6 +29,11 @@ went_on side fresh old new begun grew = grew ∙ ap (λ (s : Seen). record s { e
 pub told_of : (side : Side) (fresh : Option (List Entry)) (old new : Seen) (told : Option (List Entry)) → IsEndOf side fresh [] old → new ≡ record old { entries = new.entries; spare = new.spare } → told ≡ told_by new.tells new.entries
     → told ≡ told_by (is_some fresh) new.entries
 told_of side fresh old new told begun grew is = is ∙ ap (λ (s : Seen). told_by s.tells new.entries) (went_on side fresh old new begun grew)
+
+-- the settings of both
+pub sides_are : (fresh : Option (List Entry)) (client server : Seen) → IsEndOf Client fresh [] client → IsEndOf Server fresh [] server → record { client = client.settings; server = server.settings } ≡ usual_sides
+sides_are fresh client server c s =
+    ap (λ (g : Settings). record { client = g; server = server.settings }) (ap (λ (v : Seen). v.settings) c) ∙ ap (λ (h : Settings). record { client = usual Client; server = h }) (ap (λ (v : Seen). v.settings) s)
 
 -- the report of two ends is that of their entries
 pub report_is : (fresh : Option (List Entry)) (client server : Seen) (text : List ℕ) → IsEndOf Client fresh client.entries client → IsEndOf Server fresh server.entries server → text ≡ report_of client server

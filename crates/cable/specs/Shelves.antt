@@ -22,25 +22,25 @@ end_of side fresh entries = record { settings = usual side; entries = entries; t
 abbrev pub usual_sides : Sides
 usual_sides = record { client = usual Client; server = usual Server }
 
--- the two ends of a run of this script, their entries the newest first: each list is a session's, the bytes of the two
--- crossed, and what each end has handled is a prefix of what the other made
-pub record EndsOf (script : List Line) (client server : List Entry) : Type 0 where
-  pub played : Played usual_sides script client server
-  pub client_legal : Legal (usual Client) client
-  pub server_legal : Legal (usual Server) server
-  pub client_fair : Fair (usual Client) client
-  pub server_fair : Fair (usual Server) server
+-- the two ends of a run of this script under these settings, their entries the newest first: each list is a session's, the bytes of
+-- the two crossed, and what each end has handled is a prefix of what the other made
+pub record EndsOf (s : Sides) (script : List Line) (client server : List Entry) : Type 0 where
+  pub played : Played s script client server
+  pub client_legal : Legal s.client client
+  pub server_legal : Legal s.server server
+  pub client_fair : Fair s.client client
+  pub server_fair : Fair s.server server
   pub pairs : List ℕ
-  pub joined : Joined (usual Client) (usual Server) client server (pair_of pairs)
-  pub server_handled : IsPrefix (handled server) (made (usual Client) client)
-  pub client_handled : IsPrefix (handled client) (made (usual Server) server)
+  pub joined : Joined s.client s.server client server (pair_of pairs)
+  pub server_handled : IsPrefix (handled server) (made s.client client)
+  pub client_handled : IsPrefix (handled client) (made s.server server)
 
 -- the text is the report of a run of this script, and the shelf has got back the tapes of just this client and this
 -- server: of tapes that tell nothing there are the two lines of counts
 pub record Reports (script : List Line) (fresh : Option (List Entry)) (shelf shelf' : List (Option (List Entry))) (text : List ℕ) : Type 0 where
   pub client : List Entry
   pub server : List Entry
-  pub ends : EndsOf script client server
+  pub ends : EndsOf usual_sides script client server
   pub put_back : shelf' ≡ shelf ++ told_by (is_some fresh) client ∷ told_by (is_some fresh) server ∷ []
   pub reported : text ≡ report_of (end_of Client fresh client) (end_of Server fresh server)
 
