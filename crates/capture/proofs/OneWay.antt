@@ -1,5 +1,5 @@
 -- Bytes hold frames in one way, up to what can't be read.
-use Rattle.std.proofs.Common.{◌≡◌, ℕ, ◌^◌, ◌<◌, ◌≤◌, List, [], ◌∷◌, ◌++◌, length, map, take, drop, inl, inr, refl, sym, ap, subst, ◌∙◌, append_assoc, arith}
+use Rattle.std.proofs.Common.{◌≡◌, ℕ, ◌^◌, ◌<◌, ◌≤◌, List, [], ◌∷◌, ◌++◌, length, map, take, drop, refl, sym, ap, subst, ◌∙◌, append_assoc, arith}
 use Rattle.std.specs.List.{flat_map, AllByRecursion}
 use Rattle.std.proofs.lemmas.List.{append-nil, length-append, take_all, take_at, drop_at}
 use Rattle.std.proofs.lemmas.List.Concat.{flat_map-cons}
@@ -13,6 +13,8 @@ use Rattle.rs_chunk.proofs.Lengths.{length-canonical}
 use Rattle.rs_frame.specs.Framed.{framed, framed_all, framed_frame}
 use Rattle.rs_chunk.specs.Stream.{HasFrame, after_frame, first_frame, first_length}
 use Rattle.capture.specs.declared.TheConstants.{MOST_CAPTURE}
+use Rattle.capture.specs.declared.lines.BadFrame.{BadFrame}
+use Rattle.capture.specs.declared.lines.BadFrame.TheVariants as bads
 use Rattle.capture.specs.Captured.{AreSpelled, Holds, IsBadAt, IsCapture, IsWrong}
 
 -- no frame can be read at the front
@@ -22,9 +24,9 @@ Stops bytes = HasFrame bytes → (f : Frame) → Spells f (first_frame bytes) �
 none_stops : Stops []
 none_stops has f spells = absurd (omega (arith, has.0))
 
-wrong_stops : (bytes : List ℕ) (rule : ℕ) → IsWrong bytes rule → Stops bytes
-wrong_stops bytes rule (inl b) has f spells = absurd (cc (b.least, none_broken (first_frame bytes) (f, spells)))
-wrong_stops bytes rule (inr none) has f spells = absurd (none.1 has)
+wrong_stops : (bytes : List ℕ) (bad : BadFrame) → IsWrong bytes bad → Stops bytes
+wrong_stops bytes (bads.Breaks fault) wrong has f spells = absurd (cc (wrong.1, none_broken (first_frame bytes) (f, spells)))
+wrong_stops bytes bads.NotWhole none has f spells = absurd (none has)
 
 -- the frame in front is found again, and what follows it
 record Front (frame rest bytes : List ℕ) : Type 0 where
@@ -81,20 +83,23 @@ one_way bytes fs gs r s p q no_r no_s = agree fs gs p.spellings q.spellings r s 
 pub one : (bytes : List ℕ) (fs gs : List Frame) → IsCapture bytes fs → IsCapture bytes gs → fs ≡ gs
 one bytes fs gs p q = (one_way bytes fs gs [] [] p.holds q.holds none_stops none_stops).0
 
-pub either : (bytes : List ℕ) (place rule : ℕ) (fs gs : List Frame) → IsCapture bytes fs → IsBadAt bytes place rule gs → ⊥
-either bytes place rule fs gs p q =
+pub either : (bytes : List ℕ) (place : ℕ) (bad : BadFrame) (fs gs : List Frame) → IsCapture bytes fs → IsBadAt bytes place bad gs → ⊥
+either bytes place bad fs gs p q =
     let all : take MOST_CAPTURE bytes ≡ bytes = take_all MOST_CAPTURE bytes p.short in
     let holds : Holds bytes gs q.rest = subst (λ (t : List ℕ). Holds t gs q.rest) all q.holds in
-    let same : [] ≡ q.rest = (one_way bytes fs gs [] q.rest p.holds holds none_stops (wrong_stops q.rest rule q.wrong)).1 in
+    let same : [] ≡ q.rest = (one_way bytes fs gs [] q.rest p.holds holds none_stops (wrong_stops q.rest bad q.wrong)).1 in
     absurd (omega (arith, q.place_is, q.there, ap length same, ap length all))
 
-same_rule : (bytes : List ℕ) (r s : ℕ) → IsWrong bytes r → IsWrong bytes s → r ≡ s
-same_rule bytes r s p q = grind arith
+one_wrong : (bytes : List ℕ) (a b : BadFrame) → IsWrong bytes a → IsWrong bytes b → a ≡ b
+one_wrong bytes (bads.Breaks fault) (bads.Breaks other) p q = cc (p.1, q.1)
+one_wrong bytes (bads.Breaks fault) bads.NotWhole p q = absurd (q p.0)
+one_wrong bytes bads.NotWhole (bads.Breaks other) p q = absurd (p q.0)
+one_wrong bytes bads.NotWhole bads.NotWhole p q = refl
 
-pub one_place : (bytes : List ℕ) (p q r s : ℕ) (fs gs : List Frame) → IsBadAt bytes p r fs → IsBadAt bytes q s gs → (p ≡ q) × (r ≡ s) × (fs ≡ gs)
+pub one_place : (bytes : List ℕ) (p q : ℕ) (r s : BadFrame) (fs gs : List Frame) → IsBadAt bytes p r fs → IsBadAt bytes q s gs → (p ≡ q) × (r ≡ s) × (fs ≡ gs)
 one_place bytes p q r s fs gs a b =
     let same = one_way (take MOST_CAPTURE bytes) fs gs a.rest b.rest a.holds b.holds (wrong_stops a.rest r a.wrong) (wrong_stops b.rest s b.wrong) in
-    (omega (arith, a.place_is, b.place_is, ap length same.1), same_rule b.rest r s (subst (λ (t : List ℕ). IsWrong t r) same.1 a.wrong) b.wrong, same.0)
+    (omega (arith, a.place_is, b.place_is, ap length same.1), one_wrong b.rest r s (subst (λ (t : List ℕ). IsWrong t r) same.1 a.wrong) b.wrong, same.0)
 
 canonical_frames : (frames : List Frame) → framed_all frames ≡ flat_map framed (map canonical frames)
 canonical_frames [] = refl

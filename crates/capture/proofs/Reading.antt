@@ -1,15 +1,14 @@
 -- How far a capture was read, and the lines that were written.
-use Rattle.std.proofs.Common.{◌≡◌, ℕ, ◌+◌, ◌<◌, ◌≤◌, List, [], ◌∷◌, ◌++◌, length, take, drop, Some, inl, inr, refl, sym, ap, subst, ◌∙◌, arith}
-use Rattle.std.proofs.lemmas.Grind.{common_steps}
+use Rattle.std.proofs.Common.{◌≡◌, ℕ, ◌+◌, ◌<◌, ◌≤◌, List, [], ◌∷◌, ◌++◌, length, take, drop, refl, sym, ap, subst, ◌∙◌, arith}
 use Rattle.std.proofs.lemmas.List.{append-nil, flat_map_more, length-drop, length-take, take_all}
 use Rattle.rs_frame.specs.declared.frame.Frame.{Frame}
-use Rattle.rs_frame.specs.declared.fault.FrameFault.{FrameFault}
-use Rattle.rs_frame.specs.Rules.{IsLeastBroken, broken, number_of_rule}
 use Rattle.rs_frame.specs.Spelling.{Spells}
-use Rattle.rs_chunk.specs.Stream.{HasFrame, IsCut, after_frame, first_frame, first_length}
+use Rattle.rs_chunk.specs.Stream.{HasFrame, IsCut, after_frame, first_length}
 use Rattle.frame_text.specs.Lines.{line_of}
 use Rattle.plain_text.specs.Lines.{ended}
 use Rattle.capture.specs.declared.TheConstants.{MOST_CAPTURE}
+use Rattle.capture.specs.declared.lines.BadFrame.{BadFrame}
+use Rattle.capture.specs.declared.lines.BadFrame.TheVariants as bads
 use Rattle.capture.specs.Captured.{AreSpelled, Holds, IsBadAt, IsWrong, WroteLines, all_lines}
 
 spelled_snoc : (fs : List Frame) (bs : List (List ℕ)) (f : Frame) (b : List ℕ) → AreSpelled fs bs → Spells f b → AreSpelled (fs ++ f ∷ []) (bs ++ b ∷ [])
@@ -41,17 +40,9 @@ one_more all old out new rest frame after f w passes spells wrote =
       lines = wrote ∙ ap (λ (t : List ℕ). t ++ ended (line_of f)) w.lines ∙ flat_map_more (λ (g : Frame). ended (line_of g)) old w.frames f;
     }
 
-least : (fault : FrameFault) (bytes : List ℕ) (rule : ℕ) → IsLeastBroken fault bytes → number_of_rule fault ≡ Some rule → broken bytes ≡ Some fault
-least fault bytes rule is number = grind (arith, common_steps)
-
--- the frame at the front breaks a rule
-pub breaks : (bytes frame : List ℕ) (fault : FrameFault) (rule : ℕ) → HasFrame bytes → frame ≡ first_frame bytes → IsLeastBroken fault frame → number_of_rule fault ≡ Some rule → IsWrong bytes rule
-breaks bytes frame fault rule has same is number =
-    inl (record { whole = has; fault = fault; least = subst (λ (t : List ℕ). broken t ≡ Some fault) same (least fault frame rule is number); number_is = number })
-
--- the frame behind those that were read is wrong
-pub bad_at : (bytes rest old new : List ℕ) (place rule : ℕ) → length bytes ≤ MOST_CAPTURE → WroteLines bytes rest old new → place + length rest ≡ length bytes → 0 < length rest → IsWrong rest rule → (before : List Frame) × IsBadAt bytes place rule before × (new ≡ old ++ all_lines before)
-bad_at bytes rest old new place rule short w place_is some wrong =
+-- the frame after those that were read is wrong
+pub bad_at : (bytes rest old new : List ℕ) (place : ℕ) (bad : BadFrame) → length bytes ≤ MOST_CAPTURE → WroteLines bytes rest old new → place + length rest ≡ length bytes → 0 < length rest → IsWrong rest bad → (before : List Frame) × IsBadAt bytes place bad before × (new ≡ old ++ all_lines before)
+bad_at bytes rest old new place bad short w place_is some wrong =
     let all : bytes ≡ take MOST_CAPTURE bytes = sym (take_all MOST_CAPTURE bytes short) in (
       w.frames,
       record {
@@ -65,28 +56,28 @@ bad_at bytes rest old new place rule short w place_is some wrong =
     )
 
 -- what is found within the limit
-pub within : (bytes : List ℕ) (place rule : ℕ) (before : List Frame) → IsBadAt (take MOST_CAPTURE bytes) place rule before → IsBadAt bytes place rule before
-within bytes place rule before bad =
+pub within : (bytes : List ℕ) (place : ℕ) (bad : BadFrame) (before : List Frame) → IsBadAt (take MOST_CAPTURE bytes) place bad before → IsBadAt bytes place bad before
+within bytes place bad before found =
     let short : length (take MOST_CAPTURE bytes) ≤ MOST_CAPTURE = omega (arith, length-take MOST_CAPTURE bytes) in
     let same : take MOST_CAPTURE (take MOST_CAPTURE bytes) ≡ take MOST_CAPTURE bytes = take_all MOST_CAPTURE (take MOST_CAPTURE bytes) short in
     record {
-      rest = bad.rest;
-      holds = subst (λ (t : List ℕ). Holds t before bad.rest) same bad.holds;
-      place_is = bad.place_is ∙ ap length same;
-      there = omega (arith, bad.there, length-take MOST_CAPTURE bytes);
-      wrong = bad.wrong;
+      rest = found.rest;
+      holds = subst (λ (t : List ℕ). Holds t before found.rest) same found.holds;
+      place_is = found.place_is ∙ ap length same;
+      there = omega (arith, found.there, length-take MOST_CAPTURE bytes);
+      wrong = found.wrong;
     }
 
--- the bytes pass the limit behind a frame
-pub passes_limit : (bytes old new : List ℕ) (place rule : ℕ) → MOST_CAPTURE < length bytes → place ≡ MOST_CAPTURE → rule ≡ 0 → WroteLines (take MOST_CAPTURE bytes) [] old new → (before : List Frame) × IsBadAt bytes place rule before × (new ≡ old ++ all_lines before)
-passes_limit bytes old new place rule long at none w = (
+-- the bytes pass the limit after a frame
+pub passes_limit : (bytes old new : List ℕ) (place : ℕ) (bad : BadFrame) → MOST_CAPTURE < length bytes → place ≡ MOST_CAPTURE → bad ≡ bads.NotWhole → WroteLines (take MOST_CAPTURE bytes) [] old new → (before : List Frame) × IsBadAt bytes place bad before × (new ≡ old ++ all_lines before)
+passes_limit bytes old new place bad long at none w = (
   w.frames,
   record {
     rest = [];
     holds = w.holds;
     place_is = omega (arith, length-take MOST_CAPTURE bytes);
     there = omega arith;
-    wrong = inr (none, λ has. absurd (omega (arith, has.0)));
+    wrong = subst (IsWrong []) (sym none) (λ has. absurd (omega (arith, has.0)));
   },
   w.lines,
 )

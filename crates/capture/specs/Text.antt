@@ -42,7 +42,7 @@ pub record WroteFrames (text old new : List ℕ) : Type 0 where
   pub is_text : IsTextOf text frames
   pub appended : new ≡ old ++ framed_all frames
 
--- where each fault of a text comes: the first wrong line is told; out of memory says nothing of the text
+-- where each fault of a text comes: the first wrong line is named; out of memory says nothing of the text
 abbrev pub IsLineFault : List ℕ → LineFault → Type 0
 IsLineFault text (faults.Line number) = (before : List Frame) × IsWrongLine text number before
 IsLineFault text faults.OutOfMemory = Unit {0}
@@ -56,7 +56,7 @@ pub record WroteFrame (line old new : List ℕ) : Type 0 where
   pub line_is : line ≡ line_of frame
   pub appended : new ≡ old ++ framed_frame frame
 
--- what is told of a line of this number that was not read
+-- the fault of a line of this number that was not read
 abbrev pub line_fault : TextFault → ℕ → LineFault
 line_fault texts.OutOfMemory number = faults.OutOfMemory
 line_fault _ number = faults.Line number

@@ -94,7 +94,7 @@ fn frame_of(alloc: Global, line: &[u8], number: u32) -> Result<Frame, LineFault>
     }
 }
 
-// What is told of the line of this number, where it was not read.
+// The fault of the line of this number, where it was not read.
 fn line_fault(fault: TextFault, number: u32) -> LineFault
     ensures { result ≡ line_fault fault number }
 {

@@ -7,6 +7,7 @@ ghost use Rattle.rs_frame.specs.Spelling.{IsSpellable};
 ghost use Rattle.rs_frame.specs.Framed.{framed_all};
 ghost use Rattle.capture.specs.declared.TheConstants.{MOST_CAPTURE};
 ghost use Rattle.capture.specs.Captured.{IsBadAt, IsCapture};
+ghost use Rattle.capture.specs.declared.lines.BadFrame.{BadFrame};
 
 /// What holds of all bytes. The call does nothing; its clauses are the laws.
 pub fn capture_laws()
@@ -14,12 +15,12 @@ pub fn capture_laws()
     ensures one { (bytes : List ℕ) (fs gs : List Frame) → IsCapture bytes fs →
         IsCapture bytes gs → fs ≡ gs }
     // A capture has no frame that can't be read.
-    ensures either { (bytes : List ℕ) (place rule : ℕ) (fs gs : List Frame) →
-        IsCapture bytes fs → IsBadAt bytes place rule gs → ⊥ }
-    // The first frame that can't be read stands at one place and breaks one least rule, after one
-    // list of frames.
-    ensures one_place { (bytes : List ℕ) (p q r s : ℕ) (fs gs : List Frame) →
-        IsBadAt bytes p r fs → IsBadAt bytes q s gs → (p ≡ q) × (r ≡ s) × (fs ≡ gs) }
+    ensures either { (bytes : List ℕ) (place : ℕ) (bad : BadFrame) (fs gs : List Frame) →
+        IsCapture bytes fs → IsBadAt bytes place bad gs → ⊥ }
+    // The first frame that can't be read stands at one place, after one list of frames, and one
+    // thing is wrong with it.
+    ensures one_place { (bytes : List ℕ) (p q : ℕ) (a b : BadFrame) (fs gs : List Frame) →
+        IsBadAt bytes p a fs → IsBadAt bytes q b gs → (p ≡ q) × (a ≡ b) × (fs ≡ gs) }
     // The canonical bytes of frames, each after its length, are a capture of them.
     ensures framed { (frames : List Frame) →
         AllByRecursion IsSpellable frames → length (framed_all frames) ≤ MOST_CAPTURE →

@@ -1,32 +1,43 @@
 //! From bytes to lines.
 
-ghost use Rattle.std.specs.Prelude.{◌≡◌, ◌++◌, ◌≤◌, ◌<◌, ◌^◌, ℕ, List, [], ◌∷◌, length, None, OnErr, OnOk, IfOk, IfSome, IfErr};
+ghost use Rattle.std.specs.Prelude.{◌≡◌, ◌++◌, ◌≤◌, ◌<◌, ◌^◌, ℕ, List, [], length, OnErr, OnOk, IfOk, IfErr};
 ghost use Rattle.rs_frame.specs.Rules.{IsLeastBroken};
 ghost use Rattle.rs_frame.specs.Spelling.{IsSpellable, Spells};
 ghost use Rattle.rs_frame.specs.declared.frame.Frame.{Frame};
 ghost use Rattle.frame_text.specs.Lines.{line_of};
 ghost use Rattle.plain_text.specs.Lines.{ended};
 ghost use Rattle.capture.specs.Captured.{IsBadAt, IsCapture, IsWrong, WroteLines, all_lines};
+ghost use Rattle.capture.specs.declared.lines.BadFrame.{BadFrame};
 ghost use Rattle.capture.specs.declared.lines.CaptureFault.TheVariants as faults;
 
 use crate::MOST_CAPTURE;
 use rs_chunk::split_frame;
-use rs_frame::{Frame, FrameFault, decode, rule_number};
+use rs_frame::{Frame, FrameFault, decode};
 use rs_wire::OutOfMemory;
 use std::alloc::Global;
 use thiserror::Error;
+
+/// What is wrong with a frame of a capture that can't be read.
+#[derive(Clone, Copy, Debug, PartialEq, Eq, Error)]
+pub enum BadFrame {
+    /// It is whole, and this is the least rule that it breaks. It is never out of memory.
+    #[error("{0}")]
+    Breaks(FrameFault),
+    /// The bytes end, or pass [`MOST_CAPTURE`], within it.
+    #[error("the capture ends within it")]
+    NotWhole,
+}
 
 /// Why a capture was not read to its end.
 #[derive(Clone, Copy, Debug, PartialEq, Eq, Error)]
 pub enum CaptureFault {
     /// The first frame that can't be read.
-    #[error("the frame at byte {place} cannot be read, by rule {rule}")]
+    #[error("the frame at byte {place} cannot be read: {bad}")]
     Frame {
         /// Where its length field begins, in bytes from 0.
         place: u32,
-        /// The least of the nine rules that it breaks (`rs_frame::FrameFault`), or 0 where the bytes
-        /// end, or pass 67,108,864, within the frame.
-        rule: u8,
+        /// What is wrong with it.
+        bad: BadFrame,
     },
     /// There was not enough memory. The frames that follow were not looked at.
     #[error("out of memory")]
@@ -47,17 +58,17 @@ impl From<OutOfMemory> for CaptureFault {
 pub fn to_lines(alloc: Global, bytes: &[u8], out: &mut Vec<u8>) -> Result<(), CaptureFault>
     ensures whole { OnOk result ((frames : List Frame) × IsCapture bytes.now frames ×
         (out.new.items ≡ out.old.items ++ all_lines frames)) }
-    ensures frame { (place rule : ℕ) → result ≡ Err (faults.Frame place rule) →
-        (before : List Frame) × IsBadAt bytes.now place rule before ×
+    ensures frame { (place : ℕ) (bad : BadFrame) → result ≡ Err (faults.Frame place bad) →
+        (before : List Frame) × IsBadAt bytes.now place bad before ×
         (out.new.items ≡ out.old.items ++ all_lines before) }
-    ensures want { result ≡ Err faults.OutOfMemory → out.new.items ≡ out.old.items }
+    ensures memory { result ≡ Err faults.OutOfMemory → out.new.items ≡ out.old.items }
 {
     let start = out.len();
     let done = write_lines(alloc, &bytes[..MOST_CAPTURE.min(bytes.len())], out);
     match done {
         Ok(()) if bytes.len() > MOST_CAPTURE => Err(CaptureFault::Frame {
             place: MOST_CAPTURE as u32,
-            rule: 0,
+            bad: BadFrame::NotWhole,
         }),
         Err(CaptureFault::OutOfMemory) => {
             out.truncate(start);
@@ -72,10 +83,10 @@ pub fn to_lines(alloc: Global, bytes: &[u8], out: &mut Vec<u8>) -> Result<(), Ca
 fn write_lines(alloc: Global, bytes: &[u8], out: &mut Vec<u8>) -> Result<(), CaptureFault>
     requires { length bytes.now ≤ MOST_CAPTURE }
     ensures whole { OnOk result (WroteLines bytes.now [] out.old.items out.new.items) }
-    ensures frame { (place rule : ℕ) → result ≡ Err (faults.Frame place rule) →
-        (before : List Frame) × IsBadAt bytes.now place rule before ×
+    ensures frame { (place : ℕ) (bad : BadFrame) → result ≡ Err (faults.Frame place bad) →
+        (before : List Frame) × IsBadAt bytes.now place bad before ×
         (out.new.items ≡ out.old.items ++ all_lines before) }
-    ensures want { OnErr result ((more : List ℕ) × (out.new.items ≡ out.old.items ++ more)) }
+    ensures memory { OnErr result ((more : List ℕ) × (out.new.items ≡ out.old.items ++ more)) }
 {
     let mut rest = bytes;
     while !rest.is_empty() {
@@ -96,19 +107,21 @@ fn write_first<'a>(
     ensures wrote { IfOk result (λ after. (all old : List ℕ) →
         WroteLines all bytes.now old out.old.items → WroteLines all after.now old out.new.items) }
     ensures shorter { IfOk result (λ after. length after.now < length bytes.now) }
-    ensures frame { (at rule : ℕ) → result ≡ Err (faults.Frame at rule) →
-        (at ≡ place) × IsWrong bytes.now rule }
+    ensures frame { (at : ℕ) (bad : BadFrame) → result ≡ Err (faults.Frame at bad) →
+        (at ≡ place) × IsWrong bytes.now bad }
     ensures err { OnErr result (out.new.items ≡ out.old.items) }
 {
     let Some((frame, after)) = split_frame(bytes) else {
-        return Err(CaptureFault::Frame { place, rule: 0 });
+        let bad = BadFrame::NotWhole;
+        return Err(CaptureFault::Frame { place, bad });
     };
     match write_line(alloc, frame, out) {
         Ok(()) => Ok(after),
-        Err(fault) => match rule_number(fault) {
-            Some(rule) => Err(CaptureFault::Frame { place, rule }),
-            None => Err(CaptureFault::OutOfMemory),
-        },
+        Err(FrameFault::OutOfMemory) => Err(CaptureFault::OutOfMemory),
+        Err(fault) => {
+            let bad = BadFrame::Breaks(fault);
+            Err(CaptureFault::Frame { place, bad })
+        }
     }
 }
 

@@ -23,8 +23,10 @@ fn command<'a>(alloc: Global) -> Result<Command<'a>, AllocError>
 /// Reads the words of `frames`, the first of which is its name. Whether they have the flag `--back`.
 pub fn frames<'a>(alloc: Global, words: &'a [&'a str]) -> Result<bool, WordsFault>
     ensures taken { OnOk result (fault_of frames_app (map (λ w. w.now) words.entry.now) ≡ []) }
-    ensures back { IfOk result (λ back. is_set (codes "back") (matches_of frames_app (map (λ w. w.now) words.entry.now)) ≡ back) }
-    ensures usage { result ≡ Err WordsFault.Usage → ¬ (fault_of frames_app (map (λ w. w.now) words.entry.now) ≡ []) }
+    ensures back { IfOk result (λ back.
+        is_set (codes "back") (matches_of frames_app (map (λ w. w.now) words.entry.now)) ≡ back) }
+    ensures usage { result ≡ Err WordsFault.Usage →
+        ¬ (fault_of frames_app (map (λ w. w.now) words.entry.now) ≡ []) }
 {
     let matches = parse(command(alloc)?, words)?;
     Ok(matches.get_flag("back"))

@@ -10,7 +10,10 @@ pub fn words_laws()
     // Words ask for at most one task.
     ensures one { (words : List (List ℕ)) (a b : Task) → Asks words a → Asks words b → a ≡ b }
     // Each task's words, written out.
-    ensures cable { (words : List (List ℕ)) → Asks words Cable ↔ AreJust words (codes "cable" ∷ []) }
-    ensures frames { (words : List (List ℕ)) → Asks words (Frames false) ↔ AreJust words (codes "frames" ∷ []) }
-    ensures frames_back { (words : List (List ℕ)) → Asks words (Frames true) ↔ AreJust words (codes "frames" ∷ codes "--back" ∷ []) }
+    ensures cable { (words : List (List ℕ)) → Asks words Cable ↔
+        AreJust words (codes "cable" ∷ []) }
+    ensures frames { (words : List (List ℕ)) → Asks words (Frames false) ↔
+        AreJust words (codes "frames" ∷ []) }
+    ensures frames_back { (words : List (List ℕ)) → Asks words (Frames true) ↔
+        AreJust words (codes "frames" ∷ codes "--back" ∷ []) }
 {}

@@ -12,8 +12,10 @@ use clap::{ArgMatches, Command};
 pub fn parse<'a>(command: Command<'a>, words: &'a [&'a str]) -> Result<ArgMatches<'a>, WordsFault>
     requires { is_simple_and_free (app_of command) ≡ true }
     ensures taken { OnOk result (fault_of (app_of command.entry) (map (λ w. w.now) words.entry.now) ≡ []) }
-    ensures matches { IfOk result (λ m. rows_of (found_of m) ≡ matches_of (app_of command.entry) (map (λ w. w.now) words.entry.now)) }
-    ensures usage { result ≡ Err WordsFault.Usage → ¬ (fault_of (app_of command.entry) (map (λ w. w.now) words.entry.now) ≡ []) }
+    ensures matches { IfOk result (λ m. rows_of (found_of m) ≡
+        matches_of (app_of command.entry) (map (λ w. w.now) words.entry.now)) }
+    ensures usage { result ≡ Err WordsFault.Usage →
+        ¬ (fault_of (app_of command.entry) (map (λ w. w.now) words.entry.now) ≡ []) }
 {
     match command.try_get_matches_from(words) {
         Ok(matches) => Ok(matches),

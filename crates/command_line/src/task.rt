@@ -28,7 +28,8 @@ pub enum Task {
 fn read_texts<'a>(alloc: Global, words: &'a [&'a str]) -> Result<Task, WordsFault>
     requires { All IsUtf8 (map (λ w. w.now) words.now) }
     ensures asked { IfOk result (Asks (map (λ w. w.now) words.entry.now)) }
-    ensures usage { result ≡ Err WordsFault.Usage → (task : Task) → ¬ (Asks (map (λ w. w.now) words.entry.now) task) }
+    ensures usage { result ≡ Err WordsFault.Usage → (task : Task) →
+        ¬ (Asks (map (λ w. w.now) words.entry.now) task) }
 {
     match words.first() {
         Some(&"cable") => {

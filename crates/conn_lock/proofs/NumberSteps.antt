@@ -172,7 +172,7 @@ module _ {S E : Type 0} (list_of : S → List E) (IsThere : S → Type 0) (numbe
         place = kept_place list_of IsThere number k.list s.homes first other w spent there out_w (kept_place list_of IsThere number k.list s.homes s.views id v b at out k.place);
       }
     where
-      -- both begin the longer, which begins the list
+      -- both are prefixes of the longer, which is a prefix of the list
       two : (list x y : List E) → IsPrefix x list → IsPrefix y list → (t : Bool) → nat_lt (length x) (length y) ≡ t
           → IsPrefix (cond t y x) list × IsPrefix x (cond t y x) × IsPrefix y (cond t y x) × IsPrefix (cond t x y) (cond t y x)
       two list x y p q true e = let h = begins_longer x y list p q (let l : length x < length y = grind (arith, nat_tests) in omega arith) in (q, h, ([], append-nil y), h)

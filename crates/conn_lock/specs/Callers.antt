@@ -1,7 +1,8 @@
 -- What a caller knows of a lock, and how the lists that it sees follow one another.
-use Rattle.std.specs.Prelude.{◌≡◌, ℕ, ◌+◌, ◌<◌, ◌/◌, ◌==◌, List, [], ◌∷◌, ◌++◌, length, Option, cond, nat_lt, max}
+use Rattle.std.specs.Prelude.{◌≡◌, ℕ, ◌+◌, ◌<◌, ◌/◌, ◌^◌, ◌==◌, List, [], ◌∷◌, ◌++◌, length, Option, cond, nat_lt, max}
 use mathlib.Core.List.{IsPrefix}
 use Rattle.atomic_table.specs.Seated.{TableId}
+use Rattle.conn_lock.specs.declared.numbers.TheConstants.{MOST_NUMBERS, SHARE}
 
 -- which lock it is: no two locks share it
 abbrev pub LockId : Type 0
@@ -9,11 +10,11 @@ LockId = TableId
 
 -- the parts of all seats of a lock, 2 ^ 62 in sum
 abbrev pub all_parts : ℕ
-all_parts = 4611686018427387904
+all_parts = 2 ^ 62
 
 -- how many numbers a lock gives out, from 0 on
 abbrev pub most_numbers : ℕ
-most_numbers = 4294967295
+most_numbers = MOST_NUMBERS
 
 -- what a seat's caller knows
 pub record Known (E : Type 0) : Type 0 where
@@ -63,13 +64,13 @@ module _ {E : Type 0} (number : E → ℕ) where
   abbrev pub Adds : ℕ → List E → List E → Type 0
   Adds x old new = (own : List E) × (new ≡ old ++ own) × (calls x own ≡ length own)
 
-  -- a caller fits the list: its front begins it, and no later entry carries one of its names
+  -- a caller fits the list: its front is a prefix of it, and no later entry carries one of its names
   abbrev pub Fits : List E → List ℕ → List E → Type 0
   Fits list names front = IsPrefix front list × ((x : ℕ) → 0 < times x names → calls x list ≡ calls x front)
 
--- what a new seat gets of so many parts: a 65,536th, rounded down, but at least one
+-- what a new seat gets of p parts: one in `SHARE`, rounded down, but at least one
 abbrev pub share : ℕ → ℕ
-share p = max 1 (p / 65536)
+share p = max 1 (p / SHARE)
 
 module _ {E : Type 0} where
   -- the longer and the shorter of two lists

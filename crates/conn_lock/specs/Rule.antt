@@ -4,7 +4,7 @@
 -- slot holds the value. A view is what a seat knows (src/view.rt). Each seat has one, and so has each
 -- seat that was dropped, or that was joined into another and is spent.
 --
--- `list_of` gives the list that the slot's value stands for, `IsThere` says that there is one, and
+-- `list_of` gives the list that the slot's value represents, `IsThere` says that there is one, and
 -- `number` is the number that an entry carries.
 use Rattle.std.specs.Prelude.{◌≡◌, ◌≢◌, ℕ, ◌+◌, ◌-◌, ◌<◌, ◌≤◌, List, [], ◌∷◌, ◌++◌, true, false, cond, nat_lt, max, ◌⊎◌, None, Some}
 use Rattle.std.specs.Prelude as std
@@ -24,7 +24,7 @@ abbrev pub total : {A : Type 0} → (A → ℕ) → List A → ℕ
 total f [] = 0
 total f (v ∷ vs) = f v + total f vs
 
--- what holds of each view, for the list that the value stands for
+-- what holds of each view, for the list that the value represents
 pub record IsSound {S E : Type 0} (number : E → ℕ) (list : List E) (serving drawn : ℕ) (homes : List (Option S)) (v : View E) : Type 0 where
   pub fits : Fits number list v.names v.front
   -- a spent view has no part, and nothing else
@@ -35,7 +35,7 @@ pub record IsSound {S E : Type 0} (number : E → ℕ) (list : List E) (serving 
   pub noted : (n : ℕ) → v.note ≡ Some n → n ≤ serving
   pub begun : IsPrefix v.shorter v.front
 
--- the value is at home and stands for the list, or a seat in its turn has it
+-- the value is at home and represents the list, or a seat in its turn has it
 abbrev pub IsPlaced : {S E : Type 0} → (S → List E) → (S → Type 0) → List E → List (Option S) → List (View E) → Type 0
 IsPlaced {S} {E} list_of IsThere list homes views =
     ((x : S) × (homes ≡ some x ∷ []) × (list_of x ≡ list) × IsThere x)

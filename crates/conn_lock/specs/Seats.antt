@@ -1,5 +1,5 @@
 -- What the fields of a seat and of a turn have to do with what they know.
-use Rattle.std.specs.Prelude.{◌≡◌, ℕ, ◌<◌, ◌≤◌, [], ◌∷◌, true, false, Option, None}
+use Rattle.std.specs.Prelude.{◌≡◌, ℕ, ◌<◌, ◌≤◌, ◌-◌, ◌^◌, [], ◌∷◌, true, false, Option, None}
 use Rattle.atomic_table.specs.Table.{Me}
 use Rattle.conn_lock.specs.declared.view.View.{View}
 use Rattle.conn_lock.specs.Callers.{Known, LockId, all_parts, times}
@@ -24,7 +24,7 @@ pub record IsServed {S E : Type 0} (number parts ticket : ℕ) (me : Me (Option 
   pub ticket_is : me.0.tickets ≡ ticket ∷ []
   pub turn_is : me.0.turn ≡ true
   pub no_note : me.0.note ≡ None
-  pub not_last : ticket < 18446744073709551615
+  pub not_last : ticket < 2 ^ 64 - 1
   pub named : 0 < times number me.0.names
   pub parts_are : parts ≡ me.0.parts
   pub some_part : 0 < parts

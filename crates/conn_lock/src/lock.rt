@@ -43,7 +43,8 @@ impl<S: Stands> Model for Lock<S> {
 
     ghost view = { λ l. l.table.shared.table_id };
 
-    ghost invariant = { λ l. (l.table.shared.table_id.words ≡ 3) × (l.table.shared.table_id.slots ≡ 1) };
+    ghost invariant = { λ l.
+        (l.table.shared.table_id.words ≡ 3) × (l.table.shared.table_id.slots ≡ 1) };
 }
 
 impl<S: Stands> Lock<S> {
@@ -95,7 +96,7 @@ impl<S: Stands> Lock<S> {
 
     /// The value, whose list is the seat's front, exactly where the seat has all 2^62 parts. So a
     /// program that has joined every seat that it split off can close. Where the seat has fewer, the
-    /// lock and the seat come back as they were. Takes no memory.
+    /// lock and the seat come back as they were.
     pub fn close(self, seat: Seat<S>) -> Result<S, (Lock<S>, Seat<S>)>
         requires { seat.lock ≡ self }
         ensures closed { IfOk result (λ v. seat.parts ≡ all_parts) }

@@ -15,7 +15,11 @@ use thiserror::Error;
 /// How many numbers a lock gives out, from 0 on.
 const MOST_NUMBERS: u64 = 4_294_967_295;
 
-/// Why no seat was split off. A split takes no memory, so want of it is no cause.
+/// A new seat gets one in this many of the parts of the seat that it is split off. So the first seat
+/// can be split some two million times.
+const SHARE: u64 = 65_536;
+
+/// Why no seat was split off. A split allocates nothing, so it can't run out of memory.
 #[derive(Clone, Copy, Debug, PartialEq, Eq, Error)]
 pub enum SplitFault {
     /// The seat has one part.
@@ -29,7 +33,7 @@ pub enum SplitFault {
 impl<S: Stands> Lock<S> {
     /// The seat, and a new one with a number that was never drawn before, the same front, and a
     /// 65,536th of the parts, rounded down, but at least one. It may wait, since other seats draw
-    /// numbers too. Takes no memory.
+    /// numbers too.
     ///
     /// It is refused with [`PartsGone`](SplitFault::PartsGone) exactly where the seat has one part,
     /// and else with [`NamesGone`](SplitFault::NamesGone) exactly where 4,294,967,295 numbers were
@@ -88,7 +92,7 @@ impl<S: Stands> Lock<S> {
             )),
             Some(drawn) => {
                 let other = self.cut(&mut token, drawn);
-                let given = (parts / 65_536).max(1);
+                let given = (parts / SHARE).max(1);
                 Ok((
                     Seat {
                         token,
@@ -106,8 +110,8 @@ impl<S: Stands> Lock<S> {
     }
 
     /// The first seat goes on, with the names and parts of both, the longer front, and the greater
-    /// count of numbers found. Both fronts begin the longer one, and the two seats have no name in
-    /// common. Takes no memory.
+    /// count of numbers found. Both fronts are prefixes of the longer one, and the two seats have no
+    /// name in common.
     pub fn join(&self, seat: Seat<S>, other: Seat<S>) -> Seat<S>
         requires first { seat.lock ≡ self.now }
         requires second { other.lock ≡ self.now }
@@ -152,7 +156,8 @@ impl<S: Stands> Lock<S> {
         ensures unused { IfSome result (λ n. calls S.number n token.old.me.0.front ≡ 0) }
         ensures name { IfSome result (λ n. token.new.me
             ≡ (record token.old.me.0 { names = n ∷ token.old.me.0.names; found = n + 1 }, [])) }
-        ensures gone { IfNone result (token.new.me ≡ (record token.old.me.0 { found = most_numbers }, [])) }
+        ensures gone { IfNone result (token.new.me ≡
+            (record token.old.me.0 { found = most_numbers }, [])) }
         ensures found { IfNone result (token.old.me.0.found ≤ most_numbers) }
     {
         let mut seen = self.table.shared.load::<Count>(token, NAMES);
@@ -178,7 +183,8 @@ impl<S: Stands> Lock<S> {
         requires named { (names : List ℕ) × (token.old.me.0.names ≡ _number ∷ names) }
         requires idle { (token.old.me.0.tickets ≡ []) × (token.old.me.0.turn ≡ false)
             × (1 < token.old.me.0.parts) }
-        ensures same { (token.new.table_id ≡ token.old.table_id) × (result.table_id ≡ token.old.table_id) }
+        ensures same { (token.new.table_id ≡ token.old.table_id) ×
+            (result.table_id ≡ token.old.table_id) }
         ensures left { token.new.me ≡ (left token.old.me.0, token.old.me.1) }
         ensures right { result.me ≡ (right token.old.me.0, []) }
     {

@@ -43,7 +43,7 @@ impl<S: Stands> Model for Seat<S> {
 }
 
 impl<S: Stands> Seat<S> {
-    /// The number that the caller's entries carry. Takes no memory.
+    /// The number that the caller's entries carry.
     pub fn number(&self) -> u32
         ensures value { result ≡ self.now.number }
         ensures named { 0 < times result self.now.names }
@@ -51,7 +51,7 @@ impl<S: Stands> Seat<S> {
         self.number
     }
 
-    /// How many of the 2^62 parts of the lock the seat has, at least 1. Takes no memory.
+    /// How many of the 2^62 parts of the lock the seat has, at least 1.
     pub fn parts(&self) -> u64
         ensures value { result ≡ self.now.parts }
         ensures some_part { 0 < result }

@@ -1,6 +1,6 @@
 //! The rule, and the kinds of step that a seat takes on the words of the lock.
 //!
-//! Each kind says what it tells the seat that takes it. `specs/Rule.antt` has the definitions.
+//! Each kind says what the seat that takes it learns. `specs/Rule.antt` has the definitions.
 
 ghost use Rattle.std.specs.Prelude.{IsSome};
 ghost use Rattle.conn_lock.specs.Rule.{Kept, first_view, slot_list};
@@ -86,7 +86,7 @@ impl<S: Stands> Play<Option<S>, View<S::Entry>> for Name {
     ghost then = { named S.number };
 }
 
-/// Tells a seat what follows from a join, by a look at any word.
+/// Shows a seat what follows from a join, by a look at any word.
 pub struct Tell;
 
 impl<S: Stands> Play<Option<S>, View<S::Entry>> for Tell {

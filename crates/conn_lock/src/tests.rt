@@ -72,7 +72,7 @@ fn parted<R: Abort + Wait>(
     }
 }
 
-// Writes so many notes, each in a turn of its own.
+// Writes this many notes, each in a turn of its own.
 fn write_all<R: Wait>(rt: &R, lock: &Lock<Notes>, seat: Seat<Notes>, count: u32) -> Seat<Notes>
     requires { seat.lock ≡ lock.now }
     ensures { result.lock ≡ lock.now }
@@ -94,7 +94,7 @@ fn write_one<R: Wait>(rt: &R, lock: &Lock<Notes>, seat: Seat<Notes>, place: u32)
     lock.leave(turn)
 }
 
-// Two callers write so many notes each, in two threads.
+// Two callers write this many notes each, in two threads.
 fn write_in_two<R: Threads + Wait + Sync>(
     rt: &R,
     lock: &Lock<Notes>,
@@ -154,7 +154,7 @@ fn look_in_two<S: Stands + Send, R: Threads + Wait + Sync>(
     lock.join(first, second)
 }
 
-// Each of so many callers has written so many notes, in its order.
+// Each of these callers has written this many notes, in its order.
 fn check_all<R: Abort>(rt: &R, notes: &[Note], callers: u32, count: u32) {
     let mut next = [0; 4];
     for note in notes {

@@ -30,7 +30,10 @@ impl<S: Stands> Model for Turn<S> {
 
     ghost Value = { InTurn S S.Entry };
 
-    ghost view = { λ t. record { seat = known t.token.table_id t.number t.token.me.0; value = t.value } };
+    ghost view = { λ t. record {
+      seat = known t.token.table_id t.number t.token.me.0;
+      value = t.value;
+    } };
 
     ghost invariant = { λ t. IsServed t.number t.parts t.ticket t.token.me };
 }
@@ -39,7 +42,7 @@ impl<S: Stands> Turn<S> {
     ghost use Rattle.std.specs.Borrow.{Lends, sem};
     ghost use Rattle.conn_lock.specs.contracts.turn.Turn.{the_row};
 
-    /// The number that the caller's entries carry. Takes no memory.
+    /// The number that the caller's entries carry.
     pub fn number(&self) -> u32
         ensures value { result ≡ self.now.seat.number }
         ensures named { 0 < times result self.now.seat.names }
@@ -47,8 +50,8 @@ impl<S: Stands> Turn<S> {
         self.number
     }
 
-    /// The value, to read and to change. What is left behind the reference is the turn's value
-    /// afterwards. Takes no memory.
+    /// The value, to read and to change. What the reference leaves is the turn's value
+    /// afterwards.
     pub fn value(&mut self) -> &mut S
         ensures* lends { sem 𝓛 (Lends (the_row S.row S.Entry.row S.Stands) S.row self.entry result
             (λ last. record self.old { value = last })) }

@@ -1,6 +1,6 @@
 //! Turns: how one is waited for, tried for, and given back.
 
-ghost use Rattle.std.specs.Prelude.{◌≡◌, ◌<◌, ◌+◌, ◌⊎◌, [], ◌∷◌, IfErr, IfOk, IsSome, Option, None, Some, false, true};
+ghost use Rattle.std.specs.Prelude.{◌≡◌, ◌<◌, ◌+◌, ◌-◌, ◌^◌, ◌⊎◌, [], ◌∷◌, IfErr, IfOk, IsSome, Option, None, Some, false, true};
 ghost use Rattle.conn_lock.specs.Callers.{Adds, Follows};
 ghost use Rattle.conn_lock.specs.Rule.{slot_list};
 
@@ -13,7 +13,7 @@ use crossbeam_utils::Backoff;
 use std::sync::Wait;
 
 impl<S: Stands> Lock<S> {
-    /// Waits for a turn. Where 2^64 - 1 tickets have been drawn it waits for ever. Takes no memory.
+    /// Waits for a turn. Where 2^64 - 1 tickets have been drawn it waits for ever.
     pub fn enter<R: Wait>(&self, rt: &R, seat: Seat<S>) -> Turn<S>
         requires { seat.lock ≡ self.now }
         ensures same { result.seat ≡ record seat { front = S.list result.value; note = None } }
@@ -36,19 +36,20 @@ impl<S: Stands> Lock<S> {
         }
     }
 
-    /// A turn, where nobody has one or waits for one. It waits for nobody, and takes no memory.
+    /// A turn, where nobody has one or waits for one. It waits for nobody.
     ///
     /// It is refused only where the next ticket was not the one that was served when this call
     /// looked, which counts as a miss of the seat, or where the last ticket, 2^64 - 1, is served.
     /// The seat has seen nothing new then.
     pub fn try_enter(&self, seat: Seat<S>) -> Result<Turn<S>, Seat<S>>
         requires { seat.lock ≡ self.now }
-        ensures same { IfOk result (λ t. t.seat ≡ record seat { front = S.list t.value; note = None }) }
+        ensures same { IfOk result (λ t. t.seat ≡
+            record seat { front = S.list t.value; note = None }) }
         ensures front { IfOk result (λ t. Follows S.number seat.names seat.front (S.list t.value)) }
 
         ensures refused { IfErr result (λ s.
             (s ≡ record seat { misses = seat.misses + 1; note = None })
-            ⊎ (s ≡ record seat { note = Some 18446744073709551615 })) }
+            ⊎ (s ≡ record seat { note = Some (2 ^ 64 - 1) })) }
     {
         let Seat {
             mut token,
@@ -80,7 +81,7 @@ impl<S: Stands> Lock<S> {
     }
 
     /// Gives the turn back. The seat has then seen the whole list of the value. The list may only
-    /// have gained entries of the turn's number. Takes no memory.
+    /// have gained entries of the turn's number.
     pub fn leave(&self, turn: Turn<S>) -> Seat<S>
         requires of { turn.seat.lock ≡ self.now }
         requires own { Adds S.number turn.seat.number turn.seat.front (S.list turn.value) }
@@ -110,8 +111,9 @@ impl<S: Stands> Lock<S> {
         requires idle { (token.old.me.1 ≡ []) × (token.old.me.0.tickets ≡ [])
             × (token.old.me.0.turn ≡ false) × (0 < token.old.me.0.parts) }
         ensures same { (token.new.table_id ≡ token.old.table_id) × (token.new.id ≡ token.old.id) }
-        ensures fits { result < 18446744073709551615 }
-        ensures ticket { token.new.me ≡ (record token.old.me.0 { tickets = result ∷ []; note = None }, []) }
+        ensures fits { result < 2 ^ 64 - 1 }
+        ensures ticket { token.new.me ≡
+            (record token.old.me.0 { tickets = result ∷ []; note = None }, []) }
     {
         let mut seen = self.table.shared.peek(TICKET);
         for _ in rt.forever() {
@@ -140,7 +142,8 @@ impl<S: Stands> Lock<S> {
               { turn = true; front = slot_list S.list x; shorter = [] },
           (0, x) ∷ [],
         ))
-            × Follows S.number token.old.me.0.names token.old.me.0.front (slot_list S.list x) × IsSome x }
+            × Follows S.number token.old.me.0.names token.old.me.0.front (slot_list S.list x)
+            × IsSome x }
     {
         let backoff = Backoff::new();
         for _ in rt.forever() {

@@ -21,6 +21,6 @@ pub struct View<E> {
     pub note: Option<u64>,
     /// How often a try found that the ticket word was not the noted one.
     pub misses: u64,
-    /// The shorter of two fronts that were joined, until it is told that it begins the longer.
+    /// The shorter of two fronts that were joined, until it is known to be a prefix of the longer.
     pub shorter: LinkedList<E>,
 }

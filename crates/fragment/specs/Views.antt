@@ -1,4 +1,4 @@
--- Borrowed messages and frames, as the values that they stand for.
+-- Borrowed messages and frames, as the values that they represent.
 use Rattle.std.specs.Prelude.{false, Bool, Option, Some, None}
 use Rattle.std.specs.Option.{option_map}
 use Rattle.rs_wire.specs.declared.message.Message.{Message}

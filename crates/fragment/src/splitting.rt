@@ -142,7 +142,8 @@ impl<'a> Rest<'a> {
         complete: bool,
         parts: &Parts,
     ) -> Result<Frame, OutOfMemory>
-        ensures { IfOk result (λ f. f ≡ frame_by self.now.opening self.now follows complete (message_in parts.now)) }
+        ensures { IfOk result (λ f. f ≡
+            frame_by self.now.opening self.now follows complete (message_in parts.now)) }
     {
         let message = parts.copy(alloc)?;
         Ok(match self.opening {

@@ -8,7 +8,7 @@ use std::alloc::Global;
 use std::process::Abort;
 use std::test::Fail;
 
-// A message of so many bytes of metadata, where there is any, and of content.
+// A message with this many bytes of metadata, where there is any, and of content.
 fn sized(alloc: Global, metadata: Option<usize>, content: usize) -> Result<Message, OutOfMemory> {
     let metadata = match metadata {
         Some(len) => Some(Blob::from_vec(vec![in alloc; 0xcd; len]?)),

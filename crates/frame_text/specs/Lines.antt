@@ -29,11 +29,13 @@ fields_of (frames.Resume r) = codes "0" ∷ decimal r.major ∷ decimal r.minor 
 fields_of (frames.ResumeOk position) = codes "0" ∷ decimal position ∷ []
 fields_of (frames.Ext stream flags extended rest) = decimal stream ∷ decimal flags ∷ decimal extended ∷ blob_word rest ∷ []
 fields_of (frames.Request r) =
-    decimal r.stream ∷ letters_word (letter_if r.follows (codes "F") ++ letter_if r.complete (codes "C")) ∷ (number_words r.initial ++ (option_word r.message.metadata ∷ blob_word r.message.content ∷ []))
+    decimal r.stream ∷ letters_word (letter_if r.follows (codes "F") ++ letter_if r.complete (codes "C"))
+    ∷ (number_words r.initial ++ (option_word r.message.metadata ∷ blob_word r.message.content ∷ []))
 fields_of (frames.RequestN stream n) = decimal stream ∷ decimal n ∷ []
 fields_of (frames.Cancel stream) = decimal stream ∷ []
 fields_of (frames.Payload stream follows complete next message) =
-    decimal stream ∷ letters_word (letter_if follows (codes "F") ++ (letter_if complete (codes "C") ++ letter_if next (codes "N"))) ∷ option_word message.metadata ∷ blob_word message.content ∷ []
+    decimal stream ∷ letters_word (letter_if follows (codes "F") ++ (letter_if complete (codes "C") ++ letter_if next (codes "N")))
+    ∷ option_word message.metadata ∷ blob_word message.content ∷ []
 fields_of (frames.Error stream code content) = decimal stream ∷ decimal code ∷ blob_word content ∷ []
 fields_of (frames.Unknown stream number flags rest) = decimal stream ∷ decimal number ∷ decimal flags ∷ blob_word rest ∷ []
 

@@ -159,7 +159,7 @@ ext_row line = stream_or_zero_at line >>= kept_flags_at 2 >>= below_31_at 3 >>= 
 abbrev pub unknown_row : Option (List ℕ) → Result Unit Wrong
 unknown_row line = stream_or_zero_at line >>= unnamed_at 2 >>= kept_flags_at 3 >>= blob_at 4 >>= end_at 5
 
--- the words of a line, by the name in front
+-- the words of a line, by the name that it starts with
 unfoldable pub other_row : List ℕ → Option (List ℕ) → Result Unit Wrong
 other_row name line =
     if bytes_eq name (codes "REQUEST_N") then request_n_row line
@@ -205,7 +205,7 @@ pub record IsRightLine (line : List ℕ) (fault : TextFault) : Type 0 where
   pub has_bytes : HasBytes frame
   pub fault_is : IsFaultOfFrame frame fault
 
--- what an answer tells of a line: a wrong word is the first that is wrong; the other faults come only where every word is right
+-- what an answer says of a line: a wrong word is the first that is wrong; the other faults come only where every word is right
 abbrev pub Tells : List ℕ → Result Frame TextFault → Type 0
 Tells line (Ok f) = words_of line ≡ Ok tt
 Tells line (Err (faults.BadWord place)) = words_of line ≡ Err (wrongs.Word place)

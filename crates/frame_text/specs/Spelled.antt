@@ -13,7 +13,7 @@ cut_at line (Some i) = (take i line, Some (drop 1 (drop i line)))
 abbrev pub cut_word : List ℕ → List ℕ × Option (List ℕ)
 cut_word line = cut_at line (position is_space line)
 
--- what is left of a line after a word, with the space in front
+-- what is left of a line after a word, with the space before it
 abbrev pub after_word : Option (List ℕ) → List ℕ
 after_word None = []
 after_word (Some rest) = 32 ∷ rest

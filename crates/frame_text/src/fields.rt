@@ -287,7 +287,7 @@ pub fn frame(alloc: Global, fields: &Fields<'_>) -> Result<Frame, OutOfMemory>
     }
 }
 
-// How many bytes a token has that may be missing, with its length in front.
+// How many bytes a token that may be missing has, with its length.
 fn token_size(word: &[u8]) -> u64
     requires { IsOption word.now }
     ensures value { result ≡ length (if_there 2 (option_of word.now)) }
@@ -299,7 +299,7 @@ fn token_size(word: &[u8]) -> u64
     2 + size(word)
 }
 
-// How many bytes metadata has that may be missing, with its length in front.
+// How many bytes metadata that may be missing has, with its length.
 fn metadata_size(word: &[u8]) -> u64
     requires { IsOption word.now }
     ensures value { result ≡ length (if_there 3 (option_of word.now)) }

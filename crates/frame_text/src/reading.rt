@@ -19,7 +19,7 @@ use crate::stream_rows::{
 use rs_frame::Frame;
 use std::alloc::Global;
 
-// The fields of a line with this name in front.
+// The fields of a line that starts with this name.
 #[tactic(auto, unfolding(crate::specs::Reading::other_row))]
 fn other_fields<'a>(name: &[u8], line: Option<&'a [u8]>) -> Result<Fields<'a>, Wrong>
     ensures told { result_map_both (λ w. tt) (λ e. e) result ≡
@@ -58,7 +58,7 @@ fn other_fields<'a>(name: &[u8], line: Option<&'a [u8]>) -> Result<Fields<'a>, W
     Err(Wrong::Word(0))
 }
 
-// The fields of a line with this name in front.
+// The fields of a line that starts with this name.
 #[tactic(auto, unfolding(crate::specs::Reading::named_row))]
 fn fields_of<'a>(name: &[u8], line: Option<&'a [u8]>) -> Result<Fields<'a>, Wrong>
     ensures told { result_map_both (λ w. tt) (λ e. e) result ≡

@@ -28,7 +28,7 @@ struct Times {
 }
 
 impl Times {
-    // Each thread took so many turns of each: of the lock before the middle, of the mutex after it.
+    // Each thread took `turns` turns of each: of the lock before the middle, of the mutex after it.
     fn of<R: Clock>(
         rt: &R,
         start: Instant,

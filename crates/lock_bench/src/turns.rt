@@ -6,7 +6,7 @@ use conn_lock::{Lock, Seat, Stands};
 use std::sync::{Mutex, Wait};
 use std::thread::{Threads, join};
 
-/// How many turns were taken. It stands for the empty list, since a turn adds no entry.
+/// How many turns were taken. It represents the empty list, since a turn adds no entry.
 #[derive(Drop)]
 pub struct Count {
     turns: u64,
@@ -53,7 +53,7 @@ fn take_turn<R: Wait>(rt: &R, lock: &Lock<Count>, seat: Seat<Count>) -> Seat<Cou
     lock.leave(turn)
 }
 
-/// Takes so many turns with the seat.
+/// Takes this many turns with the seat.
 pub fn take_turns<R: Wait>(rt: &R, lock: &Lock<Count>, seat: Seat<Count>, turns: u32) -> Seat<Count>
     requires { seat.lock ≡ lock.now }
     ensures { result.lock ≡ lock.now }
@@ -65,7 +65,7 @@ pub fn take_turns<R: Wait>(rt: &R, lock: &Lock<Count>, seat: Seat<Count>, turns:
     seat
 }
 
-/// Both seats take so many turns each, in two threads, and are joined.
+/// Both seats take this many turns each, in two threads, and are joined.
 pub fn take_in_two<R: Threads + Wait + Sync>(
     rt: &R,
     lock: &Lock<Count>,
@@ -119,7 +119,7 @@ pub fn take_in_four<R: Threads + Wait + Sync>(
     lock.join(left, right)
 }
 
-/// Takes the mutex so many times.
+/// Takes the mutex this many times.
 pub fn lock_often<R: Wait>(rt: &R, mutex: &Mutex<u64>, turns: u32) {
     for _ in 0..turns {
         let mut count = mutex.lock(rt);

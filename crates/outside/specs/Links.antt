@@ -16,7 +16,7 @@ pub record Counts : Type 0 where
   pub stalls : ℕ
   pub ends : ℕ
 
--- the bytes taken and the bytes given, where the link tells them, and its counts
+-- the bytes taken and the bytes given, where the link shows them, and its counts
 pub record Shown : Type 0 where
   pub taken : Option (List ℕ)
   pub given : Option (List ℕ)
@@ -64,6 +64,6 @@ pub record IsNew (s : Shown) : Type 0 where
   pub given : IfSome s.given (λ bytes. bytes ≡ [])
   pub counts : s.counts ≡ no_counts
 
--- one more at the end of a list, where it is told
+-- one more at the end of a list, where it is shown
 abbrev pub and_then_one : {X : Type 0} → Option (List X) → X → Option (List X)
 and_then_one told x = option_map (λ xs. xs ++ x ∷ []) told

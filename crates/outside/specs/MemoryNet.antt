@@ -23,7 +23,7 @@ pub record MemoryNet : Type 0 where
 abbrev pub net_fails_next : MemoryNet → Bool
 net_fails_next n = is_to_fail n.fails (one_more n.calls)
 
--- how many calls came once one gave this answer: one that finds no memory does not count
+-- how many calls came once one gave this answer: one that runs out of memory does not count
 abbrev pub calls_after : {X : Type 0} → Result X NetFault → ℕ → ℕ
 calls_after (Ok x) calls = one_more calls
 calls_after (Err faults.Failed) calls = one_more calls

@@ -1,4 +1,4 @@
--- What one read and one write do to the content that is told.
+-- What one read and one write do to the content that is shown.
 use Rattle.std.specs.Prelude.{◌≡◌, ℕ, ◌<◌, ◌≤◌, List, [], length, take, Option, IfSome}
 use Rattle.std.specs.Io.KnownBytes.{prepend_known, append_known}
 use Rattle.outside.specs.Causes.{one_more}
@@ -7,7 +7,7 @@ use Rattle.outside.specs.declared.source.Read.TheVariants as reads
 use Rattle.outside.specs.declared.sink.Wrote.{Wrote}
 use Rattle.outside.specs.declared.sink.Wrote.TheVariants as writes
 
--- what a source or a sink shows: the bytes left or written, where it tells them, and how many of its calls failed
+-- what a source or a sink shows: the bytes left or written, where it shows them, and how many of its calls failed
 pub record ByteStream : Type 0 where
   pub told : Option (List ℕ)
   pub faults : ℕ

@@ -23,7 +23,7 @@ impl Calls {
         }
     }
 
-    /// Counts a call, and tells whether it is to fail.
+    /// Counts a call. Whether it is to fail.
     pub(crate) fn begin(&mut self) -> bool
         ensures fails { result ≡ is_to_fail self.old.fails.items (one_more self.old.count) }
         ensures counted { self.new ≡ record self.old { count = one_more self.old.count } }

@@ -3,14 +3,14 @@
 //!
 //! A [`Source`] gives bytes and a [`Sink`] takes them, as many in a call as it can. A [`Link`] does
 //! both, and says when nothing can move for now; a [`Net`] hands links out and takes them back; a
-//! [`Clock`] tells the moment. Each has a meaning that contracts see: the bytes left, written, taken
-//! or given, the calls asked of a net and the links put back, the moments of a clock, where it tells
+//! [`Clock`] gives the moment. Each has a meaning that contracts see: the bytes left, written, taken
+//! or given, the calls asked of a net and the links put back, the moments of a clock, where it shows
 //! them, and the counts of its faults and lulls. The promise to the crates above: a call that fails
-//! or lulls is counted once, no other call is, and whatever is told of the content is exact.
+//! or lulls is counted once, no other call is, and whatever is shown of the content is exact.
 //!
-//! [`MemSource`], [`MemSink`], [`MemLink`], [`MemNet`] and [`MemClock`] tell everything, and fail in
-//! the calls that they are told to. [`StdSource`] and [`StdSink`] are standard input and output; they
-//! tell nothing of content, since no contract knows what the system gives or takes.
+//! [`MemSource`], [`MemSink`], [`MemLink`], [`MemNet`] and [`MemClock`] show everything, and fail in
+//! the calls that a test names. [`StdSource`] and [`StdSink`] are standard input and output; they
+//! show nothing of content, since no contract knows what the system gives or takes.
 //!
 //! Left out: links over sockets, the clock of the system, and what the bytes mean.
 #![tactic(auto)]

@@ -7,7 +7,7 @@ ghost use Rattle.outside.specs.Links.{IsGive, IsTake, NoneFell, Shown, counts_af
 /// What one take gave.
 #[derive(Clone, Copy, Debug, PartialEq, Eq)]
 pub enum Taken {
-    /// So many bytes, at least 1, at the front of the buffer.
+    /// This many bytes, at least 1, at the start of the buffer.
     Took(usize),
     /// Nothing came for now, which is counted as a lull.
     Lull,
@@ -20,7 +20,7 @@ pub enum Taken {
 /// What one give did.
 #[derive(Clone, Copy, Debug, PartialEq, Eq)]
 pub enum Given {
-    /// So many bytes of the piece, from its front and at least 1, are on their way.
+    /// The first bytes of the piece, this many and at least 1, are on their way.
     Took(usize),
     /// Nothing could go for now, which is counted as a stall.
     Lull,
@@ -31,7 +31,7 @@ pub enum Given {
 /// A connection to a peer. On every transport the bytes are frames, each after its 24-bit length
 /// (RSocket 1.0, "Framing Protocol").
 pub trait Link {
-    /// The bytes taken and the bytes given, where the link tells them, and the counts of its faults,
+    /// The bytes taken and the bytes given, where the link shows them, and the counts of its faults,
     /// lulls, stalls and ends. A count stands still where a u64 ends.
     ghost shown: { Self → Shown };
 
@@ -50,7 +50,7 @@ pub trait Link {
         ensures counts { (shown self.new).counts ≡
             counts_after_take result (shown self.old).counts };
 
-    /// Gives bytes from the front of the piece, which is not empty: as many as there is room for now,
+    /// Gives the first bytes of the piece, which is not empty: as many as there is room for now,
     /// and at least 1. Giving nothing is a fault.
     fn give(&mut self, piece: &[u8]) -> Given
         requires { 0 < length piece.now }

@@ -26,7 +26,7 @@ impl Model for MemClock {
 }
 
 impl MemClock {
-    /// A clock of these moments, in milliseconds: at least one. Takes no memory.
+    /// A clock of these moments, in milliseconds: at least one.
     pub fn new(moments: Vec<u64>) -> MemClock
         requires { 0 < vec_len moments }
         ensures { result ≡ moments.items }

@@ -20,9 +20,9 @@ pub enum After {
     Ends,
 }
 
-/// A link in memory, which tells everything. A call moves as many bytes as it can and is allowed to,
-/// and fails where it was told to. A give that finds no memory fails too. Takes and gives have one
-/// numbering.
+/// A link in memory, which shows everything. A call moves as many bytes as it can and is allowed to,
+/// and fails where its list says so. A give that runs out of memory fails too. Takes and gives have
+/// one numbering.
 #[derive(Drop)]
 pub struct MemLink {
     // The bytes that come from the peer.
@@ -60,8 +60,7 @@ impl Model for MemLink {
 
 impl MemLink {
     /// A link that gives these bytes and then lulls or ends. A call moves at most `most` bytes, at
-    /// least 1. `fails` has the numbers, from 1, of the takes and gives that are to fail. Takes no
-    /// memory.
+    /// least 1. `fails` has the numbers, from 1, of the takes and gives that are to fail.
     pub fn new(alloc: Global, bytes: Blob, after: After, most: u32, fails: Vec<u64>) -> MemLink
         requires { 0 < most }
         ensures { result ≡ fresh bytes after most fails.items }
@@ -78,14 +77,14 @@ impl MemLink {
         }
     }
 
-    /// The bytes given. Takes no memory.
+    /// The bytes given.
     pub fn given(&self) -> &[u8]
         ensures { result.now ≡ self.now.given }
     {
         self.given.as_slice()
     }
 
-    /// The bytes taken. Takes no memory.
+    /// The bytes taken.
     pub fn taken(&self) -> &[u8]
         ensures { result.now ≡ self.now.taken }
     {
@@ -109,7 +108,7 @@ impl Link for MemLink {
         ensures lull { result ≡ Taken.Lull → Rose self.old.counts.lulls self.new.counts.lulls }
         ensures end { result ≡ Taken.End → Rose self.old.counts.ends self.new.counts.ends }
 
-        // It fails exactly in the calls that it was told to, and else moves all that it can.
+        // It fails exactly in the calls of its list, and else moves all that it can.
         ensures told_to { (result ≡ Taken.Failed) ↔ IsTrue (link_fails_next self.old) }
         ensures most { link_fails_next self.old ≡ false →
             self.new.left ≡ drop (min (length buffer.new) self.old.most) self.old.left }
@@ -154,7 +153,7 @@ impl Link for MemLink {
             Rose self.old.counts.faults self.new.counts.faults }
         ensures lull { result ≡ Given.Lull → Rose self.old.counts.stalls self.new.counts.stalls }
 
-        // It fails in the calls that it was told to, and where there is no memory.
+        // It fails in the calls of its list, and where there is no memory.
         ensures told_to { IsTrue (link_fails_next self.old) → result ≡ Given.Failed }
         ensures most { (n : ℕ) → result ≡ Given.Took n → n ≡ min (length piece.now) self.old.most }
         ensures left { self.new.left ≡ self.old.left }

@@ -15,9 +15,9 @@ use std::alloc::Global;
 use std::collections::VecDeque;
 use std::marker::Model;
 
-/// A net in memory, which tells everything. It hands its links out in their order. A dial, listen or
-/// accept fails where it was told to, and a dial or accept also where no link is left. The three have
-/// one numbering.
+/// A net in memory, which shows everything. It hands its links out in their order. A dial, listen or
+/// accept fails where its list says so, and a dial or accept also where no link is left. The three
+/// have one numbering.
 #[derive(Drop)]
 pub struct MemNet {
     links: VecDeque<MemLink>,
@@ -52,7 +52,7 @@ impl Model for MemNet {
 
 impl MemNet {
     /// A net that hands out these links, none of which was used yet. `fails` has the numbers, from
-    /// 1, of the dials, listens and accepts that are to fail. Takes no memory.
+    /// 1, of the dials, listens and accepts that are to fail.
     pub fn new(alloc: Global, links: Vec<MemLink>, fails: Vec<u64>) -> MemNet
         requires { AllNew links.items }
         ensures { result ≡ net_of links.items fails.items }
@@ -66,7 +66,7 @@ impl MemNet {
         }
     }
 
-    /// The links put back, in their order. Takes no memory.
+    /// The links put back, in their order.
     pub fn back(&self) -> &[MemLink]
         ensures { result.now ≡ self.now.back }
     {
@@ -131,7 +131,7 @@ impl Net for MemNet {
         ensures cause { result ≡ Err NetFault.Failed → Rose self.old.faults self.new.faults }
         ensures faults { self.new.faults ≡ faults_after result self.old.faults }
 
-        // It hands out the next link, and fails only where it was told to or no link is left.
+        // It hands out the next link, and fails only where its list says so or no link is left.
         ensures next { MatchResult result (λ link. self.old.links ≡ link ∷
             self.new.links) (λ _. self.new.links ≡ self.old.links) }
         ensures failed { result ≡ Err NetFault.Failed →
@@ -153,7 +153,7 @@ impl Net for MemNet {
         ensures cause { result ≡ Err NetFault.Failed → Rose self.old.faults self.new.faults }
         ensures faults { self.new.faults ≡ faults_after result self.old.faults }
 
-        // It fails only where it was told to.
+        // It fails only where its list says so.
         ensures failed { result ≡ Err NetFault.Failed → IsTrue (net_fails_next self.old) }
         ensures told_to { IsTrue (net_fails_next self.old) → is_ok result ≡ false }
         ensures links { self.new.links ≡ self.old.links }
@@ -180,7 +180,7 @@ impl Net for MemNet {
         ensures cause { result ≡ Err NetFault.Failed → Rose self.old.faults self.new.faults }
         ensures faults { self.new.faults ≡ faults_after result self.old.faults }
 
-        // It hands out the next link, and fails only where it was told to or no link is left.
+        // It hands out the next link, and fails only where its list says so or no link is left.
         ensures next { MatchResult result (λ link. self.old.links ≡ link ∷
             self.new.links) (λ _. self.new.links ≡ self.old.links) }
         ensures failed { result ≡ Err NetFault.Failed →

@@ -10,8 +10,8 @@ use crate::sink::{Sink, Wrote};
 use std::alloc::Global;
 use std::marker::Model;
 
-/// A sink in memory, which tells what was written. A write takes the whole piece, and fails in the
-/// calls that it was told to and where there is no memory. Contracts see the bytes written, the
+/// A sink in memory, which shows what was written. A write takes the whole piece, and fails in the
+/// calls of its list and where there is no memory. Contracts see the bytes written, the
 /// counts, and those calls.
 #[derive(Drop)]
 pub struct MemSink {
@@ -61,7 +61,7 @@ impl Sink for MemSink {
         ensures write { IsWrite (Some self.old.content) (Some self.new.content) piece.now result }
         ensures faults { self.new.faults ≡ faults_after_write result self.old.faults }
 
-        // It fails in the calls that it was told to, and else writes the whole piece, unless there
+        // It fails in the calls of its list, and else writes the whole piece, unless there
         // is no memory.
         ensures failed { IsTrue (next_fails self.old) → result ≡ Wrote.Failed }
         ensures most { (n : ℕ) → result ≡ Wrote.Took n → n ≡ length piece.now }

@@ -10,8 +10,8 @@ use crate::source::{Read, Source};
 use rs_wire::Blob;
 use std::marker::Model;
 
-/// A source of bytes in memory, which tells them. A read takes as many bytes as fit, and fails in
-/// the calls that it was told to. Contracts see the bytes left, the counts, and those calls.
+/// A source of bytes in memory, which shows them. A read takes as many bytes as fit, and fails in
+/// the calls of its list. Contracts see the bytes left, the counts, and those calls.
 #[derive(Drop)]
 pub struct MemSource {
     bytes: Blob,
@@ -59,7 +59,7 @@ impl Source for MemSource {
         ensures read { IsRead (Some self.old.content) (Some self.new.content) buffer.new result }
         ensures faults { self.new.faults ≡ faults_after_read result self.old.faults }
 
-        // It fails exactly in the calls that it was told to, and else moves all that it can.
+        // It fails exactly in the calls of its list, and else moves all that it can.
         ensures failed { (result ≡ Read.Failed) ↔ IsTrue (next_fails self.old) }
         ensures most { next_fails self.old ≡ false →
             self.new.content ≡ drop (length buffer.new) self.old.content }
@@ -80,7 +80,7 @@ impl Source for MemSource {
     }
 }
 
-// Copies as many bytes as fit, and tells how many.
+// Copies as many bytes as fit. How many.
 fn fill(buffer: &mut [u8], bytes: &[u8]) -> usize
     requires room { 0 < length buffer.old }
     requires some { 0 < length bytes.now }

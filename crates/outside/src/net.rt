@@ -28,7 +28,7 @@ pub enum NetFault {
     /// A fault, which is counted.
     #[error("the net failed")]
     Failed,
-    /// There was not enough memory. The net is as before, and the call is not told.
+    /// There was not enough memory. The net is as before, and the call is not in the list of calls.
     #[error("out of memory")]
     OutOfMemory,
 }
@@ -70,7 +70,7 @@ impl<T: Drop> From<AllocFailed<T>> for NetFault {
 pub trait Net {
     type Link: Link;
 
-    /// The dials, listens and accepts made, with those that failed. A net that does not tell them
+    /// The dials, listens and accepts made, with those that failed. A net that does not show them
     /// has `None`, for ever.
     ghost asked: { Self → Option (List Ask) };
 
@@ -117,8 +117,8 @@ pub trait Net {
         ensures cause { result ≡ Err NetFault.Failed → Rose (faults self.old) (faults self.new) }
         ensures faults { faults self.new ≡ faults_after result (faults self.old) };
 
-    /// Takes a link back: more were handed out than put back. Takes no memory, since the room was
-    /// made as the link was handed out.
+    /// Takes a link back: more were handed out than put back. Its place was reserved as it was
+    /// handed out.
     fn put_back(&mut self, link: Self::Link)
         requires { 0 < out self.old }
         ensures back { back self.new ≡ and_then_one (back self.old) (Self.Link.shown link) }

@@ -14,7 +14,7 @@ pub enum Wrote {
 
 /// Where bytes go, in their order.
 pub trait Sink {
-    /// The bytes written, where the sink tells them, and how many writes failed: that count never
+    /// The bytes written, where the sink shows them, and how many writes failed: that count never
     /// falls, and stands still where a u64 ends.
     ghost shown: { Self → ByteStream };
 

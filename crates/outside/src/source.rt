@@ -16,7 +16,7 @@ pub enum Read {
 
 /// Where bytes come from, in their order.
 pub trait Source {
-    /// The bytes left, where the source tells them, and how many reads failed: that count never
+    /// The bytes left, where the source shows them, and how many reads failed: that count never
     /// falls, and stands still where a u64 ends.
     ghost shown: { Self → ByteStream };
 

@@ -9,7 +9,7 @@ use std::io;
 use std::io::{Stdin, Stdout};
 use std::marker::Model;
 
-/// Standard input. It tells nothing of its content, and contracts see the count of its faults alone.
+/// Standard input. It shows nothing of its content, and contracts see the count of its faults alone.
 /// It reads straight from the system, so give it a large buffer.
 #[derive(Drop)]
 pub struct StdSource {
@@ -17,7 +17,7 @@ pub struct StdSource {
     faults: u64,
 }
 
-/// Standard output. It tells nothing of its content, and contracts see the count of its faults
+/// Standard output. It shows nothing of its content, and contracts see the count of its faults
 /// alone. It writes straight to the system, so give it large pieces.
 #[derive(Drop)]
 pub struct StdSink {

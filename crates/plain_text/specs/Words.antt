@@ -7,7 +7,8 @@ use Rattle.hex.specs.Hex.{decode_of, encode_lower}
 -- the number that a word is the decimal text of, where it is in a range
 unfoldable pub number_in : ℕ → ℕ → List ℕ → Option ℕ
 number_in low high word =
-    if (bytes_eq (decimal (digits_value 10 word)) word && nat_le low (digits_value 10 word)) && nat_le (digits_value 10 word) high then Some (digits_value 10 word) else None
+    if (bytes_eq (decimal (digits_value 10 word)) word && nat_le low (digits_value 10 word)) && nat_le (digits_value 10 word) high
+    then Some (digits_value 10 word) else None
 
 -- the text of bytes: lower-case hex digits, two a byte, or the mark for no bytes
 abbrev pub hex_word : ℕ → List ℕ → List ℕ

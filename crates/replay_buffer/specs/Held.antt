@@ -21,7 +21,7 @@ pub record Buffer : Type 0 where
   pub held : Held
   pub spare : Spare
 
--- this is held of the frames made, where the peer is known to have them up to `told`
+-- this is held of the frames made, where the peer has acknowledged them up to `told`
 pub record IsHeldOf (made : List Frame) (told : ℕ) (h : Held) : Type 0 where
   pub first_is : h.first ≡ first made told h.hold
   pub frames_are : h.frames ≡ map canonical (frames_from made h.first)

@@ -1,5 +1,5 @@
 -- How what is held lies in the fields.
-use Rattle.std.specs.Prelude.{◌≡◌, ℕ, ◌+◌, ◌-◌, ◌*◌, ◌≤◌, List, [], ◌∷◌, length, take, drop}
+use Rattle.std.specs.Prelude.{◌≡◌, ℕ, ◌+◌, ◌-◌, ◌*◌, ◌<◌, ◌≤◌, ◌^◌, List, [], ◌∷◌, length, take, drop}
 use Rattle.std.specs.VecDeque.{deque_len, deque_capacity}
 use Rattle.std.specs.List.{AllByRecursion, flat_map}
 use Rattle.rs_frame.specs.Framed.{framed}
@@ -35,6 +35,6 @@ buffer_of r = record {
 pub record IsStored (r : Inside) : Type 0 where
   pub stored : Stores r.first r.ends.items r.bytes.bytes (frames_of r)
   pub end : r.end ≡ r.first + pos_by length (frames_of r)
-  pub top : r.end ≤ 9223372036854775807
+  pub top : r.end < 2 ^ 63
   pub spare_of_bytes : r.spare_bytes + 3 * r.spare_frames ≤ r.bytes.reserved
   pub spare_of_frames : deque_len r.ends + r.spare_frames ≤ deque_capacity r.ends

@@ -4,7 +4,7 @@
 //! Frames are kept in the order in which they were made. A *position* counts the bytes of the
 //! frames from the session's first on, without their 24-bit length fields; a *boundary* is a
 //! position where a frame starts or the newest one ends. The oldest frames are forgotten as whole
-//! frames, when the bytes held pass a limit or when the peer has told that it has them.
+//! frames, when the bytes held pass a limit or when the peer has acknowledged them.
 //!
 //! The promise to the layer above: where the frames kept are those made, what is held of them
 //! starts at `first` of the crate `position` (the peer may still need it, and no more than `hold`

@@ -1,6 +1,6 @@
 //! The held frames, as one queue of framed bytes and the positions where the frames end.
 
-ghost use Rattle.std.specs.Prelude.{◌≡◌, ◌+◌, ◌-◌, ◌<◌, ◌≤◌, ◌↔◌, ◌++◌, [], ◌∷◌, length, take, drop, min, max, IsTrue, OnOk, OnErr, IfOk, ℕ, List, slice_index};
+ghost use Rattle.std.specs.Prelude.{◌≡◌, ◌+◌, ◌-◌, ◌<◌, ◌^◌, ◌≤◌, ◌↔◌, ◌++◌, [], ◌∷◌, length, take, drop, min, max, IsTrue, OnOk, OnErr, IfOk, ℕ, List, slice_index};
 ghost use Rattle.std.specs.VecDeque.{deque_len};
 ghost use Rattle.std.specs.List.Sorted.{IsNonDecreasing};
 ghost use Rattle.rs_frame.specs.declared.frame.Frame.{Frame};
@@ -65,7 +65,7 @@ impl Replay {
         })
     }
 
-    /// Reserves memory for so many frames more, of so many bytes in sum. What was reserved and not
+    /// Reserves memory for `frames` more frames, of `bytes` bytes in sum. What was reserved and not
     /// used before counts.
     pub fn reserve(&mut self, frames: usize, bytes: usize) -> Result<(), OutOfMemory>
         ensures ok { OnOk result
@@ -91,8 +91,8 @@ impl Replay {
     pub fn keep(&mut self, frame: &[u8])
         requires spare { HasSpare self.old.spare (length frame.now) }
         requires shortest { 6 ≤ length frame.now }
-        requires longest { length frame.now ≤ 16777215 }
-        requires top { end_of self.old.held + length frame.now ≤ 9223372036854775807 }
+        requires longest { length frame.now < 2 ^ 24 }
+        requires top { end_of self.old.held + length frame.now < 2 ^ 63 }
         ensures held { let all = with_newest self.old.held frame.now in
             self.new.held ≡ from_least all (end_of all - all.hold) }
         ensures of_made { (made : List Frame) (told : ℕ) (newest : Frame) →
@@ -129,7 +129,7 @@ impl Replay {
     /// The position where the newest frame ended, held or not.
     pub fn end(&self) -> u64
         ensures value { result ≡ end_of self.now.held }
-        ensures bound { result ≤ 9223372036854775807 }
+        ensures bound { result < 2 ^ 63 }
     {
         self.end
     }
@@ -180,8 +180,8 @@ impl Replay {
     fn append(&mut self, frame: &[u8])
         requires spare { HasSpare self.old.spare (length frame.now) }
         requires shortest { 6 ≤ length frame.now }
-        requires longest { length frame.now ≤ 16777215 }
-        requires top { end_of self.old.held + length frame.now ≤ 9223372036854775807 }
+        requires longest { length frame.now < 2 ^ 24 }
+        requires top { end_of self.old.held + length frame.now < 2 ^ 63 }
         ensures held { self.new.held ≡ with_newest self.old.held frame.now }
         ensures spare { self.new.spare ≡ spare_after self.old.spare (length frame.now) }
     {

@@ -5,7 +5,7 @@ ghost use Rattle.resume_core.specs.Resumption.{IsHeld, ok_fault};
 
 use rs_wire::Gone;
 
-/// Judges the position that a RESUME_OK tells a resuming client. `first` is the position from which
+/// Judges the position that a RESUME_OK gives a resuming client. `first` is the position from which
 /// frames are held and `end` the position where the frames made end, in bytes; `boundary` says
 /// whether a held frame begins or ends at `position`. The first of these faults is answered, and
 /// each leaves everything as it was:

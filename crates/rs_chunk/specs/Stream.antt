@@ -25,15 +25,15 @@ first_frame bytes = take (first_length bytes) (drop 3 bytes)
 abbrev pub after_frame : List ℕ → List ℕ
 after_frame bytes = drop (first_length bytes) (drop 3 bytes)
 
--- the bytes begin with a whole frame of at most so many bytes
+-- the bytes begin with a whole frame of at most `most` bytes
 abbrev pub IsWhole : List ℕ → ℕ → Type 0
 IsWhole bytes most = HasFrame bytes × (first_length bytes ≤ most)
 
--- the bytes begin with a length above so many bytes
+-- the bytes begin with a length above `most`
 abbrev pub IsTooLong : List ℕ → ℕ → Type 0
 IsTooLong bytes most = HasLength bytes × (most < first_length bytes)
 
--- what stands at the front of the bytes, where a frame may have so many bytes: one of three, and never two
+-- what stands at the front of the bytes, where a frame may have `most` bytes: one of three, and never two
 abbrev pub IsFront : List ℕ → ℕ → Front → Type 0
 IsFront bytes most (Whole frame) = IsWhole bytes most × (frame.now ≡ first_frame bytes)
 IsFront bytes most (TooLong len) = IsTooLong bytes most × (len ≡ first_length bytes)

@@ -13,7 +13,7 @@ pub enum Front<'a> {
     Whole(&'a [u8]),
     /// The length of the first frame, in bytes, which is above the limit. It can never be passed.
     TooLong(u32),
-    /// Too few bytes to tell, or a frame within the limit that is not whole yet.
+    /// Fewer bytes than a length field, or a frame within the limit that is not whole yet.
     Part,
 }
 

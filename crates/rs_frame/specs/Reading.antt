@@ -4,6 +4,8 @@ use Rattle.std.specs.Prelude.{ℕ, ◌+◌, ◌^◌, Bool, true, false, ◌==◌
 use Rattle.byteorder.specs.Endian.{big_number}
 use Rattle.rs_wire.specs.declared.words.Kind.{Kind}
 use Rattle.rs_wire.specs.declared.words.Kind.TheVariants as kinds
+use Rattle.rs_frame.specs.declared.resume.TheConstants.{RESUME_NUMBERS}
+use Rattle.rs_frame.specs.declared.setup.TheConstants.{SETUP_NUMBERS}
 use Rattle.rs_frame.specs.declared.fault.FrameFault.{FrameFault}
 use Rattle.rs_frame.specs.declared.fault.FrameFault.TheVariants as faults
 use Rattle.rs_frame.specs.declared.frame.Frame.{Frame}
@@ -32,9 +34,9 @@ as_frame (Err rule) = Err rule
 unfoldable pub setup_at : ℕ → ℕ → List ℕ → Result Setup FrameFault
 setup_at stream flags body =
     refuse (not (stream == 0)) faults.WrongStream
-    (refuse (nat_lt (length body) 12) faults.ShortBody
+    (refuse (nat_lt (length body) SETUP_NUMBERS) faults.ShortBody
     (refuse ((number_at 4 4 body == 0) || (number_at 4 8 body == 0)) faults.ZeroNumber
-    (found faults.NameLength (names_of (flag 0x80 flags) (drop 12 body)) (λ names.
+    (found faults.NameLength (names_of (flag 0x80 flags) (drop SETUP_NUMBERS body)) (λ names.
     found faults.MetadataLength (message_of (flag 0x100 flags) names.rest) (λ message.
     refuse (nat_le (2 ^ 31) (number_at 4 4 body) || nat_le (2 ^ 31) (number_at 4 8 body)) faults.HighBit
     (Ok (record {
@@ -115,9 +117,9 @@ unfoldable pub resume_at : ℕ → List ℕ → Result Resume FrameFault
 resume_at stream body =
     let len = number_at 2 4 body in
     refuse (not (stream == 0)) faults.WrongStream
-    (refuse (nat_lt (length body) 22) faults.ShortBody
-    (refuse (nat_lt (22 + len) (length body)) faults.LongBody
-    (refuse (nat_lt (length body) (22 + len)) faults.NameLength
+    (refuse (nat_lt (length body) RESUME_NUMBERS) faults.ShortBody
+    (refuse (nat_lt (RESUME_NUMBERS + len) (length body)) faults.LongBody
+    (refuse (nat_lt (length body) (RESUME_NUMBERS + len)) faults.NameLength
     (refuse (nat_le (2 ^ 63) (long_at (6 + len) body) || nat_le (2 ^ 63) (long_at (14 + len) body)) faults.HighBit
     (Ok (record { major = big_number 2 body; minor = number_at 2 2 body; token = take len (drop 6 body); server_position = long_at (6 + len) body; client_position = long_at (14 + len) body }))))))
 

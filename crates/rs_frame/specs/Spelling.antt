@@ -51,11 +51,16 @@ stream_of (frames.Unknown stream number flags rest) = stream
 
 -- the flags that the row names, in this flags word
 abbrev pub HasFlags : Frame → ℕ → Type 0
-HasFlags (frames.Setup s) flags = (flag 0x100 flags ≡ is_some s.message.metadata) × (flag 0x80 flags ≡ is_some s.resume) × (flag 0x40 flags ≡ s.lease)
-HasFlags (frames.Request r) flags = (flag 0x100 flags ≡ is_some r.message.metadata) × (flag 0x80 flags ≡ r.follows) × (r.kind ≡ kinds.Channel → flag 0x40 flags ≡ r.complete)
+HasFlags (frames.Setup s) flags =
+    (flag 0x100 flags ≡ is_some s.message.metadata) × (flag 0x80 flags ≡ is_some s.resume) × (flag 0x40 flags ≡ s.lease)
+HasFlags (frames.Request r) flags =
+    (flag 0x100 flags ≡ is_some r.message.metadata) × (flag 0x80 flags ≡ r.follows)
+    × (r.kind ≡ kinds.Channel → flag 0x40 flags ≡ r.complete)
 HasFlags (frames.RequestN stream n) flags = Unit {0}
 HasFlags (frames.Cancel stream) flags = Unit {0}
-HasFlags (frames.Payload stream follows complete next message) flags = (flag 0x100 flags ≡ is_some message.metadata) × (flag 0x80 flags ≡ follows) × (flag 0x40 flags ≡ complete) × (flag 0x20 flags ≡ next)
+HasFlags (frames.Payload stream follows complete next message) flags =
+    (flag 0x100 flags ≡ is_some message.metadata) × (flag 0x80 flags ≡ follows)
+    × (flag 0x40 flags ≡ complete) × (flag 0x20 flags ≡ next)
 HasFlags (frames.Error stream code content) flags = Unit {0}
 HasFlags (frames.Lease ttl count metadata) flags = flag 0x100 flags ≡ is_some metadata
 HasFlags (frames.Keepalive respond position content) flags = flag 0x80 flags ≡ respond
@@ -90,7 +95,10 @@ to_end (Some bytes) = bytes
 
 -- the fields after the header, in order
 abbrev pub body_of : Frame → List ℕ
-body_of (frames.Setup s) = big_bytes 2 s.major ++ (big_bytes 2 s.minor ++ (big_bytes 4 s.keepalive ++ (big_bytes 4 s.lifetime ++ (if_there 2 s.resume ++ (counted_bytes 1 s.metadata_mime ++ (counted_bytes 1 s.content_mime ++ payload s.message))))))
+body_of (frames.Setup s) =
+    big_bytes 2 s.major ++ (big_bytes 2 s.minor ++ (big_bytes 4 s.keepalive ++ (big_bytes 4 s.lifetime
+    ++ (if_there 2 s.resume ++ (counted_bytes 1 s.metadata_mime ++ (counted_bytes 1 s.content_mime
+    ++ payload s.message))))))
 body_of (frames.Request r) = number_there r.initial ++ payload r.message
 body_of (frames.RequestN stream n) = big_bytes 4 n
 body_of (frames.Cancel stream) = []
@@ -99,7 +107,9 @@ body_of (frames.Error stream code content) = big_bytes 4 code ++ content
 body_of (frames.Lease ttl count metadata) = big_bytes 4 ttl ++ (big_bytes 4 count ++ to_end metadata)
 body_of (frames.Keepalive respond position content) = big_bytes 8 position ++ content
 body_of (frames.MetadataPush metadata) = metadata
-body_of (frames.Resume r) = big_bytes 2 r.major ++ (big_bytes 2 r.minor ++ (counted_bytes 2 r.token ++ (big_bytes 8 r.server_position ++ big_bytes 8 r.client_position)))
+body_of (frames.Resume r) =
+    big_bytes 2 r.major ++ (big_bytes 2 r.minor ++ (counted_bytes 2 r.token
+    ++ (big_bytes 8 r.server_position ++ big_bytes 8 r.client_position)))
 body_of (frames.ResumeOk position) = big_bytes 8 position
 body_of (frames.Ext stream flags extended rest) = big_bytes 4 extended ++ rest
 body_of (frames.Unknown stream number flags rest) = rest
@@ -121,7 +131,10 @@ InitialFits kinds.Channel initial complete = (n : ℕ) × (initial ≡ Some n) �
 
 -- each field is in its range
 abbrev pub FieldsFit : Frame → Type 0
-FieldsFit (frames.Setup s) = (s.major < 2 ^ 16) × (s.minor < 2 ^ 16) × IsStream s.keepalive × IsStream s.lifetime × IfSome s.resume (λ token. length token < 2 ^ 16) × (length s.metadata_mime < 2 ^ 8) × (length s.content_mime < 2 ^ 8) × MessageFits s.message
+FieldsFit (frames.Setup s) =
+    (s.major < 2 ^ 16) × (s.minor < 2 ^ 16) × IsStream s.keepalive × IsStream s.lifetime
+    × IfSome s.resume (λ token. length token < 2 ^ 16)
+    × (length s.metadata_mime < 2 ^ 8) × (length s.content_mime < 2 ^ 8) × MessageFits s.message
 FieldsFit (frames.Request r) = IsStream r.stream × InitialFits r.kind r.initial r.complete × MessageFits r.message
 FieldsFit (frames.RequestN stream n) = IsStream stream × IsStream n
 FieldsFit (frames.Cancel stream) = IsStream stream
@@ -155,7 +168,8 @@ bit_if b n = if b then n else 0
 abbrev pub flags_of : Frame → ℕ
 flags_of (frames.Setup s) = bit_if (is_some s.message.metadata) 0x100 + bit_if (is_some s.resume) 0x80 + bit_if s.lease 0x40
 flags_of (frames.Request r) = bit_if (is_some r.message.metadata) 0x100 + bit_if r.follows 0x80 + bit_if r.complete 0x40
-flags_of (frames.Payload stream follows complete next message) = bit_if (is_some message.metadata) 0x100 + bit_if follows 0x80 + bit_if complete 0x40 + bit_if next 0x20
+flags_of (frames.Payload stream follows complete next message) =
+    bit_if (is_some message.metadata) 0x100 + bit_if follows 0x80 + bit_if complete 0x40 + bit_if next 0x20
 flags_of (frames.Lease ttl count metadata) = bit_if (is_some metadata) 0x100
 flags_of (frames.Keepalive respond position content) = bit_if respond 0x80
 flags_of (frames.MetadataPush metadata) = 0x100

@@ -1,4 +1,4 @@
-//! What all frame types read and write by: bytes with their length in front, numbers, and the tests
+//! What all frame types read and write by: bytes after their length, numbers, and the tests
 //! of a number's range. Numbers are big-endian (RSocket 1.0, "Framing Format").
 
 ghost use Rattle.std.specs.Prelude.{◌≡◌, ◌+◌, ◌<◌, ◌≤◌, ◌^◌, ◌++◌, ◌↔◌, IsTrue, length, vec_len, vec_capacity};
@@ -22,7 +22,7 @@ pub fn cut(len: usize, bytes: &[u8]) -> Option<(&[u8], &[u8])>
     Some(bytes.split_at(len))
 }
 
-/// A length of one byte and that many bytes: these, and what follows.
+/// The bytes after their length of one byte, and what follows.
 pub fn counted_u8(bytes: &[u8]) -> Option<(&[u8], &[u8])>
     ensures { option_map (λ x. (x.0.now, x.1.now)) result ≡ prefixed 1 bytes.now }
 {
@@ -32,7 +32,7 @@ pub fn counted_u8(bytes: &[u8]) -> Option<(&[u8], &[u8])>
     }
 }
 
-/// A length of two bytes and that many bytes: these, and what follows.
+/// The bytes after their length of two bytes, and what follows.
 pub fn counted_u16(bytes: &[u8]) -> Option<(&[u8], &[u8])>
     ensures { option_map (λ x. (x.0.now, x.1.now)) result ≡ prefixed 2 bytes.now }
 {
@@ -42,7 +42,7 @@ pub fn counted_u16(bytes: &[u8]) -> Option<(&[u8], &[u8])>
     cut(BigEndian::read_u16(bytes) as usize, &bytes[2..])
 }
 
-/// A length of three bytes and that many bytes: these, and what follows.
+/// The bytes after their length of three bytes, and what follows.
 pub fn counted_u24(bytes: &[u8]) -> Option<(&[u8], &[u8])>
     ensures { option_map (λ x. (x.0.now, x.1.now)) result ≡ prefixed 3 bytes.now }
 {

@@ -1,4 +1,4 @@
-//! The six bytes in front of a frame's fields: stream id, type number and flags (RSocket 1.0,
+//! The six bytes before a frame's fields: stream id, type number and flags (RSocket 1.0,
 //! "Frame Header Format").
 
 ghost use Rattle.std.specs.Prelude.{◌≡◌, ◌<◌};

@@ -18,7 +18,7 @@ use byteorder::{BigEndian, ByteOrder};
 use rs_wire::Blob;
 use std::alloc::Global;
 
-/// The flag R: an answer is wanted.
+/// The flag R: the sender asks for an answer.
 const RESPOND: u16 = 0x80;
 
 /// The KEEPALIVE with this header and these fields, or the least rule that is broken.
@@ -44,7 +44,7 @@ pub fn read(alloc: Global, header: Header, body: &[u8]) -> Result<Frame, FrameFa
     })
 }
 
-/// The flag R, where an answer is wanted.
+/// The flag R, where the sender asks for an answer.
 pub fn flags(respond: bool) -> u16
     ensures value { result ≡ bit_if respond 0x80 }
     ensures fits { result < 1024 }

@@ -90,7 +90,8 @@ fn put_to_end(out: &mut Vec<u8>, bytes: &Option<Blob>)
 
 /// Appends the fields, for which there is room.
 pub fn write(out: &mut Vec<u8>, ttl: u32, count: u32, metadata: &Option<Blob>)
-    requires { vec_len out.old + length (body_of (Frame.Lease ttl count metadata.now)) ≤ vec_capacity out.old }
+    requires { vec_len out.old + length (body_of (Frame.Lease ttl count metadata.now)) ≤
+        vec_capacity out.old }
     ensures { out.new.items ≡ out.old.items ++ body_of (Frame.Lease ttl count metadata.now) }
 {
     put_u32(out, ttl);

@@ -50,7 +50,8 @@ pub fn fits(stream: u32, message: &Message) -> bool
 
 /// The flags M, F, C and N as the fields say.
 pub fn flags(follows: bool, complete: bool, next: bool, message: &Message) -> u16
-    ensures value { result ≡ bit_if (is_some message.now.metadata) 0x100 + bit_if follows 0x80 + bit_if complete 0x40 + bit_if next 0x20 }
+    ensures value { result ≡ bit_if (is_some message.now.metadata) 0x100 + bit_if follows 0x80 +
+        bit_if complete 0x40 + bit_if next 0x20 }
     ensures fits { result < 1024 }
 {
     bit(message.metadata.is_some(), METADATA)

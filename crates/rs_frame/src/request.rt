@@ -150,7 +150,8 @@ pub fn body_length(fields: &Request) -> usize
 /// Appends the fields, for which there is room.
 pub fn write(out: &mut Vec<u8>, fields: &Request)
     requires fits { FieldsFit (Frame.Request fields.now) }
-    requires has_room { vec_len out.old + length (body_of (Frame.Request fields.now)) ≤ vec_capacity out.old }
+    requires has_room { vec_len out.old + length (body_of (Frame.Request fields.now)) ≤
+        vec_capacity out.old }
     ensures { out.new.items ≡ out.old.items ++ body_of (Frame.Request fields.now) }
 {
     if let Some(n) = fields.initial {

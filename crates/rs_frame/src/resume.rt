@@ -19,6 +19,10 @@ use byteorder::{BigEndian, ByteOrder};
 use rs_wire::{Blob, OutOfMemory};
 use std::alloc::Global;
 
+/// Bytes of the numbers of a RESUME: two versions and the length of the token, of 2 each, and two
+/// positions of 8.
+pub const RESUME_NUMBERS: usize = 22;
+
 /// A RESUME that lies in its bytes.
 #[derive(Clone, Copy)]
 struct ResumeAt<'a> {
@@ -31,20 +35,21 @@ struct ResumeAt<'a> {
 
 #[tactic(auto, unfolding(crate::specs::Reading::resume_at))]
 fn find(header: Header, body: &[u8]) -> Result<ResumeAt<'_>, FrameFault>
-    ensures found { result_map_both resume_view (λ fault. fault) result ≡ resume_at header.stream body.now }
+    ensures found { result_map_both resume_view (λ fault. fault) result ≡
+        resume_at header.stream body.now }
     ensures rule { IfErr result IsRule }
 {
     if header.stream != 0 {
         return Err(FrameFault::WrongStream);
     }
-    if body.len() < 22 {
+    if body.len() < RESUME_NUMBERS {
         return Err(FrameFault::ShortBody);
     }
     let len = BigEndian::read_u16(&body[4..]) as usize;
-    if body.len() > 22 + len {
+    if body.len() > RESUME_NUMBERS + len {
         return Err(FrameFault::LongBody);
     }
-    if body.len() < 22 + len {
+    if body.len() < RESUME_NUMBERS + len {
         return Err(FrameFault::NameLength);
     }
     let server_position = u64_at(body, 6 + len);
@@ -102,7 +107,8 @@ pub fn fits(fields: &Resume) -> bool
 /// Appends the fields, for which there is room.
 pub fn write(out: &mut Vec<u8>, fields: &Resume)
     requires fits { FieldsFit (Frame.Resume fields.now) }
-    requires has_room { vec_len out.old + length (body_of (Frame.Resume fields.now)) ≤ vec_capacity out.old }
+    requires has_room { vec_len out.old + length (body_of (Frame.Resume fields.now)) ≤
+        vec_capacity out.old }
     ensures { out.new.items ≡ out.old.items ++ body_of (Frame.Resume fields.now) }
 {
     put_u16(out, fields.major);

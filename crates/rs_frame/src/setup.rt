@@ -23,6 +23,9 @@ use byteorder::{BigEndian, ByteOrder};
 use rs_wire::{Amount, Blob, OutOfMemory};
 use std::alloc::Global;
 
+/// Bytes of the numbers that a SETUP has first: two versions of 2 and two intervals of 4.
+const SETUP_NUMBERS: usize = 12;
+
 /// The flag R: a token is there.
 const RESUME: u16 = 0x80;
 
@@ -51,7 +54,8 @@ struct SetupAt<'a> {
 }
 
 fn token_at(resume: bool, bytes: &[u8]) -> Option<(Option<&[u8]>, &[u8])>
-    ensures { option_map (λ x. (option_map (λ y. y.now) x.0, x.1.now)) result ≡ token_of resume bytes.now }
+    ensures { option_map (λ x. (option_map (λ y. y.now) x.0, x.1.now)) result ≡
+        token_of resume bytes.now }
 {
     if !resume {
         return Some((None, bytes));
@@ -78,13 +82,14 @@ fn names_at(resume: bool, bytes: &[u8]) -> Option<NamesAt<'_>>
 
 #[tactic(auto, unfolding(crate::specs::Reading::setup_at))]
 fn find(header: Header, body: &[u8]) -> Result<SetupAt<'_>, FrameFault>
-    ensures found { result_map_both setup_view (λ fault. fault) result ≡ setup_at header.stream header.flags body.now }
+    ensures found { result_map_both setup_view (λ fault. fault) result ≡
+        setup_at header.stream header.flags body.now }
     ensures rule { IfErr result IsRule }
 {
     if header.stream != 0 {
         return Err(FrameFault::WrongStream);
     }
-    if body.len() < 12 {
+    if body.len() < SETUP_NUMBERS {
         return Err(FrameFault::ShortBody);
     }
     let keepalive = BigEndian::read_u32(&body[4..]);
@@ -92,7 +97,7 @@ fn find(header: Header, body: &[u8]) -> Result<SetupAt<'_>, FrameFault>
     if keepalive == 0 || lifetime == 0 {
         return Err(FrameFault::ZeroNumber);
     }
-    let Some(names) = names_at(header.has(RESUME), &body[12..]) else {
+    let Some(names) = names_at(header.has(RESUME), &body[SETUP_NUMBERS..]) else {
         return Err(FrameFault::NameLength);
     };
     let Some(parts) = parts_of(header.has(METADATA), names.rest) else {
@@ -184,7 +189,8 @@ pub fn body_length(fields: &Setup) -> usize
         None => 0,
         Some(token) => 2 + token.len(),
     };
-    12 + token
+    SETUP_NUMBERS
+        + token
         + 1
         + fields.metadata_mime.len()
         + 1
@@ -218,7 +224,8 @@ fn put_name(out: &mut Vec<u8>, name: &Blob)
 /// Appends the fields, for which there is room.
 pub fn write(out: &mut Vec<u8>, fields: &Setup)
     requires fits { FieldsFit (Frame.Setup fields.now) }
-    requires has_room { vec_len out.old + length (body_of (Frame.Setup fields.now)) ≤ vec_capacity out.old }
+    requires has_room { vec_len out.old + length (body_of (Frame.Setup fields.now)) ≤
+        vec_capacity out.old }
     ensures items { out.new.items ≡ out.old.items ++ body_of (Frame.Setup fields.now) }
 {
     put_u16(out, fields.major);

@@ -33,7 +33,8 @@ pub fn read(alloc: Global, header: Header, body: &[u8]) -> Result<Frame, FrameFa
 
 /// Whether each field is in its range, and the number is none of the standard's.
 pub fn fits(stream: u32, number: u8, flags: u16) -> bool
-    ensures { IsTrue result ↔ (stream < 2 ^ 31) × (number < 64) × (row_of number ≡ rows.Unknown) × (flags < 1024) }
+    ensures { IsTrue result ↔ (stream < 2 ^ 31) × (number < 64) ×
+        (row_of number ≡ rows.Unknown) × (flags < 1024) }
 {
     is_31(stream) && number < 64 && Row::of(u16::from(number)) == Row::Unknown && flags < 1024
 }

@@ -10,9 +10,9 @@ use Rattle.rs_wire.specs.declared.call.Call.TheVariants as call
 abbrev pub fire_and_forget : List ℕ → Call
 fire_and_forget content = call.Request kind.Fnf None (record { metadata = None; content = content }) false
 
--- an ERROR on a stream may have that code (RSocket 1.0, "Error Codes")
+-- an ERROR on a stream may have that code: APPLICATION_ERROR to INVALID, or one left to applications (RSocket 1.0, "Error Codes")
 abbrev pub is_stream_code : ℕ → Bool
-is_stream_code code = is_between 513 code 516 || is_between 769 code 4294967294
+is_stream_code code = is_between 0x201 code 0x204 || is_between 0x301 code 0xFFFFFFFE
 
 -- the responder may send items from the start: a number of them is granted with the request
 abbrev pub is_streamed : Kind → Bool

@@ -1,4 +1,4 @@
--- The words that tell a peer why: the content of the ERROR frames of a session.
+-- The words by which a peer learns why: the content of the ERROR frames of a session.
 use Rattle.std.specs.Prelude.{ℕ, List, codes}
 use Rattle.rs_wire.specs.declared.fault.Rule.{Rule}
 use Rattle.rs_wire.specs.declared.fault.Rule.TheVariants as rule

@@ -140,10 +140,10 @@ pub enum Gone {
     /// The server holds its frames only from this position, in bytes, on.
     #[error("the server holds its frames only from position {0} on")]
     ServerGone(u64),
-    /// The peer tells a position above this one, where the frames made end, in bytes.
+    /// The peer names a position above this one, where the frames made end, in bytes.
     #[error("the peer tells a position above {0}, where the frames made end")]
     Ahead(u64),
-    /// No frame ends at the position that the peer tells.
+    /// No frame ends at the position that the peer names.
     #[error("no frame ends at the position that the peer tells")]
     NotBoundary,
     /// The frames that the client holds, or that the server has handled, do not reach this

@@ -2,6 +2,7 @@
 use Rattle.std.proofs.Common.{◌≡◌, ℕ, List, [], ◌++◌, Option, refl, sym, subst, ◌∙◌, arith, true, false}
 use Rattle.rs_frame.specs.declared.frame.Frame.{Frame}
 use Rattle.rs_frame.specs.Framed.{framed_all}
+use Rattle.capture.specs.declared.lines.BadFrame.{BadFrame}
 use Rattle.capture.specs.Captured.{IsBadAt, IsCapture, all_lines}
 use Rattle.capture.specs.Text.{IsLineFault, IsTextOf, IsWrongLine}
 use Rattle.capture.specs.declared.back.LineFault.{LineFault}
@@ -29,12 +30,12 @@ frames_ran input bytes given left old new r same none (frames, capture, appended
       lines = from_empty old new (all_lines frames) none appended;
     }
 
-pub frames_bad : (input bytes given : List ℕ) (left : Option (List ℕ)) (old new : List ℕ) (place rule : ℕ) → IsReadTo 67108865 input bytes left → given ≡ bytes → old ≡ [] → ((before : List Frame) × IsBadAt given place rule before × (new ≡ old ++ all_lines before)) → HasBadCapture input left place rule new
-frames_bad input bytes given left old new place rule r same none (before, bad, appended) = record {
+pub frames_bad : (input bytes given : List ℕ) (left : Option (List ℕ)) (old new : List ℕ) (place : ℕ) (bad : BadFrame) → IsReadTo 67108865 input bytes left → given ≡ bytes → old ≡ [] → ((before : List Frame) × IsBadAt given place bad before × (new ≡ old ++ all_lines before)) → HasBadCapture input left place bad new
+frames_bad input bytes given left old new place bad r same none (before, found, appended) = record {
   read = bytes;
   is_read = r;
   before = before;
-  bad = subst (λ (b : List ℕ). IsBadAt b place rule before) same bad;
+  found = subst (λ (b : List ℕ). IsBadAt b place bad before) same found;
   lines_are = from_empty old new (all_lines before) none appended;
 }
 
@@ -58,10 +59,10 @@ back_wrong input bytes given left number r same (before, wrong) = record {
 }
 
 pub frames_stopped : (e : CaptureFault) (input bytes given : List ℕ) (left : Option (List ℕ)) (old new : List ℕ) → IsReadTo 67108865 input bytes left → given ≡ bytes → old ≡ []
-    → ((place rule : ℕ) → e ≡ captures.Frame place rule → (before : List Frame) × IsBadAt given place rule before × (new ≡ old ++ all_lines before))
+    → ((place : ℕ) (bad : BadFrame) → e ≡ captures.Frame place bad → (before : List Frame) × IsBadAt given place bad before × (new ≡ old ++ all_lines before))
     → StoppedBy (tasks.Frames false) input left (of_capture e) new
-frames_stopped (captures.Frame place rule) input bytes given left old new read same none bad = frames_bad input bytes given left old new place rule read same none (bad place rule refl)
-frames_stopped captures.OutOfMemory input bytes given left old new read same none bad = tt
+frames_stopped (captures.Frame place bad) input bytes given left old new read same none found = frames_bad input bytes given left old new place bad read same none (found place bad refl)
+frames_stopped captures.OutOfMemory input bytes given left old new read same none found = tt
 
 pub back_stopped : (e : LineFault) (input bytes given : List ℕ) (left : Option (List ℕ)) (old new : List ℕ) → IsReadTo 67108865 input bytes left → given ≡ bytes → old ≡ [] → IsLineFault given e → new ≡ old
     → StoppedBy (tasks.Frames true) input left (of_text e) new

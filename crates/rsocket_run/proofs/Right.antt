@@ -6,6 +6,7 @@ use Rattle.cable.specs.declared.script.line.Line.{Line}
 use Rattle.cable.specs.declared.script.ScriptFault.TheVariants.{Line as WrongLine}
 use Rattle.cable.specs.Line.{IsLine, IsText as IsLineText, text_of}
 use Rattle.cable.specs.Script.{IsFault, IsScript}
+use Rattle.capture.specs.declared.lines.BadFrame.{BadFrame}
 use Rattle.capture.specs.Captured.{IsBadAt}
 use Rattle.capture.specs.Text.{IsWrongLine}
 use Rattle.capture.proofs.OneWay.{either}
@@ -41,9 +42,9 @@ no_wrong_line (tasks.Frames true) input left number (frames, t) wrong =
     let same = all_read 67108865 input wrong.read left wrong.is_read (omega (arith, t.short)) in
     either_text input frames number wrong.before t (subst (λ (x : List ℕ). IsWrongLine x number wrong.before) same wrong.wrong)
 
-pub no_bad_frame : (task : Task) (input : List ℕ) (left : Option (List ℕ)) (place rule : ℕ) (lines : List ℕ) → IsRightInput task input → HasBadFrame task input left place rule lines → ⊥
-no_bad_frame tasks.Cable input left place rule lines right bad = bad
-no_bad_frame (tasks.Frames false) input left place rule lines (frames, c) bad =
-    let same = all_read 67108865 input bad.read left bad.is_read (omega (arith, c.short)) in
-    either input place rule frames bad.before c (subst (λ (x : List ℕ). IsBadAt x place rule bad.before) same bad.bad)
-no_bad_frame (tasks.Frames true) input left place rule lines right bad = bad
+pub no_bad_frame : (task : Task) (input : List ℕ) (left : Option (List ℕ)) (place : ℕ) (bad : BadFrame) (lines : List ℕ) → IsRightInput task input → HasBadFrame task input left place bad lines → ⊥
+no_bad_frame tasks.Cable input left place bad lines right found = found
+no_bad_frame (tasks.Frames false) input left place bad lines (frames, c) found =
+    let same = all_read 67108865 input found.read left found.is_read (omega (arith, c.short)) in
+    either input place bad frames found.before c (subst (λ (x : List ℕ). IsBadAt x place bad found.before) same found.found)
+no_bad_frame (tasks.Frames true) input left place bad lines right found = found

@@ -22,15 +22,15 @@ stop_wrong_line task input left (stops.WrongLine number) text old new status by 
     (text ++ wrong_line number, (number, by.0, ap (λ (t : List ℕ). t ++ wrong_line number) by.1), grind (arith, common_steps))
 stop_wrong_line task input left stops.ReadFault text old new status by t is = absurd (grind arith)
 stop_wrong_line task input left stops.OutOfMemory text old new status by t is = absurd (omega arith)
-stop_wrong_line task input left (stops.BadFrame place rule) text old new status by t is = absurd (grind arith)
+stop_wrong_line task input left (stops.BadFrame place bad) text old new status by t is = absurd (grind arith)
 
 pub stop_bad_frame : (task : Task) (input : List ℕ) (left : Option (List ℕ)) (stop : Stop) (text : List ℕ) (old new : ByteStream) (status : ℕ) → StoppedBy task input left stop text → TellsStop stop text old new status → status ≡ 11 → WritesSome (TellsBadFrame task input left) old new
 stop_bad_frame task input left stops.Usage text old new status by t is = absurd by
 stop_bad_frame task input left (stops.WrongLine number) text old new status by t is = absurd (grind arith)
 stop_bad_frame task input left stops.ReadFault text old new status by t is = absurd (grind arith)
 stop_bad_frame task input left stops.OutOfMemory text old new status by t is = absurd (omega arith)
-stop_bad_frame task input left (stops.BadFrame place rule) text old new status by t is =
-    (text ++ bad_frame_line place rule, (place, rule, text, by, refl), grind (arith, common_steps))
+stop_bad_frame task input left (stops.BadFrame place bad) text old new status by t is =
+    (text ++ bad_frame_line place bad, (place, bad, text, by, refl), grind (arith, common_steps))
 
 pub stop_cut_off : (task : Task) (text : List ℕ) (input input' : ByteStream) (fresh : Option (List Entry)) (shelf shelf' : List (Option (List Entry))) (stop : Stop) (out : List ℕ) (old new : ByteStream) (status : ℕ) → input'.faults ≡ faults_after_work (Err stop) input.faults → StoppedBy task text input'.told stop out → TellsStop stop out old new status → status ≡ 5 → CutsOffSome (IsDue task text input input' fresh shelf shelf') old new
 stop_cut_off task text input input' fresh shelf shelf' stops.Usage out old new status faults by t is = absurd by
@@ -39,8 +39,8 @@ stop_cut_off task text input input' fresh shelf shelf' (stops.WrongLine number) 
 stop_cut_off task text input input' fresh shelf shelf' stops.ReadFault out old new status faults by (inl told) is = let f = told.0 in cc
 stop_cut_off task text input input' fresh shelf shelf' stops.ReadFault out old new status faults by (inr cut_off) is = (read_fault_line, inr (inr (inr (faults, refl))), cut_off.1)
 stop_cut_off task text input input' fresh shelf shelf' stops.OutOfMemory out old new status faults by t is = let f = t.0 in cc
-stop_cut_off task text input input' fresh shelf shelf' (stops.BadFrame place rule) out old new status faults by t is =
-    (out ++ bad_frame_line place rule, inr (inl (place, rule, out, by, refl)), cut 11 _ old new status (λ e. cc) t is)
+stop_cut_off task text input input' fresh shelf shelf' (stops.BadFrame place bad) out old new status faults by t is =
+    (out ++ bad_frame_line place bad, inr (inl (place, bad, out, by, refl)), cut 11 _ old new status (λ e. cc) t is)
 
 rose_once : (old new : ℕ) → new ≡ one_more old → Rose old new
 rose_once old new is = ⊎_elim (λ below. inl (omega (arith, below, is))) (λ above. inr (omega (arith, above, is))) (cases_lt old (2 ^ 64 - 1))
@@ -51,4 +51,4 @@ stop_right task input left stops.Usage before after text old new status by fault
 stop_right task input left (stops.WrongLine number) before after text old new status by faults t right quiet = absurd (no_wrong_line task input left number right by.0)
 stop_right task input left stops.ReadFault before after text old new status by faults t right quiet = absurd (quiet (rose_once before after faults))
 stop_right task input left stops.OutOfMemory before after text old new status by faults t right quiet = inr t.0
-stop_right task input left (stops.BadFrame place rule) before after text old new status by faults t right quiet = absurd (no_bad_frame task input left place rule text right by)
+stop_right task input left (stops.BadFrame place bad) before after text old new status by faults t right quiet = absurd (no_bad_frame task input left place bad text right by)

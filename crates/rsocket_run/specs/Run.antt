@@ -11,6 +11,10 @@ use Rattle.cable.specs.declared.script.ScriptFault.TheVariants.{Line as WrongLin
 use Rattle.cable.specs.Shelves.{GotTapes, Reports}
 use Rattle.capture.specs.Captured.{IsBadAt, IsCapture, all_lines}
 use Rattle.capture.specs.Text.{IsTextOf, IsWrongLine}
+use Rattle.capture.specs.declared.lines.BadFrame.{BadFrame}
+use Rattle.capture.specs.declared.lines.BadFrame.TheVariants as bads
+use Rattle.rs_frame.specs.Rules.{number_of_rule}
+use Rattle.std.specs.Option.{unwrap_or}
 use Rattle.command_line.specs.Words.{Asks}
 use Rattle.command_line.specs.declared.task.Task.{Task}
 use Rattle.command_line.specs.declared.task.Task.TheVariants as tasks
@@ -24,8 +28,13 @@ usage_line = codes "rsocket: usage" ++ 10 ∷ []
 abbrev pub wrong_line : ℕ → List ℕ
 wrong_line number = codes "rsocket: script line " ++ (decimal number ++ 10 ∷ [])
 
-abbrev pub bad_frame_line : ℕ → ℕ → List ℕ
-bad_frame_line place rule = codes "rsocket: frame at " ++ (decimal place ++ (codes " rule " ++ (decimal rule ++ 10 ∷ [])))
+-- the number in the line of a frame that can't be read: that of the least rule that it breaks, or 0 where it is not whole
+abbrev pub number_of_bad : BadFrame → ℕ
+number_of_bad (bads.Breaks fault) = unwrap_or (number_of_rule fault) 0
+number_of_bad bads.NotWhole = 0
+
+abbrev pub bad_frame_line : ℕ → BadFrame → List ℕ
+bad_frame_line place bad = codes "rsocket: frame at " ++ (decimal place ++ (codes " rule " ++ (decimal (number_of_bad bad) ++ 10 ∷ [])))
 
 abbrev pub read_fault_line : List ℕ
 read_fault_line = codes "rsocket: read fault" ++ 10 ∷ []
@@ -82,17 +91,17 @@ HasWrongLine (tasks.Frames false) input left number = ⊥
 HasWrongLine (tasks.Frames true) input left number = HasWrongText input left number
 
 -- the frame at this place is the first that can't be read; these are the lines of the frames before it
-pub record HasBadCapture (input : List ℕ) (left : Option (List ℕ)) (place rule : ℕ) (lines : List ℕ) : Type 0 where
+pub record HasBadCapture (input : List ℕ) (left : Option (List ℕ)) (place : ℕ) (bad : BadFrame) (lines : List ℕ) : Type 0 where
   pub read : List ℕ
   pub is_read : IsReadTo 67108865 input read left
   pub before : List Frame
-  pub bad : IsBadAt read place rule before
+  pub found : IsBadAt read place bad before
   pub lines_are : lines ≡ all_lines before
 
-abbrev pub HasBadFrame : Task → List ℕ → Option (List ℕ) → ℕ → ℕ → List ℕ → Type 0
-HasBadFrame tasks.Cable input left place rule lines = ⊥
-HasBadFrame (tasks.Frames false) input left place rule lines = HasBadCapture input left place rule lines
-HasBadFrame (tasks.Frames true) input left place rule lines = ⊥
+abbrev pub HasBadFrame : Task → List ℕ → Option (List ℕ) → ℕ → BadFrame → List ℕ → Type 0
+HasBadFrame tasks.Cable input left place bad lines = ⊥
+HasBadFrame (tasks.Frames false) input left place bad lines = HasBadCapture input left place bad lines
+HasBadFrame (tasks.Frames true) input left place bad lines = ⊥
 
 -- nothing is wrong with the input
 abbrev pub IsRightInput : Task → List ℕ → Type 0
@@ -104,7 +113,7 @@ IsRightInput (tasks.Frames true) input = (frames : List Frame) × IsTextOf input
 
 -- the lines of the frames before the first bad one, and the line that tells it
 abbrev pub TellsBadFrame : Task → List ℕ → Option (List ℕ) → List ℕ → Type 0
-TellsBadFrame task input left out = (place rule : ℕ) × (lines : List ℕ) × HasBadFrame task input left place rule lines × (out ≡ lines ++ bad_frame_line place rule)
+TellsBadFrame task input left out = (place : ℕ) × (bad : BadFrame) × (lines : List ℕ) × HasBadFrame task input left place bad lines × (out ≡ lines ++ bad_frame_line place bad)
 
 -- the line that tells the first wrong one
 abbrev pub TellsWrongLine : Task → List ℕ → Option (List ℕ) → List ℕ → Type 0

@@ -26,7 +26,7 @@ StoppedBy task input left stops.Usage text = ⊥
 StoppedBy task input left (stops.WrongLine number) text = HasWrongLine task input left number × (text ≡ [])
 StoppedBy task input left stops.ReadFault text = Unit {0}
 StoppedBy task input left stops.OutOfMemory text = Unit {0}
-StoppedBy task input left (stops.BadFrame place rule) text = HasBadFrame task input left place rule text
+StoppedBy task input left (stops.BadFrame place bad) text = HasBadFrame task input left place bad text
 
 -- the run ended with this status and wrote all of the text; or a write failed, and a prefix of it is written; or memory
 -- ran out, and just the line of that is written
@@ -40,7 +40,7 @@ TellsStop stops.Usage text old new result = (result ≡ 2) × WritesLine usage_l
 TellsStop (stops.WrongLine number) text old new result = IsTold 3 (text ++ wrong_line number) old new result
 TellsStop stops.ReadFault text old new result = ((result ≡ 4) × Writes read_fault_line old new) ⊎ ((result ≡ 5) × CutOff read_fault_line old new)
 TellsStop stops.OutOfMemory text old new result = (result ≡ 6) × WritesLine memory_line old new
-TellsStop (stops.BadFrame place rule) text old new result = IsTold 11 (text ++ bad_frame_line place rule) old new result
+TellsStop (stops.BadFrame place bad) text old new result = IsTold 11 (text ++ bad_frame_line place bad) old new result
 
 -- the count of failed reads once work ended so
 abbrev pub faults_after_work : Result Unit Stop → ℕ → ℕ
@@ -49,7 +49,7 @@ faults_after_work (Err stops.Usage) faults = faults
 faults_after_work (Err (stops.WrongLine number)) faults = faults
 faults_after_work (Err stops.ReadFault) faults = one_more faults
 faults_after_work (Err stops.OutOfMemory) faults = faults
-faults_after_work (Err (stops.BadFrame place rule)) faults = faults
+faults_after_work (Err (stops.BadFrame place bad)) faults = faults
 
 -- the count of failed reads once the input was read, or was not
 abbrev pub faults_after_reading : {X : Type 0} → Result X Unread → ℕ → ℕ
@@ -87,7 +87,7 @@ of_script (scripts.Line number) = stops.WrongLine number
 of_script scripts.OutOfMemory = stops.OutOfMemory
 
 abbrev pub of_capture : CaptureFault → Stop
-of_capture (captures.Frame place rule) = stops.BadFrame place rule
+of_capture (captures.Frame place bad) = stops.BadFrame place bad
 of_capture captures.OutOfMemory = stops.OutOfMemory
 
 abbrev pub of_text : LineFault → Stop

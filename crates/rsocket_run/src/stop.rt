@@ -6,7 +6,7 @@ ghost use Rattle.rsocket_run.specs.declared.stop.Stop.TheVariants as stops;
 
 use crate::input::Unread;
 use cable::ScriptFault;
-use capture::{CaptureFault, LineFault};
+use capture::{BadFrame, CaptureFault, LineFault};
 use command_line::WordsFault;
 use rs_wire::OutOfMemory;
 
@@ -23,8 +23,8 @@ pub enum Stop {
     /// Status 6: there was not enough memory.
     OutOfMemory,
     /// Status 11: the frame whose length field begins at `place`, in bytes from 0, is the first
-    /// that can't be read. `rule` is the least that it breaks, or 0 where the input ends in it.
-    BadFrame { place: u32, rule: u8 },
+    /// that can't be read.
+    BadFrame { place: u32, bad: BadFrame },
 }
 
 impl From<OutOfMemory> for Stop {
@@ -73,7 +73,7 @@ impl From<CaptureFault> for Stop {
 
     fn from(fault: CaptureFault) -> Stop {
         match fault {
-            CaptureFault::Frame { place, rule } => Stop::BadFrame { place, rule },
+            CaptureFault::Frame { place, bad } => Stop::BadFrame { place, bad },
             CaptureFault::OutOfMemory => Stop::OutOfMemory,
         }
     }

@@ -1,14 +1,16 @@
 //! How the end of a run is told.
 
 ghost use Rattle.std.specs.Prelude.{◌≡◌, ◌⊎◌, ◌++◌, OnOk, decimal};
-ghost use Rattle.rsocket_run.specs.Run.{bad_frame_line, memory_line, wrong_line};
+ghost use Rattle.rsocket_run.specs.Run.{bad_frame_line, memory_line, number_of_bad, wrong_line};
 ghost use Rattle.rsocket_run.specs.Stops.{IsTold, TellsStop};
 ghost use Rattle.rsocket_run.specs.Streams.{CutOff, Writes, WritesLine};
 
 use crate::output::write_all;
 use crate::stop::Stop;
+use capture::BadFrame;
 use outside::Sink;
 use plain_text::write_number;
+use rs_frame::rule_number;
 use rs_wire::OutOfMemory;
 
 /// The status of a run whose output could not be written.
@@ -50,13 +52,23 @@ fn put_wrong_line(text: &mut Vec<u8>, number: u32) -> Result<(), OutOfMemory>
     Ok(())
 }
 
-fn put_bad_frame(text: &mut Vec<u8>, place: u32, rule: u8) -> Result<(), OutOfMemory>
-    ensures { OnOk result (text.new.items ≡ text.old.items ++ bad_frame_line place rule) }
+// The number in the line of a frame that can't be read.
+fn number_of_bad(bad: BadFrame) -> u8
+    ensures { result ≡ number_of_bad bad }
+{
+    match bad {
+        BadFrame::Breaks(fault) => rule_number(fault).unwrap_or(0),
+        BadFrame::NotWhole => 0,
+    }
+}
+
+fn put_bad_frame(text: &mut Vec<u8>, place: u32, bad: BadFrame) -> Result<(), OutOfMemory>
+    ensures { OnOk result (text.new.items ≡ text.old.items ++ bad_frame_line place bad) }
 {
     text.extend_from_slice(b"rsocket: frame at ")?;
     write_number(text, place.into())?;
     text.extend_from_slice(b" rule ")?;
-    write_number(text, rule.into())?;
+    write_number(text, number_of_bad(bad).into())?;
     text.push(b'\n')?;
     Ok(())
 }
@@ -83,7 +95,7 @@ pub fn tell_stop<O: Sink>(output: &mut O, text: &mut Vec<u8>, stop: Stop) -> u8
         },
         Stop::ReadFault => say(output, b"rsocket: read fault\n", 4),
         Stop::OutOfMemory => tell_out_of_memory(output),
-        Stop::BadFrame { place, rule } => match put_bad_frame(text, place, rule) {
+        Stop::BadFrame { place, bad } => match put_bad_frame(text, place, bad) {
             Ok(()) => say(output, text, 11),
             Err(OutOfMemory) => tell_out_of_memory(output),
         },

@@ -6,3 +6,6 @@ pub mod Seen
 pub mod Sound
 pub mod Outgoing
 pub mod Prepared
+pub mod Came
+pub mod Asked
+pub mod Speaking

@@ -1,11 +1,11 @@
--- The frame of a call that starts a stream.
-use Rattle.std.specs.Prelude.{ℕ, List, [], ◌∷◌}
-use Rattle.rs_wire.specs.declared.call.Call.{Call}
-use Rattle.rs_wire.specs.declared.call.Call.TheVariants as call
+-- The frames of a call that is accepted.
+use Rattle.std.specs.Prelude.{ℕ, List, [], option_to_list}
 use Rattle.rs_frame.specs.declared.frame.Frame.{Frame}
-use Rattle.session_model.specs.Frames.{request_frame}
+use Rattle.tape.specs.declared.event.Event.{Event}
+use Rattle.tape.specs.declared.event.Event.TheVariants as event
+use Rattle.stream_model.specs.Known.{Known}
+use Rattle.session_model.specs.Frames.{spoken}
 
--- the frame of a request that is started on a stream
-abbrev pub starts : ℕ → Call → List Frame
-starts id (call.Request kind initial message complete) = request_frame id kind initial message complete ∷ []
-starts id _ = []
+abbrev pub called : Known → ℕ → Event → List Frame
+called t id (event.Asked asked) = option_to_list (spoken t id asked)
+called t id _ = []

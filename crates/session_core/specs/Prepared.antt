@@ -9,6 +9,9 @@ use Rattle.tape.specs.declared.answer.Answer.{Answer}
 use Rattle.tape.specs.declared.answer.Answer.TheVariants as answer
 use Rattle.session_model.specs.Life.{is_carrying, live_after, setup_in}
 use Rattle.session_model.specs.Frames.{makes, lines_up}
+use Rattle.stream_model.specs.Known.{limits_of}
+use Rattle.interactions.specs.Seen.{known_to}
+use Rattle.session_core.specs.Speaking.{arrival_for}
 use Rattle.session_core.specs.declared.state.State.{State}
 use Rattle.session_core.specs.declared.state.Prepared.{Prepared}
 
@@ -19,13 +22,14 @@ lined_on live bytes = if is_carrying live then bytes else []
 -- these need memory, and the state does not change by them
 pub record AreReady (g : Settings) (old : State) (e : Event) (a : Answer) (p : Prepared) : Type 0 where
   pub setup : p.setup ≡ setup_in a e
-  pub made : p.made.items ≡ makes g old.streams a e
+  pub made : p.made.items ≡ makes g (known_to old.streams) a e
+  pub arrival : p.arrival ≡ arrival_for a e
   pub spellable : AllByRecursion IsSpellable p.made.items
   pub before : p.before ≡ length old.queue
 
 -- what the event puts in line stands after what waits
 abbrev pub with_line : Settings → State → Event → Answer → State
-with_line g old e a = record old { queue = old.queue ++ lined_on (live_after a old.live) (framed_all (lines_up g old.streams a e)) }
+with_line g old e a = record old { queue = old.queue ++ lined_on (live_after a old.live) (framed_all (lines_up g (known_to old.streams) a e)) }
 
 -- what stays in line: on an opened connection what was put in line for it, on a parted one nothing
 abbrev pub left_in_line : Answer → ℕ → List ℕ → List ℕ
@@ -34,8 +38,8 @@ left_in_line answer.Parted before queue = []
 left_in_line _ before queue = queue
 
 -- a session of which nothing happened yet
-abbrev pub nothing_yet : State
-nothing_yet = record {
+abbrev pub nothing_yet : Settings → State
+nothing_yet g = record {
   openings = 0;
   live = 0;
   begun = false;
@@ -43,6 +47,6 @@ nothing_yet = record {
   closed = None;
   made = record { frames = 0; position = 0 };
   handled = record { frames = 0; position = 0 };
-  streams = record { own = 0; peer = 0 };
+  streams = record { limits = limits_of g; marks = []; ready = None };
   queue = [];
 }

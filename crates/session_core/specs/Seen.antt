@@ -35,6 +35,10 @@ IsUnlessWant answer.TapeFull right = Unit {0}
 IsUnlessWant answer.OutOfMemory right = Unit {0}
 IsUnlessWant a right = a ≡ right
 
+abbrev pub IsCutEvent : Event → Type 0
+IsCutEvent (event.Cut conn) = Unit {0}
+IsCutEvent _ = ⊥
+
 abbrev pub IsNoDrawEvent : Event → Type 0
 IsNoDrawEvent (event.Draw conn room) = ⊥
 IsNoDrawEvent _ = Unit {0}

@@ -21,5 +21,3 @@ pub record IsSound (g : Settings) (s : State) (past : List Entry) (told : Option
   pub openings : s.openings ≤ count
   pub made : InRange s.made g.top_position
   pub handled : InRange s.handled g.top_position
-  pub own : s.streams.own < 2 ^ 31
-  pub peer : s.streams.peer < 2 ^ 31

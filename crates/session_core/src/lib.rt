@@ -4,12 +4,43 @@
 //! [`Session::step`] and [`Session::draw`] is the one that the definitions of `session_model` give
 //! for the entries before it, each leaves its entry, and the bytes drawn are those of the frames due
 //! on the connection (RSocket 1.0, "Setup", "Request", "Framing Protocol Usage"). It holds over every
-//! tape, also over one that tells nothing. An event costs what it carries.
+//! tape, also over one that shows nothing. An event costs what it carries.
 //!
-//! Built are SETUP and REQUEST_FNF: resumption, leases, fragments and the other interactions are
-//! left out, and frames that belong to them are answered as ones that may not come now.
+//! Two ends in one process, from the program `examples_hello`; its function `end` makes a session
+//! with the defaults of its side:
+//!
+//! ```
+//! let mut client = end(alloc, Side::Client)?;
+//! let mut server = end(alloc, Side::Server)?;
+//!
+//! // The client opens connection 1 and asks; its bytes wait in its queue.
+//! println!(rt; "client: {:?}", client.step(0, &Event::opening()))?;
+//! let call = Call::fire_and_forget(Blob::from_slice(alloc, b"hi")?);
+//! println!(rt; "client: {:?}", client.step(0, &Event::Asked(call)))?;
+//! let mut buffer = [0; 1024];
+//! println!(rt; "client: {:?}", client.draw(0, 1, &mut buffer))?;
+//!
+//! // The bytes cross, and the server gets the frames in them.
+//! let (setup, rest) = split_frame(&buffer).context("no SETUP")?;
+//! let (request, _) = split_frame(rest).context("no request")?;
+//! let opened = Event::opened_by(decode(alloc, setup)?);
+//! println!(rt; "server: {:?}", server.step(0, &opened))?;
+//! let arrived = Event::arrived(1, decode(alloc, request)?);
+//! println!(rt; "server: {:?}", server.step(0, &arrived))?;
+//! ```
+//!
+//! It writes `client: Opened(1)`, `client: Started(1)`, `client: Drawn(82)`, `server: Opened(1)`
+//! and `server: Handled`, a line each.
+//!
+//! Built are SETUP and the four interactions with credit, cancel and errors; frames of unknown types are
+//! ignored where they may be. Resumption, leases, keepalive, metadata push and fragments are left out,
+//! and frames that belong to them are answered as ones that may not come now. [`refusal_frame`] is what
+//! a server gives on a connection that it refuses.
 #![tactic(auto)]
 
+mod arrivals;
+mod asked;
+mod came;
 mod counting;
 mod counts;
 mod history;
@@ -18,6 +49,7 @@ mod outgoing;
 mod queue;
 mod refusal;
 mod session;
+mod speak;
 mod state;
 
 pub use counts::Counts;

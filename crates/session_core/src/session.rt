@@ -7,16 +7,16 @@ ghost use Rattle.tape.specs.Told.{entry_of};
 ghost use Rattle.session_model.specs.Life.{carrying, closed, live, setup};
 ghost use Rattle.session_model.specs.Frames.{drawn, due, queued};
 ghost use Rattle.session_model.specs.Answers.{answer_to};
-ghost use Rattle.session_model.specs.Legal.{Fair, IsFair, IsPlain, LeavesEntry, Legal};
-ghost use Rattle.session_core.specs.Queued.{IfDrawn, IsOfDraw, IsUntouched};
-ghost use Rattle.session_core.specs.Seen.{IsNoDrawEvent, IsUnlessWant, counts_of, entries_after, told_by};
+ghost use Rattle.session_model.specs.Legal.{CanBring, Fair, IsFair, IsPlain, LeavesEntry, Legal};
+ghost use Rattle.session_core.specs.Queued.{IfDrawn, IsBrief, IsOfCut, IsOfDraw, IsUntouched};
+ghost use Rattle.session_core.specs.Seen.{IsCutEvent, IsNoDrawEvent, IsUnlessWant, counts_of, entries_after, told_by};
 
 use crate::counts::Counts;
 use crate::history::History;
-use crate::judge::{judge, judge_draw};
+use crate::judge::{judge, judge_cut, judge_draw};
 use crate::state::State;
 use rs_frame::Setup;
-use rs_wire::{Cause, Checked, OutOfMemory};
+use rs_wire::{Call, Cause, Checked, OutOfMemory};
 use std::alloc::Global;
 use std::marker::Model;
 use tape::{Answer, Entry, Event, Tape};
@@ -53,13 +53,31 @@ impl<T: Tape> Model for Session<T> {
         IsSound s.settings s.state s.history (T.told s.tape) (T.count s.tape) };
 }
 
-// The answer to a draw that leaves an entry, again.
+// The amounts that an event brings each have their range.
+fn amounts_fit(settings: &Checked, event: &Event)
+    requires brings { CanBring settings.now event.now }
+    ensures fair { IsFair settings.now event.now }
+{
+    if let Event::Asked(
+        Call::Request {
+            initial: Some(n),
+            ..
+        }
+        | Call::Grant { n, .. },
+    ) = event
+    {
+        let _granted = n.get();
+    }
+}
+
+// The answer to a draw or a cut that leaves an entry, again.
 fn answered_again(answer: &Answer) -> Answer
-    requires { IsOfDraw answer.now }
+    requires { IsBrief answer.now }
     ensures { result ≡ answer.now }
 {
     match answer {
         Answer::Drawn(count) => Answer::Drawn(*count),
+        Answer::Parted => Answer::Parted,
         Answer::Stale(live) => Answer::Stale(*live),
         _ => unreachable!(),
     }
@@ -80,22 +98,26 @@ impl<T: Tape> Session<T> {
         }) }
         ensures back { IfErr result (λ e. e.0 ≡ tape) }
     {
-        Ok(Session {
-            alloc,
-            settings,
-            state: State::new(alloc),
-            history: History::new(),
-            tape,
-        })
+        match State::new(alloc, &settings) {
+            Ok(state) => Ok(Session {
+                alloc,
+                settings,
+                state,
+                history: History::new(),
+                tape,
+            }),
+            Err(error) => Err((tape, error)),
+        }
     }
 
     /// Answers an event, which is no draw, and notes it on the tape for the caller `who`. An opening
     /// has a first frame exactly on a server, and frames can be spelled.
     ///
     /// `TapeFull` comes exactly where there are 2^63 entries. `OutOfMemory` may come in place of any
-    /// answer that leaves an entry. These two, `NotYet` and `OutBusy` leave all as it was.
+    /// answer that leaves an entry, but at a cut only where there is no spare. These two, `NotYet` and
+    /// `OutBusy` leave all as it was.
     pub fn step(&mut self, who: u32, event: &Event) -> Answer
-        requires fair { IsFair self.old.settings event.now }
+        requires fair { CanBring self.old.settings event.now }
         requires no_draw { IsNoDrawEvent event.now }
         ensures answer { IsUnlessWant result
             (answer_to self.old.settings self.old.entries event.now) }
@@ -104,19 +126,69 @@ impl<T: Tape> Session<T> {
           entries = entries_after who event.now result self.old.entries;
           spare = self.new.spare;
         } }
+        ensures memory { IsCutEvent event.now → 0 < self.old.spare → result ≢ Answer.OutOfMemory }
         ensures spare { self.old.spare ≤ self.new.spare + 1 }
     {
         if self.tape.count() >= FULL {
             return Answer::TapeFull;
         }
-        let answer = judge(&self.settings, &self.state, event);
+        if let Event::Cut { conn } = event {
+            return self.cut(who, *conn);
+        }
+        let Ok(answer) = judge(self.alloc, &self.settings, &self.state, event) else {
+            return Answer::OutOfMemory;
+        };
         if !answer.leaves_entry() {
             return answer;
         }
+        amounts_fit(&self.settings, event);
         match self.note(who, event, &answer) {
             Ok(()) => answer,
             Err(OutOfMemory) => Answer::OutOfMemory,
         }
+    }
+
+    // The answer to a cut, applied.
+    fn cut(&mut self, who: u32, conn: u64) -> Answer
+        requires not_full { length self.old.entries < 2 ^ 63 }
+        ensures answer { IsUnlessWant result
+            (answer_to self.old.settings self.old.entries (Event.Cut conn)) }
+        ensures not_full { result ≢ Answer.TapeFull }
+        ensures after { self.new ≡ record self.old {
+          entries = entries_after who (Event.Cut conn) result self.old.entries;
+          spare = self.new.spare;
+        } }
+        ensures memory { 0 < self.old.spare → result ≢ Answer.OutOfMemory }
+        ensures spare { self.old.spare ≤ self.new.spare + 1 }
+    {
+        let answer = judge_cut(&self.state, conn);
+        if self.tape.reserve(1).is_err() {
+            return Answer::OutOfMemory;
+        }
+        self.part(who, conn, answer)
+    }
+
+    // Applies a cut and its answer.
+    fn part(&mut self, who: u32, conn: u64, answer: Answer) -> Answer
+        requires not_full { length self.old.entries < 2 ^ 63 }
+        requires spare { 0 < self.old.spare }
+        requires of_cut { IsOfCut answer }
+        requires is { answer ≡
+            answer_to self.old.settings self.old.entries (Event.Cut conn) }
+        ensures answer { result ≡ answer }
+        ensures after { self.new ≡ record self.old {
+          entries = entry_of who (Event.Cut conn) answer ∷ self.old.entries;
+          spare = self.new.spare;
+        } }
+        ensures used { self.old.spare ≤ self.new.spare + 1 }
+    {
+        let event = Event::Cut { conn };
+        let prepared = self.state.nothing_more(self.alloc);
+        self.state.act(&self.settings, &event, &answer, prepared);
+        let again = answered_again(&answer);
+        self.history.note(who, &event, &answer);
+        self.tape.push(Entry { who, event, answer });
+        again
     }
 
     // Applies the event and its answer.
@@ -145,7 +217,7 @@ impl<T: Tape> Session<T> {
         Ok(())
     }
 
-    /// Makes spare for one more entry. After it a [`Session::draw`] takes no memory.
+    /// Makes spare for one more entry. After it a [`Session::draw`] and a cut take no memory.
     pub fn reserve(&mut self) -> Result<(), OutOfMemory>
         ensures same { self.new ≡ record self.old { spare = self.new.spare } }
         ensures spare { OnOk result (0 < self.new.spare) }

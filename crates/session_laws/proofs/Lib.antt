@@ -8,3 +8,5 @@ pub mod Refused
 pub mod Due
 pub mod Got
 pub mod Crossing
+pub mod Lawful
+pub mod OwnEnds

@@ -1,16 +1,17 @@
 -- The one opening that is accepted, and what is not there before an opening.
-use Rattle.std.proofs.Common.{◌≡◌, ◌≤◌, ◌<◌, ℕ, true, false, List, [], ◌∷◌, None, refl, arith}
+use Rattle.std.proofs.Common.{◌≡◌, ◌≤◌, ◌<◌, ◌||◌, ℕ, Bool, true, false, List, [], ◌∷◌, None, refl, arith}
 use Rattle.std.proofs.lemmas.Grind.{common_steps}
 use Rattle.rs_wire.specs.declared.settings.Settings.{Settings}
 use Rattle.tape.specs.declared.answer.Answer.{Answer}
 use Rattle.tape.specs.declared.answer.Answer.TheVariants as answer
 use Rattle.tape.specs.declared.entry.Entry.{Entry}
-use Rattle.session_model.specs.Life.{begun, closed, live, openings}
+use Rattle.session_model.specs.Life.{begun, closed, is_opened, live, openings}
 use Rattle.session_model.specs.Frames.{made, handled, came, first_bad}
 use Rattle.session_model.specs.Answers.{facts}
 use Rattle.session_model.specs.Legal.{Legal}
 use Rattle.session_model.specs.Joined.{is_accepted}
 use Rattle.session_model.proofs.Meaning.{last_means}
+use Rattle.session_model.proofs.Silent.{silent_before}
 use Rattle.session_laws.proofs.Agreed.{no_resumption}
 
 abbrev pub accepted_after : Answer → ℕ → ℕ
@@ -35,11 +36,23 @@ unfolding begun is_accepted
 fresh_accepted [] c f = refl
 fresh_accepted (x ∷ past) c f = grind (arith, common_steps, fresh_accepted past c)
 
+-- no connection is live
+fresh_live : (past : List Entry) → begun past ≡ false → live past ≡ 0
+unfolding begun live
+fresh_live [] f = refl
+fresh_live (x ∷ past) f = grind (arith, common_steps, fresh_live past)
+
+not_begun : (before opened : Bool) → (before || opened) ≡ false → before ≡ false
+not_begun false opened f = refl
+not_begun true opened f = absurd (cc)
+
 -- nothing is made
 pub fresh_made : (g : Settings) (past : List Entry) → Legal g past → begun past ≡ false → made g past ≡ []
 unfolding Legal begun made facts
 fresh_made g [] legal f = refl
-fresh_made g (x ∷ past) legal f = grind (arith, common_steps, last_means g x past legal, fresh_made g past legal.0)
+fresh_made g (x ∷ past) legal f =
+    let fresh = not_begun (begun past) (is_opened x.answer) f in
+    rw (fresh_made g past legal.0 fresh) (silent_before g (facts g past) x.event x.answer (last_means g x past legal) fresh (fresh_live past fresh))
 
 -- ---- the opening that is accepted
 

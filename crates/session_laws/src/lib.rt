@@ -1,24 +1,31 @@
 //! The laws of a session, proved from its definitions alone.
 //!
-//! Each function here does nothing: its clauses are laws of the entries of one end (`one_end`), or
-//! of two ends whose bytes crossed (`two_ends`), for sessions without resumption, leases and
-//! fragments. The frames that count are those of streams, and positions count their bytes
-//! (RSocket 1.0, "Resuming Operation").
+//! Each function here does nothing: its clauses are laws of the entries of one end (`one_end`), of
+//! its streams (`streams`), or of two ends whose bytes crossed (`two_ends`), for sessions without
+//! resumption, leases and fragments. The frames that count are those of streams, and positions
+//! count their bytes (RSocket 1.0, "Resuming Operation").
 //!
 //! The promise to the layers above: what holds here holds of every list of entries that the core
 //! leaves, since each of them is legal, and fair where the caller keeps the conditions of events.
 //! First of all, what an end has handled is a prefix of what the other made, in order, with nothing
-//! lost and nothing twice.
+//! lost and nothing twice; and no stream carries more items than were granted, or delivers after
+//! its end.
 //!
 //! Left out: how the entries come about (the core), and what only time decides, such as that all
 //! that is due comes in the end.
 #![tactic(auto)]
 
 mod one_end;
+mod streams;
 mod two_ends;
 
 pub use one_end::{
     closed_stays_closed, frames_are_spellable, frames_only_grow, nothing_more_is_agreed,
     queued_is_what_is_left, seen_is_made_and_handled,
+};
+pub use streams::{
+    a_response_carries_one_payload, a_stream_delivers_one_end, items_stay_within_credit,
+    nothing_is_taken_after_an_own_end, over_is_for_good, streams_stay_within_their_limit,
+    taken_is_what_was_delivered_first, what_came_before_is_lawful,
 };
 pub use two_ends::{drained_is_equal, handled_begins_made, handled_is_a_boundary};

@@ -1,11 +1,12 @@
 -- The answer to an event, after the entries so far.
-use Rattle.std.specs.Prelude.{ℕ, ◌+◌, ◌==◌, ◌&&◌, Bool, true, false, not, nat_lt, min, if◌then◌else◌, List, [], ◌∷◌, length, Option, Some, None}
+use Rattle.std.specs.Prelude.{ℕ, ◌+◌, ◌==◌, ◌&&◌, ◌||◌, Bool, true, not, nat_lt, min, if◌then◌else◌, List, [], ◌∷◌, length, Option, Some, None}
+use Rattle.std.specs.Option.{option_or, option_map}
 use Rattle.rs_wire.specs.Message.{size_of}
 use Rattle.rs_wire.specs.Ranges.{first_true}
 use Rattle.rs_wire.specs.Settings.{out_limit_of}
 use Rattle.rs_wire.specs.declared.message.Message.{Message}
-use Rattle.rs_wire.specs.declared.words.Kind.{Kind}
-use Rattle.rs_wire.specs.declared.words.Kind.TheVariants as kind
+use Rattle.rs_wire.specs.declared.delivery.Delivery.{Delivery}
+use Rattle.rs_wire.specs.declared.delivery.Job.{Job}
 use Rattle.rs_wire.specs.declared.fault.Cause.{Cause}
 use Rattle.rs_wire.specs.declared.fault.Refusal.{Refusal}
 use Rattle.rs_wire.specs.declared.fault.Refusal.TheVariants as refusal
@@ -29,12 +30,14 @@ use Rattle.tape.specs.declared.answer.Answer.{Answer}
 use Rattle.tape.specs.declared.answer.Answer.TheVariants as answer
 use Rattle.tape.specs.declared.entry.Entry.{Entry}
 use Rattle.position.specs.Boundaries.{pos}
+use Rattle.stream_model.specs.Known.{Known, limits_of, next_id, is_peers_next, hears_on, front_of}
+use Rattle.stream_model.specs.Refused.{by_state, by_credit, by_ids, by_live}
+use Rattle.stream_model.specs.Arriving.{over_credit_on}
 use Rattle.session_model.specs.Life.{openings, live, is_live, carrying, begun, setup, closed}
 use Rattle.session_model.specs.declared.facts.Counted.{Counted}
-use Rattle.session_model.specs.declared.facts.Known.{Known}
 use Rattle.session_model.specs.declared.numbers.TheConstants.{ANSWER_ROOM, EXTENSION, MAY_IGNORE}
-use Rattle.session_model.specs.Streams.{known, next_id, is_peers_next}
-use Rattle.session_model.specs.Frames.{request_frame, closing_error, made, handled, queued}
+use Rattle.session_model.specs.Streams.{known, is_turned_away}
+use Rattle.session_model.specs.Frames.{closing_error, turned_away, spoken, made, handled, queued}
 
 -- how many frames there are, and the position after them
 abbrev pub counted : List Frame → Counted
@@ -115,26 +118,39 @@ abbrev pub unless_error : Option ℕ → Answer → Answer
 unless_error (Some code) next = answer.PeerError code
 unless_error None next = next
 
--- a request that this end knows: a whole fire-and-forget
-abbrev pub is_fnf : Kind → Bool
-is_fnf kind.Fnf = true
-is_fnf _ = false
-
-abbrev pub is_known : Request → Bool
-is_known r = is_fnf r.kind && not r.follows
-
 -- a frame of a type that this end doesn't know breaks a rule, but where it may be ignored (RSocket 1.0, "Frame Header Format")
 abbrev pub unknown_type : ℕ → ℕ → Option Rule
 unknown_type number flags = if flag MAY_IGNORE flags then None else Some (rule.UnknownType number)
 
--- the least rule that a frame breaks
-abbrev pub broken_rule : Settings → Facts → Frame → Option Rule
+-- the position of the frames handled would pass the top
+abbrev pub spends : Settings → Facts → Frame → Bool
+spends g t f = nat_lt g.top_position (t.handled.position + length_of f)
+
+-- the position of the frames made would pass the top by the answer to a request that opens no stream
+abbrev pub answer_spends : Settings → Facts → Request → Bool
+answer_spends g t r = is_turned_away g t.streams r && nat_lt g.top_position (t.made.position + length_of (turned_away r.stream))
+
+-- a message is taken in, and has too many bytes
+abbrev pub is_too_large : Settings → Bool → Message → Bool
+is_too_large g taken message = taken && nat_lt g.max_payload (size_of message)
+
+-- the least rule that a frame breaks; fragments are not known yet
+unfoldable pub broken_rule : Settings → Facts → Frame → Option Rule
 broken_rule g t (frame.Request r) = first_true (
-    (not (is_known r), rule.NotNow)
+    (r.follows, rule.NotNow)
     ∷ (not (is_peers_next g.side t.streams r.stream), rule.StreamId r.stream)
-    ∷ (nat_lt g.max_payload (size_of r.message), rule.TooLarge (size_of r.message))
-    ∷ (nat_lt g.top_position (t.handled.position + length_of (frame.Request r)), rule.PositionSpent)
+    ∷ (is_too_large g true r.message, rule.TooLarge (size_of r.message))
+    ∷ (spends g t (frame.Request r) || answer_spends g t r, rule.PositionSpent)
     ∷ [])
+broken_rule g t (frame.Payload s follows complete next message) =
+    if follows then Some rule.NotNow
+    else option_or (option_map rule.OverCredit (over_credit_on (t.streams.kept s) next)) (first_true (
+    (is_too_large g (hears_on (t.streams.kept s)) message, rule.TooLarge (size_of message))
+    ∷ (spends g t (frame.Payload s follows complete next message), rule.PositionSpent)
+    ∷ []))
+broken_rule g t (frame.RequestN s n) = first_true ((spends g t (frame.RequestN s n), rule.PositionSpent) ∷ [])
+broken_rule g t (frame.Cancel s) = first_true ((spends g t (frame.Cancel s), rule.PositionSpent) ∷ [])
+broken_rule g t (frame.Error s code content) = first_true ((spends g t (frame.Error s code content), rule.PositionSpent) ∷ [])
 broken_rule g t (frame.Unknown stream number flags rest) = unknown_type number flags
 broken_rule g t (frame.Ext stream flags extended rest) = unknown_type EXTENSION flags
 broken_rule g t _ = Some rule.NotNow
@@ -155,38 +171,76 @@ to_bad g t conn number = on_live t conn (unless_closed t.closed (unless_busy g t
 abbrev pub finds_full : Settings → Facts → ℕ → Bool
 finds_full g t len = t.carrying && nat_lt (out_limit_of g) (t.queued + (3 + len))
 
--- the first refusal of a request
-abbrev pub refused_request : Settings → Facts → ℕ → Frame → ℕ → Option Refusal
-refused_request g t size f id = first_true (
-    (nat_lt g.max_payload size, refusal.TooLarge size)
-    ∷ (nat_lt g.last_id id, refusal.IdsGone)
-    ∷ (not t.begun, refusal.NotConnected)
+-- the session is closed; what waits can still be taken
+abbrev pub if_none_waits : {A : Type 0} → List A → Option Refusal → Option Refusal
+if_none_waits [] more = more
+if_none_waits (x ∷ xs) more = None
+
+abbrev pub closed_refusal : Option Cause → Option Refusal
+closed_refusal None = None
+closed_refusal (Some why) = Some (refusal.Closed why)
+
+abbrev pub by_closed : Facts → Call → Option Refusal
+by_closed t (call.Take s) = if_none_waits (t.streams.waits s) (closed_refusal t.closed)
+by_closed t call.TakeJob = if_none_waits t.streams.jobs (closed_refusal t.closed)
+by_closed t _ = closed_refusal t.closed
+
+-- how many bytes a call sends on
+abbrev pub size_in : Call → ℕ
+size_in (call.Request kind initial message complete) = size_of message
+size_in (call.Next s message complete) = size_of message
+size_in (call.Fail s code content) = length content
+size_in _ = 0
+
+abbrev pub by_size : Settings → Call → Option Refusal
+by_size g asked = if nat_lt g.max_payload (size_in asked) then Some (refusal.TooLarge (size_in asked)) else None
+
+-- a frame can't be made: there is no connection yet, no room in the queue, or the position would pass the top
+abbrev pub refused_sending : Settings → Facts → Option Frame → Option Refusal
+refused_sending g t None = None
+refused_sending g t (Some f) = first_true (
+    (not t.begun, refusal.NotConnected)
     ∷ (finds_full g t (length_of f), refusal.OutFull t.queued)
     ∷ (nat_lt g.top_position (t.made.position + length_of f), refusal.PositionSpent)
     ∷ [])
 
-abbrev pub started_unless : Option Refusal → ℕ → Answer
-started_unless None id = answer.Started id
-started_unless (Some r) id = answer.Refused r
-
-abbrev pub refused_if_closed : Option Cause → Answer → Answer
-refused_if_closed (Some why) next = answer.Refused (refusal.Closed why)
-refused_if_closed None next = next
-
-abbrev pub to_request : Settings → Facts → Kind → Option ℕ → Message → Bool → Answer
-to_request g t kind initial message complete =
-    let id = next_id g.side t.streams in
-    let refused = refused_request g t (size_of message) (request_frame id kind initial message complete) id in
-    refused_if_closed t.closed (started_unless refused id)
-
 -- Close needs no connection, and room for its ERROR where there is one
-abbrev pub to_close : Settings → Facts → Answer
-to_close g t = refused_if_closed t.closed (if finds_full g t (length_of (closing_error [])) then answer.Refused (refusal.OutFull t.queued) else answer.Done)
+abbrev pub by_sending : Settings → Facts → Call → Option Refusal
+by_sending g t call.Close = if finds_full g t (length_of (closing_error [])) then Some (refusal.OutFull t.queued) else None
+by_sending g t asked = refused_sending g t (spoken t.streams (next_id g.side t.streams) asked)
+
+-- the first refusal of a call
+unfoldable pub refused_call : Settings → Facts → Call → Option Refusal
+refused_call g t asked =
+    option_or (by_closed t asked)
+    (option_or (by_state t.streams asked)
+    (option_or (by_size g asked)
+    (option_or (by_credit t.streams asked)
+    (option_or (by_ids (limits_of g) t.streams asked)
+    (option_or (by_live (limits_of g) t.streams asked)
+    (by_sending g t asked))))))
+
+abbrev pub got : Option Delivery → Answer
+got None = answer.NotYet
+got (Some delivery) = answer.Got delivery
+
+abbrev pub got_job : Option Job → Answer
+got_job None = answer.NotYet
+got_job (Some job) = answer.GotJob job
+
+-- the answer to a call that is not refused
+abbrev pub accepted : Settings → Facts → Call → Answer
+accepted g t (call.Request kind initial message complete) = answer.Started (next_id g.side t.streams)
+accepted g t (call.Take s) = got (front_of (t.streams.waits s))
+accepted g t call.TakeJob = got_job (front_of t.streams.jobs)
+accepted g t _ = answer.Done
+
+abbrev pub refused_or : Option Refusal → Answer → Answer
+refused_or None next = next
+refused_or (Some why) next = answer.Refused why
 
 abbrev pub to_call : Settings → Facts → Call → Answer
-to_call g t (call.Request kind initial message complete) = to_request g t kind initial message complete
-to_call g t call.Close = to_close g t
-to_call g t _ = answer.Refused refusal.UnknownStream
+to_call g t asked = refused_or (refused_call g t asked) (accepted g t asked)
 
 -- ---- any event
 

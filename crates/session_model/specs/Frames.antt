@@ -1,9 +1,10 @@
 -- The frames of a session, over its entries, the newest first: made, due, come and handled.
-use Rattle.std.specs.Prelude.{ℕ, ◌+◌, ◌-◌, ◌==◌, ◌&&◌, Bool, false, nat_le, nat_lt, if◌then◌else◌, List, [], ◌∷◌, ◌++◌, length, take, map, Option, Some, None, is_none}
+use Rattle.std.specs.Prelude.{ℕ, ◌+◌, ◌-◌, ◌==◌, ◌&&◌, Bool, false, nat_le, nat_lt, if◌then◌else◌, List, [], ◌∷◌, ◌++◌, length, take, map, Option, Some, None, is_none, option_to_list, ◌||◌, true, codes}
 use Rattle.rs_wire.specs.Words.{rule_word, setup_word}
 use Rattle.rs_wire.specs.declared.words.Kind.{Kind}
 use Rattle.rs_wire.specs.declared.message.Message.{Message}
 use Rattle.rs_wire.specs.declared.settings.Settings.{Settings}
+use Rattle.rs_wire.specs.declared.call.Call.{Call}
 use Rattle.rs_wire.specs.declared.call.Call.TheVariants as call
 use Rattle.rs_frame.specs.declared.frame.Frame.{Frame}
 use Rattle.rs_frame.specs.declared.frame.Frame.TheVariants as frame
@@ -15,11 +16,12 @@ use Rattle.tape.specs.declared.event.Event.TheVariants as event
 use Rattle.tape.specs.declared.answer.Answer.{Answer}
 use Rattle.tape.specs.declared.answer.Answer.TheVariants as answer
 use Rattle.tape.specs.declared.entry.Entry.{Entry}
+use Rattle.stream_model.specs.Known.{Known, is_open_response}
+use Rattle.stream_model.specs.Arriving.{no_message}
 use Rattle.session_model.specs.Lists.{first_of}
 use Rattle.session_model.specs.Life.{openings, live, live_after, is_live}
-use Rattle.session_model.specs.declared.facts.Known.{Known}
-use Rattle.session_model.specs.declared.numbers.TheConstants.{CONNECTION_ERROR}
-use Rattle.session_model.specs.Streams.{known}
+use Rattle.session_model.specs.declared.numbers.TheConstants.{CONNECTION_ERROR, REJECTED}
+use Rattle.session_model.specs.Streams.{known, is_turned_away}
 
 -- the SETUP of a client: version 1.0, its intervals, its token where it resumes, its MIME texts, no payload
 abbrev pub setup_frame : Settings → Frame
@@ -55,11 +57,27 @@ abbrev pub refusal : Answer → Option Frame
 refusal (answer.SetupRefused fault) = Some (frame.Error 0 (code_of fault) (setup_word fault))
 refusal _ = None
 
+-- the ERROR that answers a request for which no stream more may be open
+abbrev pub turned_away : ℕ → Frame
+turned_away stream = frame.Error stream REJECTED (codes "streams")
+
 -- ---- made
+
+-- the frame of a call, on the stream of that id where it is a request; the payload of a response always ends it
+abbrev pub spoken : Known → ℕ → Call → Option Frame
+spoken t id (call.Request kind initial message complete) = Some (request_frame id kind initial message complete)
+spoken t id (call.Next s message complete) = Some (frame.Payload s false (complete || is_open_response (t.kept s)) true message)
+spoken t id (call.Done s) = Some (frame.Payload s false true false no_message)
+spoken t id (call.Grant s n) = Some (frame.RequestN s n)
+spoken t id (call.Cancel s) = Some (frame.Cancel s)
+spoken t id (call.Fail s code content) = Some (frame.Error s code content)
+spoken t id _ = None
 
 -- the resumable frames that an entry makes, by what is known of the streams before it
 abbrev pub makes : Settings → Known → Answer → Event → List Frame
-makes g t (answer.Started id) (event.Asked (call.Request kind initial message complete)) = request_frame id kind initial message complete ∷ []
+makes g t (answer.Started id) (event.Asked asked) = option_to_list (spoken t id asked)
+makes g t answer.Done (event.Asked asked) = option_to_list (spoken t 0 asked)
+makes g t answer.Handled (event.Came conn (frame.Request r)) = if is_turned_away g t r then turned_away r.stream ∷ [] else []
 makes g t _ _ = []
 
 -- the resumable frames that this end made, in order, over all connections

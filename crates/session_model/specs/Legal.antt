@@ -1,13 +1,12 @@
 -- Which lists of entries are a session's.
-use Rattle.std.specs.Prelude.{◌≡◌, ◌≤◌, ◌<◌, ◌^◌, false, IsTrue, List, [], ◌∷◌, Some, None}
+use Rattle.std.specs.Prelude.{◌≡◌, ◌≤◌, ◌<◌, ◌^◌, false, IsTrue, List, [], ◌∷◌, Some, None, IfSome}
 use Rattle.rs_wire.specs.declared.words.Side.TheVariants.{Client, Server}
-use Rattle.rs_wire.specs.declared.words.Kind.TheVariants as kind
 use Rattle.rs_wire.specs.declared.settings.Settings.{Settings}
 use Rattle.rs_wire.specs.declared.call.Call.{Call}
 use Rattle.rs_wire.specs.declared.call.Call.TheVariants as call
 use Rattle.rs_wire.specs.Calls.{CanBeAsked}
 use Rattle.rs_wire.specs.Settings.{IsChecked}
-use Rattle.rs_frame.specs.Spelling.{IsSpellable}
+use Rattle.rs_frame.specs.Spelling.{IsSpellable, IsStream}
 use Rattle.tape.specs.declared.event.Event.{Event}
 use Rattle.tape.specs.declared.event.Event.TheVariants as event
 use Rattle.tape.specs.declared.answer.Answer.{Answer}
@@ -23,16 +22,11 @@ pub record IsPlain (g : Settings) : Type 0 where
   pub no_leases : g.lease ≡ false
   pub no_fragments : g.mtu ≡ 0
 
--- the calls that a session knows: a fire-and-forget, and Close
-abbrev pub IsKnownCall : Call → Type 0
-IsKnownCall (call.Request k initial message complete) = k ≡ kind.Fnf
-IsKnownCall call.Close = Unit {0}
-IsKnownCall _ = ⊥
-
--- a call that can be made
-pub record IsAskable (asked : Call) : Type 0 where
-  pub fits : CanBeAsked asked
-  pub known : IsKnownCall asked
+-- the numbers of items that a call grants are above 0, and have 31 bits
+abbrev pub AmountsFit : Call → Type 0
+AmountsFit (call.Request kind initial message complete) = IfSome initial IsStream
+AmountsFit (call.Grant stream n) = IsStream n
+AmountsFit _ = Unit {0}
 
 -- what whoever brings an event ensures: a first frame exactly on a server, frames that can be spelled, rules that there are
 abbrev pub IsFair : Settings → Event → Type 0
@@ -42,7 +36,12 @@ IsFair g (event.Cut conn) = Unit {0}
 IsFair g (event.Draw conn room) = (0 < room) × (room < 2 ^ 32)
 IsFair g (event.Came conn f) = IsSpellable f
 IsFair g (event.Bad conn number) = (0 < number) × (number ≤ LONG_FRAME)
-IsFair g (event.Asked asked) = IsAskable asked
+IsFair g (event.Asked asked) = CanBeAsked asked × AmountsFit asked
+
+-- the same but for the amounts, which each have their range: what a caller ensures
+abbrev pub CanBring : Settings → Event → Type 0
+CanBring g (event.Asked asked) = CanBeAsked asked
+CanBring g e = IsFair g e
 
 -- an answer that leaves an entry
 abbrev pub LeavesEntry : Answer → Type 0

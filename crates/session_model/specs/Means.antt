@@ -1,21 +1,19 @@
 -- What an answer says of the event and of what was before it: a table by answer and event, with nothing where the two never meet.
-use Rattle.std.specs.Prelude.{◌≡◌, ◌≤◌, ℕ, ◌+◌, Bool, true, false, [], Option, Some, None}
-use Rattle.rs_wire.specs.Message.{size_of}
-use Rattle.rs_wire.specs.declared.words.Kind.{Kind}
-use Rattle.rs_wire.specs.declared.message.Message.{Message}
+use Rattle.std.specs.Prelude.{◌≡◌, ◌≤◌, ℕ, ◌+◌, Bool, true, false, Option, Some, None}
 use Rattle.rs_wire.specs.declared.settings.Settings.{Settings}
+use Rattle.rs_wire.specs.declared.call.Call.{Call}
 use Rattle.rs_wire.specs.declared.call.Call.TheVariants as call
+use Rattle.rs_wire.specs.declared.delivery.Delivery.{Delivery}
+use Rattle.rs_wire.specs.declared.delivery.Job.{Job}
 use Rattle.rs_frame.specs.declared.frame.Frame.{Frame}
-use Rattle.rs_frame.specs.Spelling.{length_of}
 use Rattle.setup_core.specs.Setup.{setup_fault}
 use Rattle.tape.specs.declared.event.Event.{Event}
 use Rattle.tape.specs.declared.event.Event.TheVariants as event
 use Rattle.tape.specs.declared.answer.Answer.{Answer}
 use Rattle.tape.specs.declared.answer.Answer.TheVariants as answer
 use Rattle.session_model.specs.Life.{is_live}
-use Rattle.session_model.specs.Streams.{next_id}
-use Rattle.session_model.specs.Frames.{request_frame, closing_error}
-use Rattle.session_model.specs.Answers.{Facts, broken_rule, finds_full, peer_error}
+use Rattle.stream_model.specs.Known.{next_id, front_of}
+use Rattle.session_model.specs.Answers.{Facts, broken_rule, peer_error, refused_call}
 
 -- the first frame, where there is one, is one that a server can keep
 abbrev pub SuitsFirst : Settings → Option Frame → Bool → Type 0
@@ -28,13 +26,9 @@ pub record Opening (g : Settings) (t : Facts) (first : Option Frame) (taken : Bo
   pub free : t.closed ≡ None
   pub suits : SuitsFirst g first taken
 
-pub record Starting (g : Settings) (t : Facts) (kind : Kind) (initial : Option ℕ) (message : Message) (complete : Bool) (id : ℕ) : Type 0 where
+pub record Starting (g : Settings) (t : Facts) (asked : Call) (id : ℕ) : Type 0 where
   pub next : id ≡ next_id g.side t.streams
-  pub free : t.closed ≡ None
-  pub small : size_of message ≤ g.max_payload
-  pub there : id ≤ g.last_id
-  pub begun : t.begun ≡ true
-  pub position : t.made.position + length_of (request_frame id kind initial message complete) ≤ g.top_position
+  pub accepted : refused_call g t asked ≡ None
 
 pub record Drawing (t : Facts) (conn room n : ℕ) : Type 0 where
   pub here : is_live t.live conn ≡ true
@@ -44,6 +38,7 @@ pub record Drawing (t : Facts) (conn room n : ℕ) : Type 0 where
 pub record Handling (g : Settings) (t : Facts) (conn : ℕ) (f : Frame) : Type 0 where
   pub here : is_live t.live conn ≡ true
   pub free : t.closed ≡ None
+  pub error : peer_error f ≡ None
   pub unbroken : broken_rule g t f ≡ None
 
 pub record Failing (t : Facts) (conn : ℕ) (f : Frame) (code : ℕ) : Type 0 where
@@ -51,21 +46,30 @@ pub record Failing (t : Facts) (conn : ℕ) (f : Frame) (code : ℕ) : Type 0 wh
   pub free : t.closed ≡ None
   pub error : peer_error f ≡ Some code
 
-pub record Closing (g : Settings) (t : Facts) : Type 0 where
-  pub free : t.closed ≡ None
-  pub fits : finds_full g t (length_of (closing_error [])) ≡ false
-
 abbrev pub Opens : Settings → Facts → ℕ → Event → Type 0
 Opens g t n (event.Open first taken) = Opening g t first taken n
 Opens g t n _ = ⊥
 
 abbrev pub Starts : Settings → Facts → ℕ → Event → Type 0
-Starts g t id (event.Asked (call.Request kind initial message complete)) = Starting g t kind initial message complete id
+Starts g t id (event.Asked (call.Request kind initial message complete)) = Starting g t (call.Request kind initial message complete) id
 Starts g t id _ = ⊥
 
-abbrev pub Closes : Settings → Facts → Event → Type 0
-Closes g t (event.Asked call.Close) = Closing g t
-Closes g t _ = ⊥
+-- a call that starts no stream and takes nothing is not refused
+abbrev pub Does : Settings → Facts → Event → Type 0
+Does g t (event.Asked (call.Request kind initial message complete)) = ⊥
+Does g t (event.Asked (call.Take s)) = ⊥
+Does g t (event.Asked call.TakeJob) = ⊥
+Does g t (event.Asked asked) = refused_call g t asked ≡ None
+Does g t _ = ⊥
+
+-- what waits first is taken
+abbrev pub Takes : Facts → Delivery → Event → Type 0
+Takes t delivery (event.Asked (call.Take s)) = front_of (t.streams.waits s) ≡ Some delivery
+Takes t delivery _ = ⊥
+
+abbrev pub TakesJob : Facts → Job → Event → Type 0
+TakesJob t job (event.Asked call.TakeJob) = front_of t.streams.jobs ≡ Some job
+TakesJob t job _ = ⊥
 
 abbrev pub Parts : Facts → Event → Type 0
 Parts t (event.Cut conn) = is_live t.live conn ≡ true
@@ -108,17 +112,19 @@ abbrev pub RefusesCall : Event → Type 0
 RefusesCall (event.Asked asked) = Unit {0}
 RefusesCall _ = ⊥
 
--- nothing waits to be drawn on the live connection
+-- nothing waits to be drawn on the live connection, or to be taken
 abbrev pub FindsNothing : Facts → Event → Type 0
 FindsNothing t (event.Draw conn room) = (is_live t.live conn ≡ true) × (t.queued ≡ 0)
+FindsNothing t (event.Asked (call.Take s)) = front_of (t.streams.waits s) ≡ None
+FindsNothing t (event.Asked call.TakeJob) = front_of t.streams.jobs ≡ None
 FindsNothing t _ = ⊥
 
 abbrev pub Means : Settings → Facts → Event → Answer → Type 0
 Means g t e (answer.Opened n) = Opens g t n e
 Means g t e (answer.Started id) = Starts g t id e
-Means g t e answer.Done = Closes g t e
-Means g t e (answer.Got delivery) = ⊥
-Means g t e (answer.GotJob job) = ⊥
+Means g t e answer.Done = Does g t e
+Means g t e (answer.Got delivery) = Takes t delivery e
+Means g t e (answer.GotJob job) = TakesJob t job e
 Means g t e (answer.Drawn n) = GivesBytes t n e
 Means g t e answer.Parted = Parts t e
 Means g t e answer.Handled = Handles g t e

@@ -3,6 +3,10 @@
 /// The code of the ERROR that closes a session: CONNECTION_ERROR (RSocket 1.0, "Error Codes").
 pub const CONNECTION_ERROR: u32 = 0x101;
 
+/// The code of the ERROR that answers a request which opens no stream: REJECTED (RSocket 1.0, "Error
+/// Codes").
+pub const REJECTED: u32 = 0x202;
+
 /// The flag I of a frame's header, in its flags word: an end that doesn't know the frame ignores it
 /// (RSocket 1.0, "Frame Header Format").
 pub const MAY_IGNORE: u16 = 0x200;

@@ -15,7 +15,7 @@ use Rattle.stream_model.specs.declared.arrival.Effect.{Effect}
 use Rattle.stream_model.specs.declared.arrival.Effect.TheVariants as effect
 use Rattle.stream_model.specs.declared.stream.Limits.{Limits}
 use Rattle.stream_model.specs.declared.stream.Stream.{Stream as Kept}
-use Rattle.stream_model.specs.Marks.{Opening, Step, Payload, RequestN, Cancel, Fail, Mark, Opens, Sent, Got, Took, TookJob}
+use Rattle.stream_model.specs.Marks.{Opening, Payload, RequestN, Cancel, Fail, Mark, Opens, Sent, Got, Took, TookJob}
 use Rattle.stream_model.specs.Turns.{is_fnf, carries, needs_credit, inbound, other}
 use Rattle.stream_model.specs.Known.{Known, is_peers_next, over_at, credit_at}
 

@@ -1,10 +1,10 @@
 -- The marks that the rules of an end let through.
-use Rattle.std.specs.Prelude.{◌≡◌, ◌≢◌, ◌<◌, ◌^◌, ◌⊎◌, ℕ, ◌%◌, Bool, true, false, List, [], ◌∷◌, Option, Some, None, IsSome, length}
+use Rattle.std.specs.Prelude.{◌≡◌, ◌<◌, ◌^◌, ℕ, ◌%◌, true, false, List, [], ◌∷◌, Option, Some, None, IsSome, length}
 use Rattle.rs_wire.specs.declared.words.Way.{Way}
 use Rattle.rs_wire.specs.declared.words.Role.{Role}
 use Rattle.rs_wire.specs.declared.words.Role.TheVariants.{Requester, Responder}
 use Rattle.rs_wire.specs.declared.delivery.Delivery.{Delivery}
-use Rattle.stream_model.specs.Marks.{Opening, Step, Payload, RequestN, Cancel, Fail, Mark, Opens, Sent, Got, Took, TookJob}
+use Rattle.stream_model.specs.Marks.{Opening, RequestN, Mark, Opens, Sent, Got, Took, TookJob}
 use Rattle.stream_model.specs.Turns.{Word, Said, Taken, Turn, item_next, used, granted, waiting, needs_credit, other, is_fnf}
 use Rattle.stream_model.specs.Streams.{turn, live, highest, jobs_waiting}
 

@@ -1,5 +1,5 @@
 -- All that the answers of an end depend on of its streams.
-use Rattle.std.specs.Prelude.{ℕ, ◌-◌, ◌%◌, ◌==◌, ◌||◌, ◌&&◌, not, nat_lt, Bool, true, false, if◌then◌else◌, List, [], ◌∷◌, Option, Some, None}
+use Rattle.std.specs.Prelude.{ℕ, ◌+◌, ◌-◌, ◌%◌, ◌==◌, ◌||◌, ◌&&◌, not, nat_lt, Bool, false, if◌then◌else◌, List, [], ◌∷◌, Option, Some, None}
 use Rattle.rs_wire.specs.declared.words.Side.{Side}
 use Rattle.rs_wire.specs.declared.words.Side.TheVariants.{Client, Server}
 use Rattle.rs_wire.specs.declared.words.Role.{Role}
@@ -129,3 +129,10 @@ hears f = (not f.whole || carries f.kind f.whole (inbound f.role) (other f.role)
 abbrev pub hears_on : Option Stream → Bool
 hears_on None = false
 hears_on (Some f) = hears f
+
+-- ---- what waits
+
+-- what waits first
+abbrev pub front_of : {A : Type 0} → List A → Option A
+front_of [] = None
+front_of (x ∷ xs) = Some x

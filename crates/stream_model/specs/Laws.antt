@@ -1,13 +1,13 @@
 -- What holds of the streams of an end whose rules were kept.
-use Rattle.std.specs.Prelude.{◌≡◌, ◌≤◌, ◌+◌, ◌*◌, ◌^◌, ℕ, Bool, true, false, List, [], ◌∷◌, ◌++◌, Option, Some, length}
+use Rattle.std.specs.Prelude.{◌≡◌, ◌≤◌, ◌*◌, ◌^◌, ℕ, ◌&&◌, ◌||◌, not, Bool, true, false, List, [], ◌∷◌, ◌++◌, Option, Some, length}
 use Rattle.rs_wire.specs.declared.words.Way.{Way}
 use Rattle.rs_wire.specs.declared.words.Way.TheVariants as way
 use Rattle.rs_wire.specs.declared.delivery.Delivery.{Delivery}
 use Rattle.rs_wire.specs.declared.delivery.Delivery.TheVariants as delivery
-use Rattle.stream_model.specs.Marks.{Mark}
-use Rattle.stream_model.specs.Turns.{Word, Turn, over, items, used, granted, delivered, taken, waiting, needs_credit, is_response}
+use Rattle.rs_wire.specs.declared.message.Message.{Message}
+use Rattle.stream_model.specs.Marks.{Opening, Mark}
+use Rattle.stream_model.specs.Turns.{Word, Said, Taken, Turn, over, ends, items, used, granted, delivered, taken, waiting, needs_credit, is_response, is_fnf, is_role, inbound}
 use Rattle.stream_model.specs.Streams.{turn, live}
-use Rattle.stream_model.specs.Fair.{Fair}
 
 -- no more items than were granted
 abbrev pub UsedWithinGranted : Turn → Type 0
@@ -34,11 +34,46 @@ EndsLast (d ∷ e ∷ ds) = (is_end d ≡ false) × EndsLast (e ∷ ds)
 abbrev pub OneEnd : Turn → Type 0
 OneEnd t = EndsLast (delivered t.opening t.words)
 
+-- ---- what is delivered, in full
+
+-- an own word ended the way that this end receives
+abbrev pub ends_own : Opening → List Word → Word → Bool
+ends_own o xs (Said by step) = not (over o xs (inbound o.role)) && (is_role o.role by && ends o.kind (inbound o.role) (Said by step))
+ends_own o xs (Taken d) = false
+
+unfoldable pub own_end : Opening → List Word → Bool
+own_end o [] = false
+own_end o (x ∷ xs) = own_end o xs || ends_own o xs x
+
+-- after it nothing waits, and so nothing more is taken
+abbrev pub DropsAtOwnEnd : Turn → Type 0
+DropsAtOwnEnd t = own_end t.opening t.words ≡ true → waiting t.opening t.words ≡ []
+
+abbrev pub items_of : List Delivery → List Message
+items_of [] = []
+items_of (delivery.Item m ∷ ds) = m ∷ items_of ds
+items_of (d ∷ ds) = items_of ds
+
+abbrev pub has_end : List Delivery → Bool
+has_end [] = false
+has_end (d ∷ ds) = is_end d || has_end ds
+
+-- until then all items of the way are delivered, in their order
+abbrev pub ItemsDelivered : Turn → Type 0
+ItemsDelivered t = own_end t.opening t.words ≡ false → items_of (delivered t.opening t.words) ≡ items t.opening t.words (inbound t.opening.role)
+
+-- and an end exactly where the way is over; a fire-and-forget delivers none
+abbrev pub EndDelivered : Turn → Type 0
+EndDelivered t = is_fnf t.opening.kind ≡ false → own_end t.opening t.words ≡ false → has_end (delivered t.opening t.words) ≡ over t.opening t.words (inbound t.opening.role)
+
 pub record Laws (t : Turn) : Type 0 where
   pub credit : UsedWithinGranted t
   pub response : OneResponse t
   pub taken : TakenFirst t
   pub one_end : OneEnd t
+  pub dropped : DropsAtOwnEnd t
+  pub items : ItemsDelivered t
+  pub ended : EndDelivered t
 
 -- they hold of every stream that was admitted
 abbrev pub EachStream : ℕ → List Mark → Type 0

@@ -14,7 +14,7 @@ use Rattle.credit.specs.declared.Credit.{Credit}
 use Rattle.stream_model.specs.declared.stream.Limits.{Limits}
 use Rattle.stream_model.specs.declared.stream.Stream.{Stream as Kept}
 use Rattle.stream_model.specs.Turns.{is_fnf, needs_credit, inbound}
-use Rattle.stream_model.specs.Known.{Known, is_above, next_id, over_at, credit_at}
+use Rattle.stream_model.specs.Known.{Known, is_above, next_id, over_at}
 
 -- ---- the state of the stream
 

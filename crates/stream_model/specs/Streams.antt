@@ -1,5 +1,5 @@
 -- All streams of an end, after these marks, the newest first.
-use Rattle.std.specs.Prelude.{ℕ, ◌+◌, ◌%◌, ◌==◌, ◌&&◌, ◌||◌, Bool, false, not, nat_lt, max, if◌then◌else◌, List, [], ◌∷◌, ◌++◌, ◌^◌, drop, Option, Some, None, is_some}
+use Rattle.std.specs.Prelude.{ℕ, zero, suc, ◌+◌, ◌%◌, ◌==◌, ◌&&◌, ◌||◌, Bool, false, not, nat_lt, max, if◌then◌else◌, List, [], ◌∷◌, ◌++◌, ◌^◌, drop, Option, Some, None, is_some}
 use Rattle.rs_wire.specs.declared.words.Role.{Role}
 use Rattle.rs_wire.specs.declared.words.Role.TheVariants.{Requester, Responder}
 use Rattle.rs_wire.specs.declared.words.Way.TheVariants as way
@@ -60,7 +60,7 @@ is_live (Some t) = not (is_over t)
 
 -- how many of the ids from 1 to that one pass a test
 unfoldable pub count_to : ℕ → (ℕ → Bool) → ℕ
-count_to 0 test = 0
+count_to zero test = 0
 count_to (suc n) test = one_if (test (suc n)) + count_to n test
 
 -- the highest id of either parity

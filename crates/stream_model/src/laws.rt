@@ -5,9 +5,10 @@ ghost use Rattle.stream_model.specs.Marks.{Mark};
 ghost use Rattle.stream_model.specs.Fair.{Fair};
 ghost use Rattle.stream_model.specs.Laws.{EachStream, GrantedWithin, LiveWithin, OverForGood};
 
-/// Of each stream: no more items were sent than granted, a response carries one at most, what was taken
-/// is a prefix of what was delivered, and that has one end at most, as its last. It does nothing: its
-/// contract is the law.
+/// Of each stream: no more items were sent than granted, and a response carries one at most. What was
+/// taken is a prefix of what was delivered, which has one end at most, as its last. Until this end itself
+/// ends the way that it receives, all items of that way are delivered, in their order, and an end exactly
+/// where the way is over; after it nothing waits. It does nothing: its contract is the law.
 pub fn each_stream_keeps_its_laws()
     ensures { (most : ℕ) (seen : List Mark) → Fair most seen → EachStream most seen }
 {}

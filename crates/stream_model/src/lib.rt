@@ -15,5 +15,7 @@ mod laws;
 mod stream;
 
 pub use arrival::{Arrival, Effect};
-pub use laws::{each_stream_keeps_its_laws, grants_are_few, over_is_for_good, streams_find_their_places};
+pub use laws::{
+    each_stream_keeps_its_laws, grants_are_few, over_is_for_good, streams_find_their_places,
+};
 pub use stream::{Limits, State, Stream};

@@ -8,7 +8,7 @@ use crate::event::Event;
 use crate::tapes::Tape;
 use rs_wire::OutOfMemory;
 
-/// A tape that counts its entries and keeps none: it tells nothing, and always has spare.
+/// A tape that counts its entries and keeps none: it shows nothing, and always has spare.
 #[derive(Drop)]
 pub struct Blank {
     count: u64,

@@ -12,7 +12,7 @@ use std::alloc::Global;
 pub struct BlankShelf {
     /// How many tapes are lent and not put back.
     lent: usize,
-    /// The tapes that were put back, with room for each that is lent.
+    /// The tapes that were put back, with a place reserved for each that is lent.
     tapes: Vec<Blank>,
     ghost room: { vec_len tapes + lent ≤ vec_capacity tapes },
 }

@@ -1,3 +1,4 @@
+use Rattle.session_model.proofs.Spelled.{refusal_spelled}
 use Rattle.session_laws.proofs.Spelled.{made_spelled, due_spelled, came_spelled}
 use Rattle.session_laws.proofs.one_end.frames_are_spellable.Goals as goal
 
@@ -6,6 +7,9 @@ returns-clause-made c = made_spelled
 
 pub returns-clause-due : goal.returns-clause-due
 returns-clause-due c = due_spelled
+
+pub returns-clause-refusal : goal.returns-clause-refusal
+returns-clause-refusal c = refusal_spelled
 
 pub returns-clause-came : goal.returns-clause-came
 returns-clause-came c = came_spelled

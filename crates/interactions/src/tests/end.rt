@@ -1,0 +1,163 @@
+//! An end whose callers and whose peer keep the conditions of its streams.
+
+ghost use Rattle.std.specs.Prelude.{◌≡◌, ◌<◌, ◌≤◌, ◌^◌, ℕ, IsTrue, OnOk, length};
+ghost use Rattle.rs_wire.specs.Calls.{is_streamed, CanBeAsked, CompleteFits};
+ghost use Rattle.stream_model.specs.Arriving.{CanAct, CanArrive, MayGrant, stream_in};
+ghost use Rattle.stream_model.specs.Known.{Known};
+ghost use Rattle.interactions.specs.Seen.{known_to};
+
+use super::step::Answer;
+use crate::Streams;
+use rs_wire::{Call, Kind, Settings, Side, check, is_stream_code};
+use std::alloc::Global;
+use std::test::Fail;
+use stream_model::{Arrival, Effect};
+
+/// The streams of an end, and how many steps were done on them at most.
+#[derive(Drop)]
+pub struct End {
+    /// The streams.
+    pub streams: Streams,
+    steps: u64,
+    ghost few: { length streams.marks ≤ steps },
+}
+
+// An initial n is there exactly where the kind has one.
+fn fits(kind: Kind, has_initial: bool) -> bool
+    ensures { IsTrue result → has_initial ≡ is_streamed kind }
+{
+    match kind {
+        Kind::Stream | Kind::Channel => has_initial,
+        Kind::Response | Kind::Fnf => !has_initial,
+    }
+}
+
+// Only a channel completes with its request.
+fn may_complete(kind: Kind, complete: bool) -> bool
+    ensures { IsTrue result → CompleteFits kind complete }
+{
+    match kind {
+        Kind::Channel => true,
+        Kind::Response | Kind::Fnf | Kind::Stream => !complete,
+    }
+}
+
+// A call that acts on a stream, and that a caller may make.
+fn is_act(call: &Call) -> bool
+    ensures askable { IsTrue result → CanBeAsked call.now }
+    ensures acts { IsTrue result → (t : Known) → ((s : ℕ) → MayGrant (t.kept s)) →
+        CanAct t call.now }
+{
+    match call {
+        Call::Request {
+            kind,
+            initial,
+            complete,
+            ..
+        } => fits(*kind, initial.is_some()) && may_complete(*kind, *complete),
+        Call::Fail { code, .. } => is_stream_code(*code),
+        Call::Next { .. } | Call::Done { .. } | Call::Grant { .. } | Call::Cancel { .. } => true,
+        Call::Take { .. } | Call::TakeJob | Call::Close => false,
+    }
+}
+
+// An arrival that can come.
+fn can_arrive(what: &Arrival) -> bool
+    ensures { IsTrue result → (t : Known) → ((s : ℕ) → MayGrant (t.kept s)) →
+        CanArrive t what.now }
+{
+    match what {
+        Arrival::Asked {
+            stream,
+            kind,
+            initial,
+            ..
+        } => *stream < 1 << 31 && fits(*kind, initial.is_some()),
+        _ => true,
+    }
+}
+
+fn stream_of(what: &Arrival) -> u32
+    ensures { result ≡ stream_in what.now }
+{
+    match what {
+        Arrival::Asked { stream, .. }
+        | Arrival::Whole { stream, .. }
+        | Arrival::Granted { stream, .. }
+        | Arrival::Canceled { stream }
+        | Arrival::Failed { stream, .. } => *stream,
+    }
+}
+
+impl End {
+    /// An end on which nothing happened.
+    pub fn new(alloc: Global, side: Side, max_streams: u32, last_id: u32) -> Result<End, Fail> {
+        let mut settings = Settings::usual(alloc, side)?;
+        settings.max_streams = max_streams;
+        settings.last_id = last_id;
+        let Ok(checked) = check(settings) else {
+            return Err(Fail::from("the settings are right"));
+        };
+        Ok(End {
+            streams: Streams::new(alloc, &checked)?,
+            steps: 0,
+        })
+    }
+
+    // One step more. There are few, so what was granted leaves room for more.
+    fn count(&mut self) -> Result<(), Fail>
+        ensures streams { self.new.streams ≡ self.old.streams }
+        ensures few { OnOk result (length self.new.streams.marks < self.new.steps) }
+        ensures grants { OnOk result ((s : ℕ) → MayGrant ((known_to self.new.streams).kept s)) }
+    {
+        self.streams.fair();
+        if self.steps >= 1 << 60 {
+            return Err(Fail::from("there are few steps"));
+        }
+        self.steps += 1;
+        Ok(())
+    }
+
+    /// A call acts, or is refused.
+    pub fn act(&mut self, call: &Call) -> Result<Answer, Fail> {
+        if let Err(refusal) = self.streams.judge(call) {
+            return Ok(Answer::Refused(refusal));
+        }
+        if !is_act(call) {
+            return Err(Fail::from("the call can act"));
+        }
+        self.count()?;
+        Ok(Answer::Did(self.streams.act(call)?))
+    }
+
+    /// What the peer says has its effect.
+    pub fn hear(&mut self, what: Arrival) -> Result<Effect, Fail> {
+        if !can_arrive(&what) {
+            return Err(Fail::from("the arrival can come"));
+        }
+        self.count()?;
+        self.streams.reserve(stream_of(&what))?;
+        Ok(self.streams.arrive(what))
+    }
+
+    /// Takes what waits on a stream, or tells why nothing is to come.
+    pub fn take(&mut self, stream: u32) -> Result<Answer, Fail> {
+        if let Err(refusal) = self.streams.judge(&Call::Take { stream }) {
+            return Ok(Answer::Refused(refusal));
+        }
+        self.count()?;
+        match self.streams.take(stream) {
+            None => Ok(Answer::Nothing),
+            Some(delivery) => Ok(Answer::taken(&delivery)),
+        }
+    }
+
+    /// Takes the job that waits first.
+    pub fn take_job(&mut self) -> Result<Answer, Fail> {
+        self.count()?;
+        match self.streams.take_job() {
+            None => Ok(Answer::Nothing),
+            Some(job) => Ok(Answer::job(&job)),
+        }
+    }
+}

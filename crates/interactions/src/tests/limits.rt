@@ -1,0 +1,143 @@
+//! Limits, and many steps.
+
+use super::end::End;
+use super::play::play_within;
+use super::step::{Act, Answer, Said, Step};
+use rs_wire::Side::{Client, Server};
+use rs_wire::{Kind, Refusal, Rule, Way};
+use std::alloc::Global;
+use std::process::Abort;
+use std::test::Fail;
+use stream_model::Effect;
+
+const USED: Answer = Answer::Had(Effect::Used);
+
+#[test]
+fn a_refused_request_uses_no_id(rt: HostRuntime) -> Result<(), Fail> {
+    let stream = Step::Does(Act::Request(Kind::Stream, 1, false));
+    play_within(
+        &rt,
+        rt.alloc(),
+        1,
+        5,
+        &[
+            (Client, stream, Answer::Did(1)),
+            (Client, stream, Answer::Refused(Refusal::TooManyStreams(1))),
+            (
+                Client,
+                Step::Does(Act::Request(Kind::Fnf, 0, false)),
+                Answer::Did(3),
+            ),
+            (Client, Step::Does(Act::Cancel(1)), Answer::Did(1)),
+            (Client, stream, Answer::Did(5)),
+            (Client, stream, Answer::Refused(Refusal::IdsGone)),
+            (Server, stream, Answer::Did(2)),
+            (Server, Step::Does(Act::Cancel(2)), Answer::Did(2)),
+            (Server, stream, Answer::Did(4)),
+            (Server, Step::Does(Act::Cancel(4)), Answer::Did(4)),
+            (Server, stream, Answer::Refused(Refusal::IdsGone)),
+        ],
+    )
+}
+
+#[test]
+fn a_whole_fire_and_forget_finds_its_place(rt: HostRuntime) -> Result<(), Fail> {
+    play_within(
+        &rt,
+        rt.alloc(),
+        1,
+        9,
+        &[
+            (
+                Server,
+                Step::Comes(Said::Request(1, Kind::Response, 0, Some(false))),
+                USED,
+            ),
+            (
+                Server,
+                Step::Comes(Said::Request(3, Kind::Response, 0, Some(false))),
+                Answer::Had(Effect::TooMany),
+            ),
+            (
+                Server,
+                Step::Comes(Said::Request(5, Kind::Fnf, 0, None)),
+                Answer::Had(Effect::Ignored),
+            ),
+            (
+                Server,
+                Step::Comes(Said::Request(7, Kind::Fnf, 0, Some(false))),
+                USED,
+            ),
+            (
+                Server,
+                Step::TakesJob,
+                Answer::Job(1, Kind::Response, 0, false),
+            ),
+            (Server, Step::TakesJob, Answer::Job(7, Kind::Fnf, 0, false)),
+            (Server, Step::TakesJob, Answer::Nothing),
+        ],
+    )
+}
+
+#[test]
+fn an_item_that_was_not_granted_changes_nothing(rt: HostRuntime) -> Result<(), Fail> {
+    play_within(
+        &rt,
+        rt.alloc(),
+        1,
+        9,
+        &[
+            (
+                Client,
+                Step::Does(Act::Request(Kind::Stream, 1, false)),
+                Answer::Did(1),
+            ),
+            (Client, Step::Comes(Said::Message(1, false, true)), USED),
+            (
+                Client,
+                Step::Comes(Said::Message(1, true, true)),
+                Answer::Had(Effect::Broken(Rule::OverCredit(1))),
+            ),
+            (Client, Step::Comes(Said::Message(1, false, false)), USED),
+            (Client, Step::Takes(1), Answer::Item(1)),
+            (Client, Step::Takes(1), Answer::Nothing),
+            (Client, Step::Comes(Said::Message(1, true, false)), USED),
+            (Client, Step::Takes(1), Answer::Complete),
+        ],
+    )
+}
+
+#[test]
+fn the_largest_grants_add_up(rt: HostRuntime) -> Result<(), Fail> {
+    let most = 2_147_483_647;
+    let mut end = End::new(rt.alloc(), Client, 1, 9)?;
+    end.act(&Act::Request(Kind::Stream, most, false).call(rt.alloc())?)?;
+    for _ in 0..1_000 {
+        end.act(&Act::Grant(1, most).call(rt.alloc())?)?;
+    }
+    let granted = 2_149_631_130_647;
+    assert_eq!(rt; end.streams.credit(1, Way::Reply), Some((granted, granted)));
+    Ok(())
+}
+
+// A response from its request to its last delivery.
+fn respond(rt: &impl Abort, alloc: Global, end: &mut End, stream: u32) -> Result<(), Fail> {
+    let did = end.act(&Act::Request(Kind::Response, 0, false).call(alloc)?)?;
+    assert_eq!(rt; did, Answer::Did(stream));
+    end.hear(Said::Message(stream, true, true).arrival(alloc)?)?;
+    assert_eq!(rt; end.take(stream)?, Answer::Item(1));
+    assert_eq!(rt; end.take(stream)?, Answer::Complete);
+    Ok(())
+}
+
+#[test]
+fn many_short_streams_leave_nothing(rt: HostRuntime) -> Result<(), Fail> {
+    let mut end = End::new(rt.alloc(), Client, 1, 2_147_483_647)?;
+    for n in 0..100_000_u32 {
+        respond(&rt, rt.alloc(), &mut end, 2 * n + 1)?;
+    }
+    assert_eq!(rt; end.streams.live(), 0);
+    assert_eq!(rt; end.streams.highest(Client), 199_999);
+    assert_eq!(rt; end.streams.next_id(), Some(200_001));
+    Ok(())
+}

@@ -1,0 +1,34 @@
+-- What is known of a call that is refused, or not.
+use Rattle.std.proofs.Common.{◌≡◌, ◌≢◌, ℕ, Option, Some, None, refl, subst, sym}
+use Rattle.std.specs.Option.{option_map}
+use Rattle.rs_wire.specs.declared.fault.Refusal.{Refusal}
+use Rattle.rs_wire.specs.declared.settings.Settings.{Settings}
+use Rattle.rs_wire.specs.declared.call.Call.{Call}
+use Rattle.rs_wire.specs.declared.call.Call.TheVariants as call
+use Rattle.rs_frame.specs.declared.frame.Frame.{Frame}
+use Rattle.rs_frame.specs.Spelling.{length_of}
+use Rattle.stream_model.specs.declared.stream.Limits.{Limits}
+use Rattle.stream_model.specs.Known.{Known, next_id}
+use Rattle.stream_model.specs.Refused.{by_ids}
+use Rattle.interactions.specs.Seen.{known_to}
+use Rattle.session_model.specs.Frames.{spoken}
+use Rattle.session_model.specs.Answers.{Facts, by_sending, refused_call, refused_sending}
+use Rattle.session_model.proofs.Refusals.{unrefused}
+use Rattle.session_core.specs.declared.state.State.{State}
+use Rattle.session_core.specs.Fits.{AreLimits, facts_of}
+
+-- a frame is refused by its length
+pub by_length : (g : Settings) (t : Facts) (o : Option Frame) (n : ℕ) (r : Option Refusal) → Some n ≡ option_map length_of o
+    → ((f : Frame) → length_of f ≡ n → r ≡ refused_sending g t (Some f)) → r ≡ refused_sending g t o
+by_length g t None n r is refuses = absurd (cc)
+by_length g t (Some f) n r is refuses = refuses f (cc)
+
+-- any call but Close is refused for its frame
+pub by_frame : (g : Settings) (t : Facts) (asked : Call) (r : Option Refusal) → asked ≢ call.Close
+    → ((k : Known) (id : ℕ) → r ≡ refused_sending g t (spoken k id asked)) → r ≡ by_sending g t asked
+by_frame g t call.Close r other refuses = absurd (other refl)
+by_frame g t asked r other refuses = refuses t.streams (next_id g.side t.streams)
+
+-- a request that is not refused has an id
+pub ids_left : (g : Settings) (s : State) (asked : Call) → AreLimits g s → refused_call g (facts_of s) asked ≡ None → by_ids s.streams.limits (known_to s.streams) asked ≡ None
+ids_left g s asked limits none = subst (λ (l : Limits). by_ids l (known_to s.streams) asked ≡ None) (sym limits) (unrefused g (facts_of s) asked none).ids

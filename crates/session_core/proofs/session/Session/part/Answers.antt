@@ -1,0 +1,21 @@
+use Rattle.std.proofs.Common.{◌≡◌, sym, subst, arith}
+use Rattle.position.specs.Boundaries.{pos_by}
+use Rattle.tape.specs.declared.event.Event.TheVariants as event
+use Rattle.session_model.specs.Answers.{answer_to}
+use Rattle.session_core.specs.Seen.{Seen}
+use Rattle.session_core.proofs.Standing.{after_cut, of_cut}
+use Rattle.session_core.proofs.Soundness.{sound_more}
+use Rattle.session_core.proofs.session.Session.part.Goals as goal
+
+pub invariant_of-self : goal.invariant_of-self
+invariant_of-self g c =
+    let e = event.Cut c.args.conn in
+    let is : c.args.answer ≡ answer_to c.self.inside.settings c.self.inside.history e = subst (λ (v : Seen). c.args.answer ≡ answer_to v.settings v.entries e) (sym c.self.view_is) c.requires.is in
+    rw (c.note.ensures, c.push.ensures.told, c.push.ensures.count)
+    (sound_more c.self.inside.settings c.self.inside.state c.act.new.self c.self.inside.history (record { who = c.args.who; event = e; answer = c.args.answer }) _ _ c.self.invariant
+    (after_cut c.self.inside.settings c.self.inside.state c.act.new.self c.args.conn c.args.answer _ c.requires.of_cut c.act.ensures.applied c.act.ensures.queue)
+    is (of_cut c.args.answer c.requires.of_cut) tt)
+
+pub act-requires-clause-position : goal.act-requires-clause-position
+unfolding pos_by
+act-requires-clause-position g c = rw c.nothing_more-prepared.ensures.made (omega (arith, c.self.invariant.made.position, c.self.invariant.plain.checked.top_position))

@@ -1,0 +1,205 @@
+//! The answer to a frame that came.
+
+ghost use Rattle.std.specs.Prelude.{◌≡◌, if◌then◌else◌, None, Some};
+ghost use Rattle.rs_wire.specs.Message.{size_of};
+ghost use Rattle.rs_frame.specs.Spelling.{IsSpellable};
+ghost use Rattle.interactions.specs.Seen.{known_to};
+ghost use Rattle.session_model.specs.Streams.{is_turned_away};
+ghost use Rattle.session_model.specs.Answers.{answer_spends, broken_rule, is_too_large, peer_error, spends, to_frame, unknown_type};
+ghost use Rattle.rs_wire.specs.declared.settings.Settings.{Settings};
+ghost use Rattle.session_core.specs.Came.{IsPayload};
+ghost use Rattle.session_core.specs.Fits.{AreLimits, HasRoom, facts_of};
+
+use crate::judge::is_live;
+use crate::state::State;
+use interactions::Streams;
+use rs_frame::{Frame, Request};
+use rs_wire::{Checked, Message, Rule};
+use session_model::{ANSWER_ROOM, EXTENSION, MAY_IGNORE};
+use tape::Answer;
+
+/// The bytes of the ERROR that turns a request away: a header of 6, a code of 4, and the 7 of
+/// "streams".
+const TURNED_AWAY: u64 = 17;
+
+// The rule that a frame breaks whose type this end doesn't know.
+fn unknown_type(number: u8, flags: u16) -> Option<Rule>
+    ensures { result ≡ unknown_type number flags }
+{
+    if flags & MAY_IGNORE != 0 {
+        return None;
+    }
+    Some(Rule::UnknownType(number))
+}
+
+/// A request opens no stream, and is to be answered by an ERROR.
+pub fn is_turned_away(streams: &Streams, request: &Request) -> bool
+    ensures { (g : Settings) → g.max_streams ≡ streams.now.limits.max_streams → result ≡
+        is_turned_away g (known_to streams.now) request.now }
+{
+    !streams.admits(request.kind, true)
+}
+
+// The position of the frames handled would pass the top.
+fn spends(settings: &Checked, state: &State, frame: &Frame) -> bool
+    requires room { HasRoom state.now }
+    requires spellable { IsSpellable frame.now }
+    ensures { result ≡ spends settings.now (facts_of state.now) frame.now }
+{
+    let position = state.handled.position + u64::from(rs_frame::length(frame));
+    position > settings.settings().top_position
+}
+
+// The position of the frames made would pass the top by the answer to a request.
+fn answer_spends(settings: &Checked, state: &State, request: &Request) -> bool
+    requires room { HasRoom state.now }
+    requires limits { AreLimits settings.now state.now }
+    ensures { result ≡ answer_spends settings.now (facts_of state.now) request.now }
+{
+    is_turned_away(&state.streams, request)
+        && state.made.position + TURNED_AWAY > settings.settings().top_position
+}
+
+// A message is taken in, and has too many bytes: how many.
+fn too_large(settings: &Checked, taken: bool, message: &Message) -> Option<Rule>
+    ensures { result ≡ (if is_too_large settings.now taken message.now then
+        Some (Rule.TooLarge (size_of message.now)) else None) }
+{
+    let size = message.size();
+    if taken && size > u64::from(settings.settings().max_payload) {
+        return Some(Rule::TooLarge(size));
+    }
+    None
+}
+
+// The least rule that a request breaks.
+#[tactic(auto, unfolding(session_model::specs::Answers::broken_rule))]
+fn broken_request(
+    settings: &Checked,
+    state: &State,
+    frame: &Frame,
+    request: &Request,
+) -> Option<Rule>
+    requires room { HasRoom state.now }
+    requires limits { AreLimits settings.now state.now }
+    requires spellable { IsSpellable frame.now }
+    requires is { frame.now ≡ Frame.Request request.now }
+    ensures { result ≡ broken_rule settings.now (facts_of state.now) (Frame.Request request.now) }
+{
+    if request.follows {
+        return Some(Rule::NotNow);
+    }
+    if !state.streams.is_peers_next(request.stream) {
+        return Some(Rule::StreamId(request.stream));
+    }
+    if let Some(rule) = too_large(settings, true, &request.message) {
+        return Some(rule);
+    }
+    if spends(settings, state, frame) || answer_spends(settings, state, request) {
+        return Some(Rule::PositionSpent);
+    }
+    None
+}
+
+// The least rule that a payload breaks, which is the whole frame.
+#[tactic(auto, unfolding(session_model::specs::Answers::broken_rule))]
+fn broken_payload(
+    settings: &Checked,
+    state: &State,
+    frame: &Frame,
+    stream: u32,
+    next: bool,
+    message: &Message,
+) -> Option<Rule>
+    requires room { HasRoom state.now }
+    requires spellable { IsSpellable frame.now }
+    requires is { IsPayload frame.now stream next message.now }
+    ensures { result ≡ broken_rule settings.now (facts_of state.now) frame.now }
+{
+    if let Some(granted) = state.streams.over_credit(stream, next) {
+        return Some(Rule::OverCredit(granted));
+    }
+    if let Some(rule) = too_large(settings, state.streams.hears(stream), message) {
+        return Some(rule);
+    }
+    only_position(settings, state, frame)
+}
+
+// A frame that breaks no rule but that the position of the frames handled would pass the top.
+fn only_position(settings: &Checked, state: &State, frame: &Frame) -> Option<Rule>
+    requires room { HasRoom state.now }
+    requires spellable { IsSpellable frame.now }
+    ensures { result ≡ (if spends settings.now (facts_of state.now) frame.now then
+        Some Rule.PositionSpent else None) }
+{
+    if spends(settings, state, frame) {
+        return Some(Rule::PositionSpent);
+    }
+    None
+}
+
+// The least rule that the frame breaks.
+#[tactic(auto, unfolding(session_model::specs::Answers::broken_rule))]
+fn broken_rule(settings: &Checked, state: &State, frame: &Frame) -> Option<Rule>
+    requires room { HasRoom state.now }
+    requires limits { AreLimits settings.now state.now }
+    requires spellable { IsSpellable frame.now }
+    ensures { result ≡ broken_rule settings.now (facts_of state.now) frame.now }
+{
+    match frame {
+        Frame::Request(request) => broken_request(settings, state, frame, request),
+        Frame::Payload { follows: true, .. } => Some(Rule::NotNow),
+        Frame::Payload {
+            stream,
+            next,
+            message,
+            ..
+        } => broken_payload(settings, state, frame, *stream, *next, message),
+        Frame::RequestN { .. } | Frame::Cancel { .. } | Frame::Error { .. } => {
+            only_position(settings, state, frame)
+        }
+        Frame::Unknown { number, flags, .. } => unknown_type(*number, *flags),
+        Frame::Ext { flags, .. } => unknown_type(EXTENSION, *flags),
+        _ => Some(Rule::NotNow),
+    }
+}
+
+// The code of an ERROR on stream 0, which closes the session.
+fn peer_error(frame: &Frame) -> Option<u32>
+    ensures { result ≡ peer_error frame.now }
+{
+    match frame {
+        Frame::Error {
+            stream: 0,
+            code,
+            ..
+        } => Some(*code),
+        _ => None,
+    }
+}
+
+/// The answer to a frame that came on a connection.
+pub fn to_frame(settings: &Checked, state: &State, conn: u64, frame: &Frame) -> Answer
+    requires room { HasRoom state.now }
+    requires limits { AreLimits settings.now state.now }
+    requires spellable { IsSpellable frame.now }
+    ensures { result ≡ to_frame settings.now (facts_of state.now) conn frame.now }
+{
+    if !is_live(state.live, conn) {
+        return Answer::Stale(state.live);
+    }
+    if let Some(cause) = state.closed {
+        return Answer::Closed(cause);
+    }
+    let queued = state.queue.len();
+    if queued + u64::from(rs_frame::length(frame)) + ANSWER_ROOM > settings.out_limit() {
+        return Answer::OutBusy(queued);
+    }
+    if let Some(code) = peer_error(frame) {
+        return Answer::PeerError(code);
+    }
+    match broken_rule(settings, state, frame) {
+        Some(rule) => Answer::Violation(rule),
+        None => Answer::Handled,
+    }
+}

@@ -1,0 +1,79 @@
+//! Laws of the streams of one end (RSocket 1.0, "Stream Sequences and Lifetimes" and "REQUEST_N
+//! Frame"), whatever its peer sends.
+//!
+//! A stream is the request that opened it and the words on it after that. Each law speaks of every
+//! lawful list of entries, and what comes before an entry of such a list is one too
+//! ([`what_came_before_is_lawful`]). So each law holds at every moment of a session, not at its end
+//! alone.
+
+ghost use Rattle.std.specs.Prelude.{◌≡◌, ◌≤◌, ◌++◌, ℕ, List, [], ◌∷◌, Some};
+ghost use Rattle.rs_wire.specs.declared.settings.Settings.{Settings};
+ghost use Rattle.rs_wire.specs.declared.words.Way.{Way};
+ghost use Rattle.tape.specs.declared.entry.Entry.{Entry};
+ghost use Rattle.stream_model.specs.Laws.{IsOver, OneEnd, OneResponse, TakenFirst};
+ghost use Rattle.stream_model.specs.Laws.{UsedWithinGranted};
+ghost use Rattle.stream_model.specs.Streams.{live};
+ghost use Rattle.stream_model.specs.Turns.{Turn, delivered, taken, waiting};
+ghost use Rattle.session_model.specs.Lists.{IsPrefix};
+ghost use Rattle.session_model.specs.Streams.{words};
+ghost use Rattle.session_laws.specs.Streams.{EndsReceiving, IsLawful, IsStream, stream};
+
+/// What came before any entry of a lawful list is lawful.
+pub fn what_came_before_is_lawful()
+    ensures { (g : Settings) (more past : List Entry) →
+        IsLawful g (more ++ past) → IsLawful g past }
+{}
+
+/// On each way of a stream or a channel no more items were used than were granted, by this end or
+/// by its peer: the initial n of the request and each REQUEST_N grant them (RSocket 1.0,
+/// "REQUEST_N Frame").
+pub fn items_stay_within_credit()
+    ensures { (g : Settings) (past : List Entry) (s : ℕ) (t : Turn) →
+        IsStream g past s t → UsedWithinGranted t }
+{}
+
+/// A response carries one payload at most (RSocket 1.0, "Request Response").
+pub fn a_response_carries_one_payload()
+    ensures { (g : Settings) (past : List Entry) (s : ℕ) (t : Turn) →
+        IsStream g past s t → OneResponse t }
+{}
+
+/// What was taken of a stream is a prefix of what was delivered, and the rest waits: nothing is
+/// lost, nothing comes twice and nothing out of its order.
+pub fn taken_is_what_was_delivered_first()
+    ensures prefix { (g : Settings) (past : List Entry) (s : ℕ) (t : Turn) →
+        IsStream g past s t → IsPrefix (taken t.words) (delivered t.opening t.words) }
+    ensures rest { (g : Settings) (past : List Entry) (s : ℕ) (t : Turn) →
+        IsStream g past s t → TakenFirst t }
+{}
+
+/// What was delivered on a stream has one end at most, as its last: no stream delivers after its
+/// end.
+pub fn a_stream_delivers_one_end()
+    ensures { (g : Settings) (past : List Entry) (s : ℕ) (t : Turn) →
+        IsStream g past s t → OneEnd t }
+{}
+
+/// After an own CANCEL or ERROR that ends the way on which this end receives, nothing waits on the
+/// stream, and nothing more is taken of it, whatever still comes (RSocket 1.0, "CANCEL Frame").
+pub fn nothing_is_taken_after_an_own_end()
+    ensures waits { (g : Settings) (more past : List Entry) (x : Entry) (s : ℕ) (t u : Turn) →
+        IsLawful g (more ++ x ∷ past) → EndsReceiving g past x s t →
+        stream g (more ++ x ∷ past) s ≡ Some u → waiting u.opening u.words ≡ [] }
+    ensures takes { (g : Settings) (more past : List Entry) (x : Entry) (s : ℕ) (t u : Turn) →
+        IsLawful g (more ++ x ∷ past) → EndsReceiving g past x s t →
+        stream g (more ++ x ∷ past) s ≡ Some u → taken u.words ≡ taken t.words }
+{}
+
+/// A way of a stream that is over is over for good, whatever entries follow.
+pub fn over_is_for_good()
+    ensures { (g : Settings) (more past : List Entry) (s : ℕ) (w : Way) →
+        IsLawful g (more ++ past) → IsOver (stream g past s) w →
+        IsOver (stream g (more ++ past) s) w }
+{}
+
+/// No more streams are open than may be, those of both ends together.
+pub fn streams_stay_within_their_limit()
+    ensures { (g : Settings) (past : List Entry) →
+        IsLawful g past → live g.max_streams (words past) ≤ g.max_streams }
+{}

@@ -1,0 +1,244 @@
+-- The frames of an entry that means what it says can be spelled, count in the positions, and find their places there.
+use Rattle.std.proofs.Common.{◌≡◌, ◌≤◌, ◌<◌, ◌+◌, ◌^◌, ◌||◌, ℕ, Bool, true, false, cond, List, [], ◌∷◌, ◌++◌, length, option_to_list, Option, Some, None, IfSome, refl, length-append, ap, subst, sym, ◌∙◌, arith, lit<}
+use Rattle.std.proofs.lemmas.Grind.{common_steps}
+use Rattle.std.proofs.lemmas.List.Elements.{filter-append}
+use Rattle.std.specs.List.{AllByRecursion, filter}
+use Rattle.byteorder.specs.Endian.{big_bytes}
+use Rattle.rs_wire.specs.Message.{size_of}
+use Rattle.rs_wire.specs.Words.{rule_word}
+use Rattle.rs_wire.specs.Calls.{CanBeAsked}
+use Rattle.rs_wire.specs.Settings.{IsChecked}
+use Rattle.rs_wire.specs.declared.fault.Rule.{Rule}
+use Rattle.rs_wire.specs.declared.words.Kind.{Kind}
+use Rattle.rs_wire.specs.declared.message.Message.{Message}
+use Rattle.rs_wire.specs.declared.settings.Settings.{Settings}
+use Rattle.rs_wire.specs.declared.call.Call.{Call}
+use Rattle.rs_wire.specs.declared.call.Call.TheVariants as call
+use Rattle.rs_frame.specs.declared.frame.Frame.{Frame}
+use Rattle.rs_frame.specs.declared.frame.Frame.TheVariants as frame
+use Rattle.rs_frame.specs.Spelling.{IsSpellable, IsStream, InitialFits, MessageFits, if_there, counted_bytes, payload, is_resumable}
+use Rattle.position.specs.Boundaries.{pos, pos_by}
+use Rattle.tape.specs.declared.event.Event.{Event}
+use Rattle.tape.specs.declared.event.Event.TheVariants as event
+use Rattle.tape.specs.declared.answer.Answer.{Answer}
+use Rattle.tape.specs.declared.answer.Answer.TheVariants as answer
+use Rattle.stream_model.specs.Known.{Known, highest_at, is_open_response}
+use Rattle.stream_model.specs.Refused.{by_state}
+use Rattle.stream_model.specs.Arriving.{no_message}
+use Rattle.session_model.specs.declared.numbers.TheConstants.{CONNECTION_ERROR}
+use Rattle.session_model.specs.Frames.{refusal, setup_frame, request_frame, turned_away, spoken, makes, beside, lines_up, handles}
+use Rattle.session_model.specs.Answers.{Facts, refused_sending}
+use Rattle.session_model.specs.Legal.{AmountsFit, IsFair, IsPlain}
+use Rattle.session_model.specs.Means.{Does, Means}
+use Rattle.session_model.proofs.Refusals.{Unrefused, unrefused, size_fits, can_send, names}
+use Rattle.session_model.proofs.Breaking.{handled_fits, unbroken}
+use Rattle.session_model.proofs.Ids.{IdsFit, highest_fits, started_fits}
+
+-- ---- messages
+
+metadata_fits : (g : Settings) (m : Message) → IsChecked g → size_of m ≤ g.max_payload → MessageFits m
+metadata_fits g m checked small = let most = checked.max_payload.below in grind (arith, common_steps)
+
+payload_short : (g : Settings) (m : Message) → IsChecked g → size_of m ≤ g.max_payload → length (payload m) < 16000004
+payload_short g m checked small = let most = checked.max_payload.below in grind (arith, common_steps)
+
+-- ---- the frames of calls
+
+initial_fits : (kind : Kind) (initial : Option ℕ) (message : Message) (complete : Bool) → CanBeAsked (call.Request kind initial message complete)
+    → AmountsFit (call.Request kind initial message complete) → InitialFits kind initial complete
+initial_fits kind initial message complete ask amounts = grind (arith, common_steps)
+
+request_spellable : (g : Settings) (id : ℕ) (kind : Kind) (initial : Option ℕ) (message : Message) (complete : Bool) → IsChecked g → IsStream id
+    → InitialFits kind initial complete → size_of message ≤ g.max_payload → IsSpellable (request_frame id kind initial message complete)
+request_spellable g id kind initial message complete checked stream initial_is small =
+    let short = payload_short g message checked small in
+    record { fields = (stream, initial_is, metadata_fits g message checked small); short = grind (arith, common_steps) }
+
+payload_spellable : (g : Settings) (s : ℕ) (complete next : Bool) (message : Message) → IsChecked g → IsStream s → size_of message ≤ g.max_payload
+    → IsSpellable (frame.Payload s false complete next message)
+payload_spellable g s complete next message checked stream small =
+    let short = payload_short g message checked small in
+    record { fields = (stream, metadata_fits g message checked small); short = omega (arith, short) }
+
+error_spellable : (s code : ℕ) (content : List ℕ) → s < 2 ^ 31 → code < 2 ^ 32 → length content ≤ 16000000 → IsSpellable (frame.Error s code content)
+error_spellable s code content stream is small = record { fields = (stream, is); short = omega (arith, small, length-append (big_bytes 4 code) content) }
+
+-- the stream that a call names has an id of 31 bits
+named : (t : Known) (s : ℕ) → IdsFit t → 0 < s → s ≤ highest_at t s → IsStream s
+named t s ids above below = let top = highest_fits t s ids in (above, omega arith)
+
+-- the frame of a call that is not refused
+pub spoken_spellable : (g : Settings) (t : Facts) (id : ℕ) (asked : Call) → IsChecked g → IdsFit t.streams → IsFair g (event.Asked asked) → IsStream id → Unrefused g t asked
+    → AllByRecursion IsSpellable (option_to_list (spoken t.streams id asked))
+spoken_spellable g t id (call.Request kind initial message complete) checked ids fair stream u =
+    (request_spellable g id kind initial message complete checked stream (initial_fits kind initial message complete fair.0 fair.1) (size_fits g (call.Request kind initial message complete) u.size), tt)
+spoken_spellable g t id (call.Next s message complete) checked ids fair stream u =
+    let n = names t.streams s _ u.state in
+    (payload_spellable g s (complete || is_open_response (t.streams.kept s)) true message checked (named t.streams s ids n.above n.below) (size_fits g (call.Next s message complete) u.size), tt)
+spoken_spellable g t id (call.Done s) checked ids fair stream u =
+    let n = names t.streams s _ u.state in
+    (payload_spellable g s true false no_message checked (named t.streams s ids n.above n.below) (omega arith), tt)
+spoken_spellable g t id (call.Grant s n) checked ids fair stream u =
+    let k = names t.streams s _ u.state in
+    (record { fields = (named t.streams s ids k.above k.below, fair.1); short = lit< tt }, tt)
+spoken_spellable g t id (call.Cancel s) checked ids fair stream u =
+    let n = names t.streams s _ u.state in
+    (record { fields = named t.streams s ids n.above n.below; short = lit< tt }, tt)
+spoken_spellable g t id (call.Fail s code content) checked ids fair stream u =
+    let n = names t.streams s _ u.state in
+    let most = checked.max_payload.below in
+    let small = size_fits g (call.Fail s code content) u.size in
+    let is = fair.0 in
+    (error_spellable s code content (named t.streams s ids n.above n.below).1 (grind (arith, common_steps)) (omega arith), tt)
+spoken_spellable g t id (call.Take s) checked ids fair stream u = tt
+spoken_spellable g t id call.TakeJob checked ids fair stream u = tt
+spoken_spellable g t id call.Close checked ids fair stream u = tt
+
+-- ---- what an entry makes
+
+turned_away_spellable : (s : ℕ) → s < 2 ^ 31 → IsSpellable (turned_away s)
+turned_away_spellable s fits = record { fields = (fits, lit< tt); short = lit< tt }
+
+answer_spellable : (g : Settings) (t : Facts) (conn : ℕ) (f : Frame) → IsSpellable f → AllByRecursion IsSpellable (makes g t.streams answer.Handled (event.Came conn f))
+answer_spellable g t conn (frame.Request r) spellable = let turned = turned_away_spellable r.stream spellable.fields.0.1 in grind (arith, common_steps)
+answer_spellable g t conn f spellable = tt
+
+-- a call that starts nothing and takes nothing is not refused
+pub done_passes : (g : Settings) (t : Facts) (asked : Call) → Does g t (event.Asked asked) → Unrefused g t asked
+done_passes g t (call.Request kind initial message complete) does = absurd does
+done_passes g t (call.Next s message complete) does = unrefused g t (call.Next s message complete) does
+done_passes g t (call.Done s) does = unrefused g t (call.Done s) does
+done_passes g t (call.Grant s n) does = unrefused g t (call.Grant s n) does
+done_passes g t (call.Cancel s) does = unrefused g t (call.Cancel s) does
+done_passes g t (call.Fail s code content) does = unrefused g t (call.Fail s code content) does
+done_passes g t (call.Take s) does = absurd does
+done_passes g t call.TakeJob does = absurd does
+done_passes g t call.Close does = unrefused g t call.Close does
+
+-- its frame has no id but the one that it names
+pub done_same : (g : Settings) (t : Facts) (asked : Call) (id : ℕ) → Does g t (event.Asked asked) → spoken t.streams id asked ≡ spoken t.streams 0 asked
+done_same g t (call.Request kind initial message complete) id does = absurd does
+done_same g t asked id does = refl
+
+done_spellable : (g : Settings) (t : Facts) (asked : Call) → IsChecked g → IdsFit t.streams → IsFair g (event.Asked asked) → Does g t (event.Asked asked)
+    → AllByRecursion IsSpellable (option_to_list (spoken t.streams 0 asked))
+done_spellable g t asked checked ids fair does =
+    rw (← done_same g t asked 1 does) (spoken_spellable g t 1 asked checked ids fair (lit< tt, lit< tt) (done_passes g t asked does))
+
+-- the frames that an entry makes
+pub makes_spellable : (g : Settings) (t : Facts) (e : Event) (a : Answer) → IsChecked g → IdsFit t.streams → IsFair g e → Means g t e a → AllByRecursion IsSpellable (makes g t.streams a e)
+makes_spellable g t (event.Asked (call.Request kind initial message complete)) (answer.Started id) checked ids fair means =
+    let asked = call.Request kind initial message complete in
+    spoken_spellable g t id asked checked ids fair (started_fits g t kind initial message complete id checked means) (unrefused g t asked means.accepted)
+makes_spellable g t e (answer.Started id) checked ids fair means = absurd means
+makes_spellable g t (event.Asked asked) answer.Done checked ids fair means = done_spellable g t asked checked ids fair means
+makes_spellable g t e answer.Done checked ids fair means = absurd means
+makes_spellable g t (event.Came conn f) answer.Handled checked ids fair means = answer_spellable g t conn f fair
+makes_spellable g t e answer.Handled checked ids fair means = absurd means
+makes_spellable g t e a checked ids fair means = tt
+
+-- ---- what stands beside
+
+token_fits : (b : Bool) (t : List ℕ) → b ≡ false → IfSome (cond {A = Option (List ℕ)} b (Some t) None) (λ x. length x < 2 ^ 16)
+token_fits true t none = absurd (cc)
+token_fits false t none = tt
+
+no_token : (b : Bool) (t : List ℕ) → b ≡ false → cond {A = Option (List ℕ)} b (Some t) None ≡ None
+no_token true t none = absurd (cc)
+no_token false t none = refl
+
+short_setup : (keepalive lifetime : ℕ) (token : Option (List ℕ)) (metadata content : List ℕ) → token ≡ None → length metadata ≤ 255 → length content ≤ 255
+    → 6 + length (big_bytes 2 1 ++ (big_bytes 2 0 ++ (big_bytes 4 keepalive ++ (big_bytes 4 lifetime ++ (if_there 2 token ++ (counted_bytes 1 metadata ++ (counted_bytes 1 content ++ []))))))) < 2 ^ 24
+short_setup keepalive lifetime None metadata content t m c = omega (arith, length-append metadata (counted_bytes 1 content ++ []), length-append content [])
+short_setup keepalive lifetime (Some x) metadata content t m c = absurd (cc)
+
+-- a SETUP without a token
+pub setup_spellable : (g : Settings) → IsPlain g → IsSpellable (setup_frame g)
+setup_spellable g plain =
+    let keepalive = plain.checked.keepalive in
+    let lifetime = plain.checked.lifetime in
+    let metadata = plain.checked.metadata_mime in
+    let content = plain.checked.content_mime in
+    record {
+      fields = (lit< tt, lit< tt, (omega (arith, keepalive.above), omega (arith, keepalive.below)), (omega (arith, lifetime.above), omega (arith, lifetime.below)), token_fits g.resume g.token plain.no_resumption, omega arith, omega arith, tt);
+      short = short_setup g.keepalive_ms g.lifetime_ms _ g.metadata_mime g.content_mime (no_token g.resume g.token plain.no_resumption) metadata content;
+    }
+
+words_short : (r : Rule) → length (rule_word r) ≤ 16000000
+words_short r = grind (arith, common_steps)
+
+-- the frames of the connection that no position counts
+pub beside_spellable : (g : Settings) (e : Event) (a : Answer) → IsPlain g → AllByRecursion IsSpellable (beside g a e)
+beside_spellable g (event.Open None taken) (answer.Opened n) plain = (setup_spellable g plain, tt)
+beside_spellable g e (answer.Opened n) plain = tt
+beside_spellable g e (answer.Violation r) plain = (error_spellable 0 CONNECTION_ERROR (rule_word r) (lit< tt) (lit< tt) (words_short r), tt)
+beside_spellable g (event.Asked call.Close) answer.Done plain = (error_spellable 0 CONNECTION_ERROR [] (lit< tt) (lit< tt) (omega arith), tt)
+beside_spellable g e a plain = tt
+
+all_both : {X : Type 0} (P : X → Type 0) (xs ys : List X) → AllByRecursion P xs → AllByRecursion P ys → AllByRecursion P (xs ++ ys)
+all_both P [] ys h k = k
+all_both P (x ∷ xs) ys h k = (h.0, all_both P xs ys h.1 k)
+
+-- all that an entry puts in line
+pub lines_spellable : (g : Settings) (t : Facts) (e : Event) (a : Answer) → IsPlain g → IdsFit t.streams → IsFair g e → Means g t e a → AllByRecursion IsSpellable (lines_up g t.streams a e)
+lines_spellable g t e a plain ids fair means =
+    all_both IsSpellable (beside g a e) (makes g t.streams a e) (beside_spellable g e a plain) (makes_spellable g t e a plain.checked ids fair means)
+
+-- ---- what counts
+
+pub none_besides : (g : Settings) (e : Event) (a : Answer) → filter is_resumable (beside g a e) ≡ []
+none_besides g e a = grind (arith, common_steps)
+
+-- the positions count each frame of a call
+spoken_counts : (g : Settings) (t : Facts) (id : ℕ) (asked : Call) → by_state t.streams asked ≡ None → filter is_resumable (option_to_list (spoken t.streams id asked)) ≡ option_to_list (spoken t.streams id asked)
+spoken_counts g t id (call.Fail s code content) none = let n = (names t.streams s _ none).above in grind (arith, common_steps)
+spoken_counts g t id asked none = grind (arith, common_steps)
+
+-- and each that an entry makes
+pub makes_count : (g : Settings) (t : Facts) (e : Event) (a : Answer) → Means g t e a → filter is_resumable (makes g t.streams a e) ≡ makes g t.streams a e
+makes_count g t (event.Asked asked) (answer.Started id) means = grind (arith, common_steps)
+makes_count g t (event.Asked asked) answer.Done means = spoken_counts g t 0 asked (done_passes g t asked means).state
+makes_count g t (event.Came conn (frame.Request r)) answer.Handled means = let next = (unbroken g t (frame.Request r) means.unbroken).next in grind (arith, common_steps)
+makes_count g t e a means = grind (arith, common_steps)
+
+-- of all that an entry puts in line these count
+pub lines_count : (g : Settings) (t : Facts) (e : Event) (a : Answer) → Means g t e a → filter is_resumable (lines_up g t.streams a e) ≡ makes g t.streams a e
+lines_count g t e a means =
+    filter-append is_resumable (beside g a e) (makes g t.streams a e) ∙ (ap (λ fs. fs ++ filter is_resumable (makes g t.streams a e)) (none_besides g e a) ∙ makes_count g t e a means)
+
+-- ---- positions
+
+-- the frame of a call ends at or before the top position
+spoken_fits : (g : Settings) (t : Facts) (o : Option Frame) → refused_sending g t o ≡ None → t.made.position ≤ g.top_position → t.made.position + pos (option_to_list o) ≤ g.top_position
+unfolding pos_by
+spoken_fits g t None none below = omega (arith, below)
+spoken_fits g t (Some f) none below = let within = (can_send g t f none).within in omega (arith, within)
+
+pub done_sends : (g : Settings) (t : Facts) (asked : Call) → Does g t (event.Asked asked) → refused_sending g t (spoken t.streams 0 asked) ≡ None
+done_sends g t (call.Request kind initial message complete) does = absurd does
+done_sends g t call.Close does = refl
+done_sends g t asked does = (done_passes g t asked does).sending
+
+-- and the frames that an entry makes
+pub makes_fit : (g : Settings) (t : Facts) (e : Event) (a : Answer) → Means g t e a → t.made.position ≤ g.top_position → t.made.position + pos (makes g t.streams a e) ≤ g.top_position
+unfolding pos_by
+makes_fit g t (event.Asked (call.Request kind initial message complete)) (answer.Started id) means below =
+    let asked = call.Request kind initial message complete in
+    let none = (unrefused g t asked means.accepted).sending in
+    spoken_fits g t (spoken t.streams id asked) (subst (λ n. refused_sending g t (spoken t.streams n asked) ≡ None) (sym means.next) none) below
+makes_fit g t e (answer.Started id) means below = absurd means
+makes_fit g t (event.Asked asked) answer.Done means below = spoken_fits g t (spoken t.streams 0 asked) (done_sends g t asked means) below
+makes_fit g t e answer.Done means below = absurd means
+makes_fit g t (event.Came conn (frame.Request r)) answer.Handled means below = let answered = (unbroken g t (frame.Request r) means.unbroken).answered in grind (arith, common_steps)
+makes_fit g t e a means below = grind (arith, common_steps)
+
+-- and the frames that an entry handles
+pub handles_fit : (g : Settings) (t : Facts) (e : Event) (a : Answer) → Means g t e a → t.handled.position ≤ g.top_position → t.handled.position + pos (handles a e) ≤ g.top_position
+unfolding pos_by
+handles_fit g t (event.Came conn f) answer.Handled means below = let fits = handled_fits g t f means.unbroken in grind (arith, common_steps)
+handles_fit g t e answer.Handled means below = absurd means
+handles_fit g t e a means below = omega (arith, below)
+
+-- the frame that refuses a connection
+pub refusal_spelled : (a : Answer) → IfSome (refusal a) IsSpellable
+refusal_spelled a = grind (arith, common_steps)
