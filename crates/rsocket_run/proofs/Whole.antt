@@ -1,14 +1,9 @@
--- A run that went to its end, and what was read for it.
-use Rattle.std.proofs.Common.{◌≡◌, ℕ, ◌≤◌, ◌+◌, List, [], ◌∷◌, ◌++◌, length, Option, Some, is_some, refl, sym, ap, subst, ◌∙◌, append_assoc, append-nil, ⊎_elim, arith, Result, Ok, Err, IfOk, OnOk}
+-- What was read is all of the input.
+use Rattle.std.proofs.Common.{◌≡◌, ℕ, ◌≤◌, ◌+◌, List, [], ◌++◌, length, Option, Some, sym, ap, subst, ◌∙◌, append-nil, ⊎_elim, arith}
 use Rattle.outside.specs.Streams.{ByteStream}
-use Rattle.rs_wire.specs.declared.words.Side.{Side}
-use Rattle.rs_wire.specs.declared.words.Side.TheVariants.{Client, Server}
-use Rattle.tape.specs.declared.entry.Entry.{Entry}
-use Rattle.session_core.specs.Seen.{Seen, told_by}
-use Rattle.cable.specs.Report.{report_of}
 use Rattle.cable.specs.declared.script.line.Line.{Line}
 use Rattle.cable.specs.Script.{IsScript}
-use Rattle.rsocket_run.specs.Run.{GotTapes, WasScript, end_of}
+use Rattle.rsocket_run.specs.Run.{WasScript}
 use Rattle.rsocket_run.specs.Streams.{IsReadTo}
 
 -- what was read is the whole text, where it is below the limit
