@@ -4,7 +4,7 @@ ghost use Rattle.std.specs.Prelude.{◌≡◌, ◌<◌, ◌^◌, ◌||◌, [], N
 ghost use Rattle.std.specs.List.{AllByRecursion};
 ghost use Rattle.rs_wire.specs.declared.words.Side.TheVariants.{Server};
 ghost use Rattle.rs_wire.specs.declared.settings.Settings.{Settings as Limits};
-ghost use Rattle.session_model.specs.Legal.{IsAskable};
+ghost use Rattle.rs_wire.specs.Calls.{CanBeAsked};
 ghost use Rattle.cable.specs.Line.{IsLine};
 ghost use Rattle.cable.specs.Played.{Downs, Drains, Ends, PlaysLine, PlaysLines, Round, There, Ups, asks, begins, cuts, cuts_there, nothing, opens};
 ghost use Rattle.cable.specs.Wires.{Arrives, At, Gave, IsAt, IsMoved, IsServerAt, Keeps, Reaches, ServerAt, sides_of, wire_of};
@@ -206,7 +206,7 @@ impl<T: Tape> Cable<T> {
 
     // A line with a call.
     fn call(&mut self, alloc: Global, side: Side, call: &Call) -> Result<(), OutOfMemory>
-        requires askable { IsAskable call.now }
+        requires askable { CanBeAsked call.now }
         requires at { IsAt self.old }
         ensures ends { Keeps self.old self.new }
         ensures played { (r : Ends) → At self.old r →

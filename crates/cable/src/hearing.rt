@@ -5,7 +5,7 @@ ghost use Rattle.rs_wire.specs.declared.words.Side.TheVariants.{Server};
 ghost use Rattle.rs_frame.specs.declared.frame.Frame.{Frame as Meant};
 ghost use Rattle.rs_frame.specs.Spelling.{IsSpellable};
 ghost use Rattle.rs_frame.specs.Framed.{framed_all};
-ghost use Rattle.session_model.specs.Legal.{IsFair};
+ghost use Rattle.session_model.specs.Legal.{CanBring};
 ghost use Rattle.session_model.specs.Frames.{refusal};
 ghost use Rattle.session_model.specs.Joined.{only};
 ghost use Rattle.session_model.specs.Answers.{answer_to};
@@ -45,7 +45,7 @@ pub(crate) enum Known {
 
 // Brings an event to an end: whether its answer leaves an entry.
 fn brings<T: Tape>(end: &mut Session<T>, event: &Event) -> Result<bool, OutOfMemory>
-    requires fair { IsFair end.old.settings event.now }
+    requires fair { CanBring end.old.settings event.now }
     requires no_draw { IsNoDrawEvent event.now }
     ensures end { end.new ≡ record end.old { entries = end.new.entries; spare = end.new.spare } }
     ensures noted { OnOk result (end.new.entries ≡
@@ -59,7 +59,7 @@ fn brings<T: Tape>(end: &mut Session<T>, event: &Event) -> Result<bool, OutOfMem
 
 // Brings what stands in front: whether its answer leaves an entry.
 fn come<T: Tape>(end: &mut Session<T>, conn: u64, next: Arrival) -> Result<bool, OutOfMemory>
-    requires fair { IsFair end.old.settings (event_meant conn next) }
+    requires fair { CanBring end.old.settings (event_meant conn next) }
     ensures end { end.new ≡ record end.old { entries = end.new.entries; spare = end.new.spare } }
     ensures noted { OnOk result (end.new.entries ≡
         adds end.old.settings end.old.entries (event_meant conn next)) }
@@ -129,7 +129,7 @@ fn opens<T: Tape>(
     end: &mut Session<T>,
     event: &Event,
 ) -> Result<Known, OutOfMemory>
-    requires fair { IsFair end.old.settings event.now }
+    requires fair { CanBring end.old.settings event.now }
     requires no_draw { IsNoDrawEvent event.now }
     ensures end { end.new ≡ record end.old { entries = end.new.entries; spare = end.new.spare } }
     ensures noted { OnOk result (end.new.entries ≡
