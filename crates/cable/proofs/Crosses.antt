@@ -14,6 +14,7 @@ use Rattle.rs_frame.specs.Framed.{framed_all, framed_frame}
 use Rattle.rs_chunk.specs.Stream.{IsTooLong, first_length}
 use Rattle.rs_chunk.proofs.Lengths.{length-canonical, length-framed_frame}
 use Rattle.session_model.specs.Lists.{IsPrefix}
+use Rattle.session_model.specs.declared.numbers.TheConstants.{LONG_FRAME}
 use Rattle.session_model.specs.Joined.{Crossed, BadFits}
 use Rattle.session_laws.proofs.Framing.{AreSpellable}
 use Rattle.session_laws.proofs.Prefixes.{prefix_nil, prefix_refl, prefix_trans}
@@ -54,23 +55,23 @@ abbrev pub ended : Option ℕ → List Arrival
 ended None = []
 ended (Some rule) = arrival.TooLong ∷ []
 
-abbrev pub IsTen : Option ℕ → Type 0
-IsTen None = Unit {0}
-IsTen (Some rule) = rule ≡ 10
+abbrev pub IsLong : Option ℕ → Type 0
+IsLong None = Unit {0}
+IsLong (Some rule) = rule ≡ LONG_FRAME
 
 -- these frames came whole, and then a length that is too long, where one stands: all of it crossed
 pub record Heard (most n : ℕ) (frames came : List Frame) (bad : Option ℕ) : Type 0 where
   pub rest : List Arrival
   pub parts : (wholes came ++ ended bad) ++ rest ≡ crossed most n frames
-  pub ten : IsTen bad
+  pub long : IsLong bad
 
 pub heard_more : (most n n' : ℕ) (frames more came : List Frame) (bad : Option ℕ) → n ≤ n' → Heard most n frames came bad → Heard most n' (frames ++ more) came bad
 heard_more most n n' frames more came bad le h =
     let p = prefix_trans (wholes came ++ ended bad) (crossed most n frames) (crossed most n' (frames ++ more)) (h.rest, h.parts) (crossed_more most n n' frames more le) in
-    record { rest = p.0; parts = p.1; ten = h.ten }
+    record { rest = p.0; parts = p.1; long = h.long }
 
 pub heard_nothing : (most n : ℕ) (frames : List Frame) → Heard most n frames [] None
-heard_nothing most n frames = record { rest = crossed most n frames; parts = refl; ten = tt }
+heard_nothing most n frames = record { rest = crossed most n frames; parts = refl; long = tt }
 
 -- ---- its bytes
 
@@ -148,7 +149,7 @@ spelled_behind (x ∷ xs) ys h = spelled_behind xs ys h.1
 drop_seam : (xs ys : List ℕ) → drop (length xs) (xs ++ ys) ≡ ys
 drop_seam xs ys = grind (arith, common_steps)
 
-bad_of : (most n : ℕ) (frames came : List Frame) (bad : Option ℕ) (rest : List Arrival) → AreSpellable frames → IsTen bad → wholes came ++ (ended bad ++ rest) ≡ crossed most n frames → BadFits bad most (framed_all came) (take n (framed_all frames))
+bad_of : (most n : ℕ) (frames came : List Frame) (bad : Option ℕ) (rest : List Arrival) → AreSpellable frames → IsLong bad → wholes came ++ (ended bad ++ rest) ≡ crossed most n frames → BadFits bad most (framed_all came) (take n (framed_all frames))
 bad_of most n frames came bad rest h1 h2 h3 = grind (arith, behind, too_long_front, spelled_behind, drop_seam)
 
 -- the bytes of what came crossed

@@ -1,6 +1,6 @@
 -- Draws, one behind the other.
 use Rattle.std.proofs.lemmas.Grind.{common_steps}
-use Rattle.std.proofs.Common.{◌≡◌, ◌≤◌, ◌<◌, ◌+◌, ◌-◌, ◌==◌, ◌^◌, ℕ, Bool, true, false, cond, min, List, [], ◌∷◌, ◌++◌, length, take, drop, refl, ap, subst, sym, ◌∙◌, arith, append_assoc, append-nil}
+use Rattle.std.proofs.Common.{◌≡◌, ◌≤◌, ◌<◌, ◌+◌, ◌-◌, ◌==◌, ◌^◌, ℕ, Bool, true, false, cond, min, nat_lt, List, [], ◌∷◌, ◌++◌, length, take, drop, refl, ap, subst, sym, ◌∙◌, arith, append_assoc, append-nil}
 use Rattle.std.proofs.lemmas.Bool.Decides.{nat_tests}
 use Rattle.std.proofs.lemmas.Bool.{eq-eqb, ne_eqb}
 use Rattle.std.proofs.Math.Seq.{take-add}
@@ -20,8 +20,9 @@ use Rattle.session_core.specs.Queued.{IfDrawn}
 use Rattle.session_core.specs.Seen.{Seen, IsUnlessWant, entries_after}
 use Rattle.session_model.proofs.Queue.{drawn_owes}
 use Rattle.cable.specs.declared.carrying.Most.{Most}
-use Rattle.cable.specs.Played.{DrawInSum, IsDraw, at_most}
-use Rattle.cable.specs.Hearing.{Carried, Filled, IsNoWant, IsStale}
+use Rattle.cable.specs.declared.carrying.Left.{Left}
+use Rattle.cable.specs.Played.{DrawInSum, DrawsWhere, IsDraw, at_most}
+use Rattle.cable.specs.Hearing.{Carried, Filled, Grew, IsNoWant, IsStale, Offered}
 use Rattle.cable.proofs.Following.{noted}
 
 -- ---- answers to draws
@@ -98,6 +99,7 @@ pub record Drew (g : Settings) (c : ℕ) (past now : List Entry) (start rest : R
   pub sum : DrawInSum g c drawing past n
   pub here : is_live (live now) c ≡ true
   pub less : queued g now + n ≡ queued g past
+  pub count : drawn now c ≡ drawn past c + n
   pub piece : List ℕ
   pub gave : given g now c ≡ given g past c ++ piece
   pub crossed : rest ≡ record start { bytes = start.bytes ++ piece }
@@ -110,6 +112,7 @@ none_drew g c past rest here = record {
   sum = refl;
   here = here;
   less = omega arith;
+  count = omega arith;
   piece = [];
   gave = sym (append-nil (given g past c));
   crossed = ap (λ (l : List ℕ). record rest { bytes = l }) (sym (append-nil rest.bytes));
@@ -122,12 +125,14 @@ drew_one g c past now start rest rest' n room buffer d some few fits bytes fed =
     let x : Entry = noted (event.Draw c room) (answer.Drawn room) in
     let one : IsDraw g c now x (answer.Drawn room) = record { room = room; some = some; few = few; entry = refl; right = sym (fills g now c room d.here some fits) } in
     let less : queued g (x ∷ now) + room ≡ queued g now = queued_less g now c room d.here fits in
+    let count : drawn (x ∷ now) c ≡ drawn now c + room = drawn_here now c room in
     record {
       drawing = x ∷ d.drawing;
       now_is = ap (λ (l : List Entry). x ∷ l) d.now_is;
       sum = (room, n, d.sum, subst (λ (l : List Entry). IsDraw g c l x (answer.Drawn room)) d.now_is one, refl);
       here = ap (λ (k : ℕ). is_live k c) (live_same now c room) ∙ d.here;
       less = omega (arith, less, d.less);
+      count = omega (arith, count, d.count);
       piece = d.piece ++ take room buffer;
       gave = given_here g now c room ∙ (ap (λ (l : List ℕ). given g now c ++ l) (sym bytes) ∙ (ap (λ (l : List ℕ). l ++ take room buffer) d.gave ∙ append_assoc (given g past c) d.piece (take room buffer)));
       crossed = fed ∙ (ap (λ (r : Rest). record r { bytes = r.bytes ++ take room buffer }) d.crossed ∙ ap (λ (l : List ℕ). record start { bytes = l }) (append_assoc start.bytes d.piece (take room buffer)));
@@ -137,9 +142,46 @@ pub drew_more : (u v w : Seen) (c : ℕ) (start rest rest' : Rest) (n room : ℕ
     → Filled c v w room buffer → rest' ≡ record rest { bytes = rest.bytes ++ take room buffer } → Drew u.settings c u.entries w.entries start rest' (n + room)
 drew_more u v w c start rest rest' n room buffer h1 h2 h3 h4 h5 h6 h7 = grind (arith, common_steps, drew_one)
 
-pub carried_stale : (u v : Seen) (c : ℕ) (m : Most) (rest : Rest) (room : ℕ) → is_live (live u.entries) c ≡ false → 0 < room → room < 2 ^ 32 → IsStale c u v room → Carried c m u v rest rest
+pub carried_stale : (u v : Seen) (c : ℕ) (m : Most) (rest : Rest) (room : ℕ) → is_live (live u.entries) c ≡ false → 0 < room → room < 2 ^ 32 → IsStale c u v room → Carried c m u v rest rest false
 unfolding drawn due facts
 carried_stale u v c m rest room h1 h2 h3 h4 = grind (arith, common_steps)
 
+grew_by : (m n k : ℕ) (some : Bool) → n ≡ m + k → some ≡ nat_lt 0 k → Grew some m n
+grew_by m n k some h1 h2 = grind (arith, common_steps, nat_tests)
+
+-- all of it was drawn
+pub carried_all : (u v : Seen) (c : ℕ) (m : Most) (start rest : Rest) (n : ℕ) (some : Bool) → is_live (live u.entries) c ≡ true → n ≡ at_most m (queued u.settings u.entries) → some ≡ nat_lt 0 n → Drew u.settings c u.entries v.entries start rest n → Carried c m u v start rest some
+carried_all u v c m start rest n some here total is d = record {
+  draws = subst (λ (b : Bool). DrawsWhere b u.settings c m u.entries v.entries) (sym here) (d.drawing, subst (DrawInSum u.settings c d.drawing u.entries) total d.sum, d.now_is);
+  piece = d.piece;
+  gave = d.gave;
+  crossed = d.crossed;
+  grew = grew_by (drawn u.entries c) (drawn v.entries c) n some d.count is;
+}
+
 pub lesser_below : (m : Most) (n waits : ℕ) → n ≡ at_most m waits → n ≤ waits
 lesser_below m n waits h1 = grind (arith, common_steps)
+
+taken_more : (m n : ℕ) (bytes : List ℕ) → m ≤ n → take n bytes ≡ take m bytes ++ take (n - m) (drop m bytes)
+taken_more m n bytes le =
+    let sum : m + (n - m) ≡ n = omega (arith, le) in
+    ap (λ (k : ℕ). take k bytes) (sym sum) ∙ take-add m (n - m) bytes
+
+-- ---- what is left of a refusal
+
+pub offered_more : (m : Most) (l k : Left) (start rest : Rest) (count end waits : ℕ) (some : Bool) (piece : List ℕ) → l.crossed ≤ length l.bytes → waits ≡ length l.bytes - l.crossed → count ≡ at_most m waits → end ≡ l.crossed + count → piece ≡ take (end - l.crossed) (drop l.crossed l.bytes) → some ≡ nat_lt 0 count
+    → k ≡ record l { crossed = end } → rest ≡ record start { bytes = start.bytes ++ piece } → Offered m l k start rest some
+offered_more m l k start rest count end waits some piece within waits_is count_is end_is piece_is is k_is fed =
+    let bytes : k.bytes ≡ l.bytes = ap (λ (x : Left). x.bytes) k_is in
+    let crossed : k.crossed ≡ end = ap (λ (x : Left). x.crossed) k_is in
+    let below = lesser_below m count waits count_is in
+    let most : end ≤ length l.bytes = omega (arith, within, waits_is, below, end_is) in
+    record {
+      bytes = bytes;
+      crossed = crossed ∙ (end_is ∙ ap (λ (n : ℕ). l.crossed + n) (count_is ∙ ap (at_most m) waits_is));
+      within = omega (arith, crossed, most, ap length bytes);
+      piece = piece;
+      gave = ap (λ (n : ℕ). take n l.bytes) crossed ∙ (taken_more l.crossed end l.bytes (omega (arith, end_is)) ∙ ap (λ (p : List ℕ). take l.crossed l.bytes ++ p) (sym piece_is));
+      fed = fed;
+      grew = grew_by l.crossed k.crossed count some (crossed ∙ end_is) is;
+    }

@@ -14,7 +14,8 @@ use Rattle.tape.specs.declared.entry.Entry.{Entry}
 use Rattle.session_model.specs.Life.{openings, openings_in}
 use Rattle.session_model.specs.Frames.{came, brings, first_bad, bad_in, was_opened, due, owes, drawn}
 use Rattle.session_model.specs.Answers.{answer_to}
-use Rattle.session_model.specs.Joined.{is_accepted, opens_as}
+use Rattle.session_model.specs.Joined.{is_accepted, opens_as, refused, refuses}
+use Rattle.session_model.specs.declared.numbers.TheConstants.{LONG_FRAME}
 use Rattle.cable.specs.declared.carrying.Most.{Most}
 use Rattle.cable.specs.declared.arrival.Arrival.{Arrival}
 use Rattle.cable.specs.declared.arrival.Arrival.TheVariants as arrival
@@ -69,30 +70,44 @@ pub record Same (c : ℕ) (past past' : List Entry) : Type 0 where
 same_on : (c : ℕ) (a b d : List Entry) → Same c a b → Same c b d → Same c a d
 same_on c a b d h k = record { came_is = k.came_is ∙ h.came_is; bad_is = k.bad_is ∙ h.bad_is }
 
--- nothing came
+-- nothing came, and nothing was refused
 pub record Quiet (past past' : List Entry) : Type 0 where
   pub same : (c : ℕ) → Same c past past'
   pub openings_are : openings past' ≡ openings past
+  pub refused_are : (d : ℕ) → refused past' d ≡ refused past d
 
 pub quiet_not : (past : List Entry) → Quiet past past
-quiet_not past = record { same = λ c. record { came_is = refl; bad_is = refl }; openings_are = refl }
+quiet_not past = record { same = λ c. record { came_is = refl; bad_is = refl }; openings_are = refl; refused_are = λ d. refl }
 
 quiet_on : (a b d : List Entry) → Quiet a b → Quiet b d → Quiet a d
-quiet_on a b d h k = record { same = λ c. same_on c a b d (h.same c) (k.same c); openings_are = k.openings_are ∙ h.openings_are }
+quiet_on a b d h k = record { same = λ c. same_on c a b d (h.same c) (k.same c); openings_are = k.openings_are ∙ h.openings_are; refused_are = λ e. k.refused_are e ∙ h.refused_are e }
 
 pub same_step : (c : ℕ) (x : Entry) (past : List Entry) → brings past c x.event ≡ [] → bad_in past c x.event ≡ None → Same c past (x ∷ past)
 unfolding came first_bad
 same_step c x past h1 h2 = grind (arith, common_steps)
 
--- an entry of a call or a draw
+refuses_none : (past : List Entry) (d : ℕ) (a : Answer) (e : Event) → openings_in e ≡ 0 → refuses past d a e ≡ []
+refuses_none past d a e h1 = grind (arith, common_steps)
+
+-- what opens nothing refuses nothing
+pub refused_step : (x : Entry) (past : List Entry) (d : ℕ) → openings_in x.event ≡ 0 → refused (x ∷ past) d ≡ refused past d
+unfolding refused
+refused_step x past d o = ap (λ (l : List Frame). refused past d ++ l) (refuses_none past d x.answer x.event o) ∙ append-nil (refused past d)
+
+-- an entry of a call, a draw or a cut
 pub quiet_one : (x : Entry) (past : List Entry) → ((c : ℕ) → brings past c x.event ≡ []) → ((c : ℕ) → bad_in past c x.event ≡ None) → openings_in x.event ≡ 0 → Quiet past (x ∷ past)
 unfolding openings
-quiet_one x past b d o = record { same = λ c. same_step c x past (b c) (d c); openings_are = omega (arith, o) }
+quiet_one x past b d o = record { same = λ c. same_step c x past (b c) (d c); openings_are = omega (arith, o); refused_are = λ e. refused_step x past e o }
 
 -- a call
 pub added_quiet : (g : Settings) (past : List Entry) (c : Call) (b : Bool) → Quiet past (cond b (answered g past (event.Asked c) ∷ past) past) × Goes g past (cond b (answered g past (event.Asked c) ∷ past) past)
 added_quiet g past c true = (quiet_one (answered g past (event.Asked c)) past (λ k. refl) (λ k. refl) refl, goes_one g (answered g past (event.Asked c)) past)
 added_quiet g past c false = (quiet_not past, goes_not g past)
+
+-- a cut
+pub cut_quiet : (g : Settings) (past : List Entry) (c : ℕ) (b : Bool) → Quiet past (cond b (answered g past (event.Cut c) ∷ past) past) × Goes g past (cond b (answered g past (event.Cut c) ∷ past) past)
+cut_quiet g past c true = (quiet_one (answered g past (event.Cut c)) past (λ k. refl) (λ k. refl) refl, goes_one g (answered g past (event.Cut c)) past)
+cut_quiet g past c false = (quiet_not past, goes_not g past)
 
 pub draw_quiet : (g : Settings) (c : ℕ) (past : List Entry) (x : Entry) (a : Answer) → IsDraw g c past x a → Quiet past (x ∷ past)
 draw_quiet g c past x a d =
@@ -124,7 +139,7 @@ pub came_here : (c : ℕ) (past : List Entry) (x : Entry) (f : Frame) → x.even
 unfolding came first_bad
 came_here c past x f h1 h2 h3 = grind (arith, common_steps, here)
 
-pub bad_here : (c : ℕ) (past : List Entry) (x : Entry) → x.event ≡ event.Bad c 10 → was_opened past c ≡ true → first_bad past c ≡ None → (came (x ∷ past) c ≡ came past c) × (first_bad (x ∷ past) c ≡ Some 10)
+pub bad_here : (c : ℕ) (past : List Entry) (x : Entry) → x.event ≡ event.Bad c LONG_FRAME → was_opened past c ≡ true → first_bad past c ≡ None → (came (x ∷ past) c ≡ came past c) × (first_bad (x ∷ past) c ≡ Some LONG_FRAME)
 unfolding came first_bad
 bad_here c past x h1 h2 h3 = grind (arith, common_steps, eq-eqb)
 
@@ -141,19 +156,21 @@ opened_still c past past' same h = ap (λ (n : ℕ). nat_lt 0 c && nat_le c n) s
 pub record HeardOn (g : Settings) (c : ℕ) (past past' : List Entry) : Type 0 where
   pub same : (e : ℕ) → e ≢ c → Same e past past'
   pub openings_are : openings past' ≡ openings past
+  pub refused_are : (d : ℕ) → refused past' d ≡ refused past d
   pub goes : Goes g past past'
 
 heard_not : (g : Settings) (c : ℕ) (past : List Entry) → HeardOn g c past past
-heard_not g c past = record { same = λ e far. record { came_is = refl; bad_is = refl }; openings_are = refl; goes = goes_not g past }
+heard_not g c past = record { same = λ e far. record { came_is = refl; bad_is = refl }; openings_are = refl; refused_are = λ d. refl; goes = goes_not g past }
 
 heard_on : (g : Settings) (c : ℕ) (a b d : List Entry) → HeardOn g c a b → HeardOn g c b d → HeardOn g c a d
-heard_on g c a b d h k = record { same = λ e far. same_on e a b d (h.same e far) (k.same e far); openings_are = k.openings_are ∙ h.openings_are; goes = goes_on g a b d h.goes k.goes }
+heard_on g c a b d h k = record { same = λ e far. same_on e a b d (h.same e far) (k.same e far); openings_are = k.openings_are ∙ h.openings_are; refused_are = λ e. k.refused_are e ∙ h.refused_are e; goes = goes_on g a b d h.goes k.goes }
 
 heard_one : (g : Settings) (c : ℕ) (a : Arrival) (past : List Entry) → HeardOn g c past (answered g past (event_of c a) ∷ past)
 unfolding openings
 heard_one g c a past = record {
   same = λ e far. let s = elsewhere c e a past far in same_step e (answered g past (event_of c a)) past s.0 s.1;
   openings_are = omega (arith, no_opening c a);
+  refused_are = λ d. refused_step (answered g past (event_of c a)) past d (no_opening c a);
   goes = goes_one g (answered g past (event_of c a)) past;
 }
 
@@ -177,16 +194,16 @@ takes_none g c items past h1 = grind (arith, common_steps)
 
 heard_so_far : (most n c : ℕ) (frames : List Frame) (past : List Entry) (rest : List Arrival) → first_bad past c ≡ None → wholes (came past c) ++ rest ≡ crossed most n frames → Heard most n frames (came past c) (first_bad past c)
 heard_so_far most n c frames past rest b e =
-    subst (λ (o : Option ℕ). Heard most n frames (came past c) o) (sym b) (record { rest = rest; parts = ap (λ (l : List Arrival). l ++ rest) (append-nil (wholes (came past c))) ∙ e; ten = tt })
+    subst (λ (o : Option ℕ). Heard most n frames (came past c) o) (sym b) (record { rest = rest; parts = ap (λ (l : List Arrival). l ++ rest) (append-nil (wholes (came past c))) ∙ e; long = tt })
 
 abbrev pub IsHeard : ℕ → ℕ → ℕ → List Frame → List Entry → Type 0
 IsHeard most n c frames past = Heard most n frames (came past c) (first_bad past c)
 
-too_long_heard : (most n c : ℕ) (frames : List Frame) (past : List Entry) (x : Entry) (rest : List Arrival) → x.event ≡ event.Bad c 10 → was_opened past c ≡ true → first_bad past c ≡ None → wholes (came past c) ++ (arrival.TooLong ∷ rest) ≡ crossed most n frames → IsHeard most n c frames (x ∷ past)
+too_long_heard : (most n c : ℕ) (frames : List Frame) (past : List Entry) (x : Entry) (rest : List Arrival) → x.event ≡ event.Bad c LONG_FRAME → was_opened past c ≡ true → first_bad past c ≡ None → wholes (came past c) ++ (arrival.TooLong ∷ rest) ≡ crossed most n frames → IsHeard most n c frames (x ∷ past)
 too_long_heard most n c frames past x rest is o b e =
     let h = bad_here c past x is o b in
     subst (λ (l : List Frame). Heard most n frames l (first_bad (x ∷ past) c)) (sym h.0) (subst (λ (v : Option ℕ). Heard most n frames (came past c) v) (sym h.1)
-    (record { rest = rest; parts = append_assoc (wholes (came past c)) (arrival.TooLong ∷ []) rest ∙ e; ten = refl }))
+    (record { rest = rest; parts = append_assoc (wholes (came past c)) (arrival.TooLong ∷ []) rest ∙ e; long = refl }))
 
 pub takes_heard : (g : Settings) (most n c : ℕ) (frames : List Frame) (items : List Arrival) (past : List Entry) → was_opened past c ≡ true → first_bad past c ≡ None → wholes (came past c) ++ items ≡ crossed most n frames → IsHeard most n c frames (takes g c items past)
 unfolding takes
@@ -199,9 +216,9 @@ takes_heard g most n c frames (arrival.Whole f ∷ more) past o b e =
     (ap (λ (l : List Frame). wholes l ++ more) next.0 ∙ (sym (whole_on (came past c) f more) ∙ e)))
     (λ v. heard_so_far most n c frames past (arrival.Whole f ∷ more) b e)
 takes_heard g most n c frames (arrival.TooLong ∷ more) past o b e =
-    let x = answered g past (event.Bad c 10) in
+    let x = answered g past (event.Bad c LONG_FRAME) in
     let none : more ≡ [] = last_is_too_long most n frames (came past c) more e in
-    either (IsHeard most n c frames) (leaves (answer_to g past (event.Bad c 10))) (takes g c more (x ∷ past)) past
+    either (IsHeard most n c frames) (leaves (answer_to g past (event.Bad c LONG_FRAME))) (takes g c more (x ∷ past)) past
     (λ t. subst (IsHeard most n c frames) (sym (takes_none g c more (x ∷ past) none)) (too_long_heard most n c frames past x more refl o b e))
     (λ v. heard_so_far most n c frames past (arrival.TooLong ∷ more) b e)
 

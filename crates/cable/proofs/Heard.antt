@@ -1,6 +1,6 @@
 -- What an end hears, arrival by arrival.
 use Rattle.std.proofs.lemmas.Grind.{common_steps}
-use Rattle.std.proofs.Common.{◌≡◌, ◌+◌, ◌-◌, ℕ, Bool, true, false, cond, is_none, is_some, List, [], ◌∷◌, ◌++◌, take, Option, Some, None, refl, ap, subst, sym, ◌∙◌, arith, append_assoc, append-nil}
+use Rattle.std.proofs.Common.{◌≡◌, ◌<◌, ◌+◌, ◌-◌, ℕ, Bool, true, false, cond, is_none, is_some, List, [], ◌∷◌, ◌++◌, take, Option, Some, None, refl, ap, subst, sym, ◌∙◌, arith, append_assoc, append-nil}
 use Rattle.std.proofs.Math.Seq.{drop-append_seam}
 use Rattle.std.proofs.lemmas.List.{append_cancel_left}
 use Rattle.std.proofs.lemmas.List.Concat.{flat_map-cons}
@@ -18,15 +18,16 @@ use Rattle.session_model.specs.Life.{openings}
 use Rattle.session_model.specs.Frames.{came, first_bad, was_opened}
 use Rattle.session_model.specs.Answers.{answer_to}
 use Rattle.session_core.specs.Seen.{Seen}
+use Rattle.session_model.specs.declared.numbers.TheConstants.{LONG_FRAME}
 use Rattle.session_laws.proofs.Framing.{AreSpellable}
 use Rattle.session_model.proofs.Queue.{framed_all-append}
 use Rattle.cable.specs.declared.arrival.Arrival.{Arrival}
 use Rattle.cable.specs.declared.arrival.Arrival.TheVariants as arrival
-use Rattle.cable.specs.Played.{adds, answered, crossed, event_of, hears, takes}
+use Rattle.cable.specs.Played.{adds, answered, arrivals, arrivals_in, crossed, event_of, hears, takes}
 use Rattle.tape.specs.Answers.{leaves}
 use Rattle.cable.proofs.Following.{adds_none}
 use Rattle.cable.specs.declared.hearing.Crossing.{Crossing}
-use Rattle.cable.specs.Hearing.{Ahead, CrossedTo, IsHearer, IsNextOf, IsOnly, IsSpelledInFront, too_long}
+use Rattle.cable.specs.Hearing.{Ahead, CrossedTo, Grew, IsHearer, IsNextOf, IsOnly, IsSpelledInFront, too_long}
 use Rattle.cable.proofs.Crosses.{behind, last_is_too_long, wholes}
 use Rattle.cable.proofs.Fronts.{front_none, front_too_long, front_whole}
 use Rattle.cable.proofs.Grows.{bad_here, came_here, opened_still, whole_on}
@@ -140,65 +141,85 @@ hears_same g c n frames past rest rest' f h1 h2 h3 h4 = grind (arith, common_ste
 pub hears_too_long : (g : Settings) (c n : ℕ) (frames : List Frame) (past : List Entry) (rest : Rest) → CrossedTo g c n frames past rest false → InFront g c n frames past rest arrival.TooLong → CrossedTo g c n frames (next_past g c arrival.TooLong past) rest true
 unfolding openings
 hears_too_long g c n frames past rest x i =
-    let here = bad_here c past (answered g past (event.Bad c 10)) refl x.opened i.none_bad in
+    let here = bad_here c past (answered g past (event.Bad c LONG_FRAME)) refl x.opened i.none_bad in
     record {
       ahead = x.ahead;
-      opened = opened_still c past (answered g past (event.Bad c 10) ∷ past) (omega arith) x.opened;
+      opened = opened_still c past (answered g past (event.Bad c LONG_FRAME) ∷ past) (omega arith) x.opened;
       bytes = x.bytes ∙ ap (λ (l : List Frame). framed_all l ++ rest.bytes) (sym here.0);
       bad = ap is_some (sym here.1);
-      parts = λ none. absurd (some_none 10 (sym here.1 ∙ none));
+      parts = λ none. absurd (some_none LONG_FRAME (sym here.1 ∙ none));
     }
 
-pub hears_ends : (g : Settings) (c n : ℕ) (frames : List Frame) (past : List Entry) (rest : Rest) → InFront g c n frames past rest arrival.TooLong → leaves (answer_to g past (event.Bad c 10)) ≡ true → hears g c n frames past ≡ next_past g c arrival.TooLong past
+pub hears_ends : (g : Settings) (c n : ℕ) (frames : List Frame) (past : List Entry) (rest : Rest) → InFront g c n frames past rest arrival.TooLong → leaves (answer_to g past (event.Bad c LONG_FRAME)) ≡ true → hears g c n frames past ≡ next_past g c arrival.TooLong past
 unfolding takes
 hears_ends g c n frames past rest h1 h2 = grind (arith, common_steps, last_is_too_long, hears_left, takes_nothing)
 
 -- ---- so far
 
--- what was heard, and what is still to be heard from here is the same
-pub record SoFar (g : Settings) (c n : ℕ) (frames : List Frame) (past now : List Entry) (rest : Rest) : Type 0 where
+-- what was heard and whether it is something, and what is still to be heard from here is the same
+pub record SoFar (g : Settings) (c n : ℕ) (frames : List Frame) (past now : List Entry) (rest : Rest) (some : Bool) : Type 0 where
   pub crosses : CrossedTo g c n frames now rest false
   pub same : hears g c n frames past ≡ hears g c n frames now
+  pub grew : Grew some (arrivals past) (arrivals now)
 
-finish : (c n : ℕ) (frames : List Frame) (u w : Seen) (x : Crossing) (rest : Rest) (over : Bool) (end : List Entry) → x ≡ record { rest = rest; over = over } → hears u.settings c n frames u.entries ≡ end → w.entries ≡ end → CrossedTo u.settings c n frames end rest over → IsHearer c n frames u w x
-finish c n frames u w x rest over end h1 h2 h3 h4 = grind (arith, common_steps)
+finish : (c n : ℕ) (frames : List Frame) (u w : Seen) (x : Crossing) (rest : Rest) (over some : Bool) (end : List Entry) → x ≡ record { rest = rest; over = over } → hears u.settings c n frames u.entries ≡ end → w.entries ≡ end → CrossedTo u.settings c n frames end rest over → Grew some (arrivals u.entries) (arrivals end) → IsHearer c n frames u w x some
+finish c n frames u w x rest over some end h1 h2 h3 h4 h5 = grind (arith, common_steps)
+
+one_more : (c : ℕ) (a : Arrival) → arrivals_in (event_of c a) ≡ 1
+one_more c a = grind (arith, common_steps)
+
+grew_on : (some : Bool) (m n : ℕ) → Grew some m n → m < n + 1
+grew_on some m n h1 = grind (arith, common_steps)
+
+-- one more came
+more_came : (g : Settings) (c : ℕ) (a : Arrival) (past now : List Entry) (some : Bool) → Grew some (arrivals past) (arrivals now) → Grew true (arrivals past) (arrivals (next_past g c a now))
+unfolding arrivals
+more_came g c a past now some f = let k = grew_on some (arrivals past) (arrivals now) f in omega (arith, k, one_more c a)
 
 -- nothing is in front
-pub none_now : (c n : ℕ) (frames : List Frame) (u w : Seen) (x : Crossing) → x.over ≡ false → IsNextOf x.rest None → SoFar u.settings c n frames u.entries w.entries x.rest → IsHearer c n frames u w x
-none_now c n frames u w x h1 h2 h3 = grind (arith, common_steps, finish, over, hears_nothing)
+pub none_now : (c n : ℕ) (frames : List Frame) (u w : Seen) (x : Crossing) (some : Bool) → x.over ≡ false → IsNextOf x.rest None → SoFar u.settings c n frames u.entries w.entries x.rest some → IsHearer c n frames u w x some
+none_now c n frames u w x some h1 h2 h3 = grind (arith, common_steps, finish, over, hears_nothing)
+
+-- nothing more comes
+pub over_now : (c n : ℕ) (frames : List Frame) (u : Seen) (x : Crossing) → x.over ≡ true → CrossedTo u.settings c n frames u.entries x.rest x.over → IsHearer c n frames u u x false
+over_now c n frames u x h1 h2 = grind (arith, common_steps, over)
+
+-- nothing came yet
+pub none_so_far : (c n : ℕ) (frames : List Frame) (u : Seen) (x : Crossing) → x.over ≡ false → CrossedTo u.settings c n frames u.entries x.rest x.over → SoFar u.settings c n frames u.entries u.entries x.rest false
+none_so_far c n frames u x h1 h2 = grind (arith, common_steps)
 
 -- what is in front stays
-pub stays_now : (c n : ℕ) (frames : List Frame) (u v w : Seen) (x : Crossing) (a : Arrival) → v ≡ record u { entries = v.entries; spare = v.spare } → x.over ≡ false → IsNextOf x.rest (Some a) → SoFar u.settings c n frames u.entries v.entries x.rest → false ≡ leaves (answer_to v.settings v.entries (event_of c a)) → w.entries ≡ adds v.settings v.entries (event_of c a) → IsHearer c n frames u w x
-stays_now c n frames u v w x a settled is h s l now =
+pub stays_now : (c n : ℕ) (frames : List Frame) (u v w : Seen) (x : Crossing) (some : Bool) (a : Arrival) → v ≡ record u { entries = v.entries; spare = v.spare } → x.over ≡ false → IsNextOf x.rest (Some a) → SoFar u.settings c n frames u.entries v.entries x.rest some → false ≡ leaves (answer_to v.settings v.entries (event_of c a)) → w.entries ≡ adds v.settings v.entries (event_of c a) → IsHearer c n frames u w x some
+stays_now c n frames u v w x some a settled is h s l now =
     let g = u.settings in
     let same : v.settings ≡ g = ap (λ (y : Seen). y.settings) settled in
     let stays : leaves (answer_to g v.entries (event_of c a)) ≡ false = subst (λ (k : Settings). leaves (answer_to k v.entries (event_of c a)) ≡ false) same (sym l) in
-    finish c n frames u w x x.rest false v.entries (ap (λ (b : Bool). record { rest = x.rest; over = b }) is)
+    finish c n frames u w x x.rest false some v.entries (ap (λ (b : Bool). record { rest = x.rest; over = b }) is)
     (s.same ∙ hears_stays g c n frames v.entries x.rest a (in_front g c n frames v.entries x.rest a s.crosses h) stays)
-    (now ∙ (ap (λ (k : Settings). adds k v.entries (event_of c a)) same ∙ adds_none g v.entries (event_of c a) stays)) s.crosses
+    (now ∙ (ap (λ (k : Settings). adds k v.entries (event_of c a)) same ∙ adds_none g v.entries (event_of c a) stays)) s.crosses s.grew
 
 added : (u v w : Seen) (e : Event) → v ≡ record u { entries = v.entries; spare = v.spare } → true ≡ leaves (answer_to v.settings v.entries e) → w.entries ≡ adds v.settings v.entries e → (leaves (answer_to u.settings v.entries e) ≡ true) × (w.entries ≡ answered u.settings v.entries e ∷ v.entries)
 added u v w e h1 h2 h3 = grind (arith, common_steps)
 
 -- what is in front is too long, and came
-pub ends_now : (c n : ℕ) (frames : List Frame) (u v w : Seen) (x : Crossing) (a : Arrival) → v ≡ record u { entries = v.entries; spare = v.spare } → true ≡ too_long a → IsNextOf x.rest (Some a) → SoFar u.settings c n frames u.entries v.entries x.rest → true ≡ leaves (answer_to v.settings v.entries (event_of c a)) → w.entries ≡ adds v.settings v.entries (event_of c a) → IsHearer c n frames u w (record x { over = true })
-ends_now c n frames u v w x (arrival.Whole f) settled is h s l now = absurd (cc)
-ends_now c n frames u v w x arrival.TooLong settled is h s l now =
+pub ends_now : (c n : ℕ) (frames : List Frame) (u v w : Seen) (x : Crossing) (some : Bool) (a : Arrival) → v ≡ record u { entries = v.entries; spare = v.spare } → true ≡ too_long a → IsNextOf x.rest (Some a) → SoFar u.settings c n frames u.entries v.entries x.rest some → true ≡ leaves (answer_to v.settings v.entries (event_of c a)) → w.entries ≡ adds v.settings v.entries (event_of c a) → IsHearer c n frames u w (record x { over = true }) true
+ends_now c n frames u v w x some (arrival.Whole f) settled is h s l now = absurd (cc)
+ends_now c n frames u v w x some arrival.TooLong settled is h s l now =
     let g = u.settings in
-    let more = added u v w (event.Bad c 10) settled l now in
+    let more = added u v w (event.Bad c LONG_FRAME) settled l now in
     let i = in_front g c n frames v.entries x.rest arrival.TooLong s.crosses h in
-    finish c n frames u w (record x { over = true }) x.rest true (next_past g c arrival.TooLong v.entries) refl (s.same ∙ hears_ends g c n frames v.entries x.rest i more.0) more.1 (hears_too_long g c n frames v.entries x.rest s.crosses i)
+    finish c n frames u w (record x { over = true }) x.rest true true (next_past g c arrival.TooLong v.entries) refl (s.same ∙ hears_ends g c n frames v.entries x.rest i more.0) more.1 (hears_too_long g c n frames v.entries x.rest s.crosses i) (more_came g c arrival.TooLong u.entries v.entries some s.grew)
 
 -- what is in front is a frame, and came
-pub goes_now : (c n : ℕ) (frames : List Frame) (u v w : Seen) (rest rest' : Rest) (a : Arrival) → v ≡ record u { entries = v.entries; spare = v.spare } → false ≡ too_long a → IsNextOf rest (Some a) → SoFar u.settings c n frames u.entries v.entries rest → true ≡ leaves (answer_to v.settings v.entries (event_of c a)) → w.entries ≡ adds v.settings v.entries (event_of c a)
-    → rest'.max_in ≡ rest.max_in → rest.bytes ≡ framed (first_frame rest.bytes) ++ rest'.bytes → SoFar u.settings c n frames u.entries w.entries rest'
-goes_now c n frames u v w rest rest' arrival.TooLong settled is h s l now most cut = absurd (cc)
-goes_now c n frames u v w rest rest' (arrival.Whole f) settled is h s l now most cut =
+pub goes_now : (c n : ℕ) (frames : List Frame) (u v w : Seen) (rest rest' : Rest) (some : Bool) (a : Arrival) → v ≡ record u { entries = v.entries; spare = v.spare } → false ≡ too_long a → IsNextOf rest (Some a) → SoFar u.settings c n frames u.entries v.entries rest some → true ≡ leaves (answer_to v.settings v.entries (event_of c a)) → w.entries ≡ adds v.settings v.entries (event_of c a)
+    → rest'.max_in ≡ rest.max_in → rest.bytes ≡ framed (first_frame rest.bytes) ++ rest'.bytes → SoFar u.settings c n frames u.entries w.entries rest' true
+goes_now c n frames u v w rest rest' some arrival.TooLong settled is h s l now most cut = absurd (cc)
+goes_now c n frames u v w rest rest' some (arrival.Whole f) settled is h s l now most cut =
     let g = u.settings in
     let more = added u v w (event.Came c f) settled l now in
     let next = hears_whole g c n frames v.entries rest rest' f s.crosses h most cut in
-    subst (λ (p : List Entry). SoFar g c n frames u.entries p rest') (sym more.1)
-    (record { crosses = next; same = s.same ∙ hears_same g c n frames v.entries rest rest' f (in_front g c n frames v.entries rest (arrival.Whole f) s.crosses h) next s.crosses.opened more.0 })
+    subst (λ (p : List Entry). SoFar g c n frames u.entries p rest' true) (sym more.1)
+    (record { crosses = next; same = s.same ∙ hears_same g c n frames v.entries rest rest' f (in_front g c n frames v.entries rest (arrival.Whole f) s.crosses h) next s.crosses.opened more.0; grew = more_came g c (arrival.Whole f) u.entries v.entries some s.grew })
 
 -- ---- conditions
 

@@ -12,16 +12,16 @@ use Rattle.tape.specs.declared.answer.Answer.TheVariants as answer
 use Rattle.tape.specs.declared.entry.Entry.{Entry}
 use Rattle.session_model.specs.Lists.{first_of}
 use Rattle.session_model.specs.Life.{openings, openings_in}
-use Rattle.session_model.specs.Frames.{came, brings, first_bad, bad_in, due, drawn}
+use Rattle.session_model.specs.Frames.{came, brings, first_bad, bad_in, due, drawn, refusal}
 use Rattle.session_model.specs.Answers.{answer_to, facts}
-use Rattle.session_model.specs.Joined.{IsOpening, is_accepted}
+use Rattle.session_model.specs.Joined.{IsOpening, bytes_offered, frames_offered, is_accepted, only, refused, refuses}
 use Rattle.cable.specs.declared.arrival.Arrival.{Arrival}
 use Rattle.cable.specs.declared.arrival.Arrival.TheVariants as arrival
 use Rattle.cable.specs.Played.{There, Ends, Link, Sides, answered, crossed_up, hears_if_accepted, link_of, meets, opened_by, opens, pair_of, there_of, with_client, with_link}
 use Rattle.tape.specs.Answers.{leaves}
 use Rattle.cable.proofs.Crosses.{Heard, heard_nothing}
-use Rattle.cable.proofs.Grows.{Same, goes_one, same_step}
-use Rattle.cable.proofs.Pairing.{DownHeard, Linked, LinkedThere, Paired, UpHeard, more_opening, paired_up, quiet_client, same_heard, sends_heard}
+use Rattle.cable.proofs.Grows.{IsHeard, Same, goes_one, same_step}
+use Rattle.cable.proofs.Pairing.{DownHeard, Linked, LinkedThere, Paired, UpHeard, more_opening, paired_up, quiet_client, same_heard, sends_down, silent_heard}
 
 -- ---- the number of an opening
 
@@ -80,6 +80,11 @@ paired_with s r (answer.Violation v) is p = unlinked s r _ (open_goes s r (answe
 paired_with s r (answer.SetupRefused f) is p = unlinked s r _ (open_goes s r (answer.SetupRefused f) p)
 paired_with s r (answer.Stale c) is p = unlinked s r _ (open_goes s r (answer.Stale c) p)
 paired_with s r (answer.Refused f) is p = unlinked s r _ (open_goes s r (answer.Refused f) p)
+paired_with s r answer.Done is p = unlinked s r _ (open_goes s r answer.Done p)
+paired_with s r (answer.Got d) is p = unlinked s r _ (open_goes s r (answer.Got d) p)
+paired_with s r (answer.GotJob j) is p = unlinked s r _ (open_goes s r (answer.GotJob j) p)
+paired_with s r answer.Parted is p = unlinked s r _ (open_goes s r answer.Parted p)
+paired_with s r (answer.PeerError code) is p = unlinked s r _ (open_goes s r (answer.PeerError code) p)
 paired_with s r (answer.Closed w) is p = unlinked s r _ (open_goes s r (answer.Closed w) p)
 
 pub paired_open : (s : Sides) (r : Ends) → Paired s r → Paired s (opens s r)
@@ -121,6 +126,23 @@ first_elsewhere : (x : Entry) (past : List Entry) (f : Frame) (d : ℕ) → x.ev
 first_elsewhere x past f d e le =
     same_step d x past (ap (λ (v : Event). brings past d v) e ∙ ap (λ (b : Bool). cond {A = List Frame} b (f ∷ []) []) (ne_eqb (openings past + 1) d (λ same. absurd (omega (arith, le, same))))) (ap (λ (v : Event). bad_in past d v) e)
 
+-- nothing was refused on an opening that is still to come
+refuses_later : (past : List Entry) (d : ℕ) (a : Answer) (e : Event) → openings past + openings_in e < d → refuses past d a e ≡ []
+refuses_later past d a e h1 = grind (arith, common_steps, ne_eqb)
+
+refused_later : (past : List Entry) (d : ℕ) → openings past < d → refused past d ≡ []
+unfolding openings refused
+refused_later [] d lt = refl
+refused_later (x ∷ past) d lt = ap (λ (l : List Frame). l ++ refuses past d x.answer x.event) (refused_later past d (omega (arith, lt))) ∙ refuses_later past d x.answer x.event lt
+
+refused_elsewhere : (x : Entry) (past : List Entry) (f : Frame) (d : ℕ) → x.event ≡ event.Open (Some f) false → d ≤ openings past → refused (x ∷ past) d ≡ refused past d
+unfolding refused
+refused_elsewhere x past f d e le = grind (arith, common_steps, ne_eqb)
+
+pub refused_here : (x : Entry) (past : List Entry) (f : Frame) → x.event ≡ event.Open (Some f) false → refused (x ∷ past) (openings past + 1) ≡ only (refusal x.answer)
+unfolding refused
+refused_here x past f e = grind (arith, common_steps, eq-eqb, refused_later)
+
 -- an opening is one of before, or the new one
 abbrev IsNewOrOld : List Entry → ℕ → Type 0
 IsNewOrOld past d = IsOpening past d ⊎ (d ≡ openings past + 1)
@@ -129,10 +151,37 @@ by_case : (P : ℕ → ℕ → Type 0) (x : Entry) (past : List Entry) (c : ℕ)
     → ((d : ℕ) → IsOpening past d → P d (pair_of pairs d)) → P (openings past + 1) c → (d : ℕ) → IsOpening (x ∷ past) d → P d (pair_of (c ∷ pairs) d)
 by_case P x past c pairs h1 h2 h3 h4 d h5 = grind (arith, common_steps, pair_old, pair_new)
 
-linked_new : (a : Answer) (c n : ℕ) (r : Ends) → ((d : ℕ) → answer.Opened d ≡ a → d ≡ n) → IsOpening r.server n → pair_of r.pairs n ≡ c → LinkedThere (there_of a n) c r
-linked_new a c n r h1 h2 h3 = grind (arith, common_steps)
+linked_refused : (s : Sides) (c n : ℕ) (r : Ends) → IsOpening r.server n → pair_of r.pairs n ≡ c → (came r.client c ≡ []) × (first_bad r.client c ≡ None) → LinkedThere s (There.Refused n 0) c r
+linked_refused s c n r opening is silent = record {
+  opening = opening;
+  pair_is = is;
+  within = omega arith;
+  heard = silent_heard s.client.max_in 0 c (refused r.server n) r.client silent;
+}
 
-paired_opened : (s : Sides) (c : ℕ) (f : Frame) (more : List Arrival) (r : Ends) → is_accepted r.client c ≡ true → IsOpening r.client c → LinkedThere There.Nowhere c r → arrival.Whole f ∷ more ≡ crossed_up s c r → Paired s r → Paired s (opened_by s c f r)
+linked_new : (s : Sides) (a : Answer) (c n : ℕ) (r : Ends) → ((d : ℕ) → answer.Opened d ≡ a → d ≡ n) → IsOpening r.server n → pair_of r.pairs n ≡ c → refused r.server n ≡ only (refusal a) → (came r.client c ≡ []) × (first_bad r.client c ≡ None) → LinkedThere s (there_of a n) c r
+linked_new s (answer.Opened d) c n r number opening is none silent =
+    let same : d ≡ n = number d refl in
+    subst (λ (k : ℕ). LinkedThere s (There.Accepted k) c r) (sym same) (record { opening = opening; pair_is = is; kept = none })
+linked_new s (answer.Started id) c n r number opening is none silent = linked_refused s c n r opening is silent
+linked_new s answer.Done c n r number opening is none silent = linked_refused s c n r opening is silent
+linked_new s (answer.Got x) c n r number opening is none silent = linked_refused s c n r opening is silent
+linked_new s (answer.GotJob x) c n r number opening is none silent = linked_refused s c n r opening is silent
+linked_new s (answer.Drawn x) c n r number opening is none silent = linked_refused s c n r opening is silent
+linked_new s answer.Parted c n r number opening is none silent = linked_refused s c n r opening is silent
+linked_new s answer.Handled c n r number opening is none silent = linked_refused s c n r opening is silent
+linked_new s (answer.PeerError x) c n r number opening is none silent = linked_refused s c n r opening is silent
+linked_new s (answer.Violation x) c n r number opening is none silent = linked_refused s c n r opening is silent
+linked_new s (answer.SetupRefused x) c n r number opening is none silent = linked_refused s c n r opening is silent
+linked_new s (answer.Stale x) c n r number opening is none silent = linked_refused s c n r opening is silent
+linked_new s (answer.Refused x) c n r number opening is none silent = linked_refused s c n r opening is silent
+linked_new s (answer.Closed x) c n r number opening is none silent = linked_refused s c n r opening is silent
+linked_new s answer.NotYet c n r number opening is none silent = linked_refused s c n r opening is silent
+linked_new s (answer.OutBusy x) c n r number opening is none silent = linked_refused s c n r opening is silent
+linked_new s answer.TapeFull c n r number opening is none silent = linked_refused s c n r opening is silent
+linked_new s answer.OutOfMemory c n r number opening is none silent = linked_refused s c n r opening is silent
+
+paired_opened : (s : Sides) (c : ℕ) (f : Frame) (more : List Arrival) (r : Ends) → is_accepted r.client c ≡ true → IsOpening r.client c → LinkedThere s There.Nowhere c r → arrival.Whole f ∷ more ≡ crossed_up s c r → Paired s r → Paired s (opened_by s c f r)
 paired_opened s c f more r ac oc out front p =
     let e : Event = event.Open (Some f) false in
     let x = answered s.server r.server e in
@@ -152,25 +201,27 @@ paired_opened s c f more r ac oc out front p =
       up = case (λ d k. UpHeard s k d r.client S1)
           (λ d o. same_heard s.server.max_in (drawn r.client (pair_of r.pairs d)) d (due s.client r.client (pair_of r.pairs d)) S S1 (first_elsewhere x S f d refl o.within) (p.up d o))
           (subst (λ (fs : List Frame). Heard s.server.max_in (drawn r.client c) (due s.client r.client c) fs (first_bad S1 n)) (sym first.0) (subst (λ (b : Option ℕ). Heard s.server.max_in (drawn r.client c) (due s.client r.client c) (f ∷ []) b) (sym first.1)
-          (record { rest = more; parts = front; ten = tt })));
+          (record { rest = more; parts = front; long = tt })));
       down = case (λ d k. DownHeard s k d r.client S1)
-          (λ d o. sends_heard s.server s.client.max_in d (pair_of r.pairs d) S S1 r.client ((goes_one s.server x S).sends d) (p.down d o))
-          (subst (λ (fs : List Frame). Heard s.client.max_in (drawn S1 n) (due s.server S1 n) fs (first_bad r.client c)) (sym silent.0) (subst (λ (b : Option ℕ). Heard s.client.max_in (drawn S1 n) (due s.server S1 n) [] b) (sym silent.1) (heard_nothing s.client.max_in (drawn S1 n) (due s.server S1 n))));
+          (λ d o. sends_down s (pair_of r.pairs d) d S S1 r.client ((goes_one s.server x S).sends d) (refused_elsewhere x S f d refl o.within) (p.down d o))
+          (silent_heard s.client.max_in (bytes_offered S1 n) c (frames_offered s.server S1 n) r.client silent);
       unpaired = λ k far. p.unpaired k (λ d o w. far d (more_opening S S1 d (omega (arith, first.2)) o) (pair_old c d r.pairs (omega (arith, o.within, p.count)) ∙ w));
       link = record {
         accepted = ac;
         opening = oc;
-        there = linked_new (answer_to s.server r.server e) c n (opened_by s c f r) (λ d. number_is s.server r.server (Some f) d) (record { above = omega arith; within = omega (arith, first.2) }) (pair_new c n r.pairs (omega (arith, p.count)));
+        there = linked_new s (answer_to s.server r.server e) c n (opened_by s c f r) (λ d. number_is s.server r.server (Some f) d) (record { above = omega arith; within = omega (arith, first.2) }) (pair_new c n r.pairs (omega (arith, p.count))) (refused_here x S f refl) silent;
       };
     }
 
-paired_accepted : (s : Sides) (c : ℕ) (t : There) (r : Ends) → LinkedThere t c r → Paired s r → Paired s (hears_if_accepted s c t r)
-paired_accepted s c t r h1 h2 = grind (arith, paired_up)
+paired_accepted : (s : Sides) (c : ℕ) (t : There) (r : Ends) → LinkedThere s t c r → Paired s r → Paired s (hears_if_accepted s c t r)
+paired_accepted s c There.Nowhere r h p = p
+paired_accepted s c (There.Accepted d) r h p = paired_up s c d r h.pair_is h.opening p
+paired_accepted s c (There.Refused d n) r h p = p
 
-there_linked : (s : Sides) (c : ℕ) (t : There) (r : Ends) → r.link ≡ Some (record { client = c; there = t }) → Paired s r → LinkedThere t c r
-there_linked s c t r is p = (subst (λ (o : Option Link). Linked o r) is p.link).there
+there_linked : (s : Sides) (c : ℕ) (t : There) (r : Ends) → r.link ≡ Some (record { client = c; there = t }) → Paired s r → LinkedThere s t c r
+there_linked s c t r is p = (subst (λ (o : Option Link). Linked s o r) is p.link).there
 
-pub paired_meets : (s : Sides) (c : ℕ) (items : List Arrival) (r : Ends) → is_accepted r.client c ≡ true → IsOpening r.client c → LinkedThere There.Nowhere c r → items ≡ crossed_up s c r → Paired s r → Paired s (meets s c items r)
+pub paired_meets : (s : Sides) (c : ℕ) (items : List Arrival) (r : Ends) → is_accepted r.client c ≡ true → IsOpening r.client c → LinkedThere s There.Nowhere c r → items ≡ crossed_up s c r → Paired s r → Paired s (meets s c items r)
 paired_meets s c [] r ac oc out front p = p
 paired_meets s c (arrival.TooLong ∷ more) r ac oc out front p = p
 paired_meets s c (arrival.Whole f ∷ more) r ac oc out front p =

@@ -3,17 +3,14 @@ use Rattle.std.proofs.lemmas.Grind.{common_steps}
 use Rattle.std.proofs.Common.{◌≡◌, ◌≤◌, ◌<◌, ◌+◌, ℕ, List, [], length, drop, get_or, Result, OnOk, is_err, None, false, refl, ap, subst, sym, ◌∙◌, arith}
 use Rattle.std.proofs.lemmas.List.{drop_all}
 use Rattle.rs_wire.specs.declared.words.Side.TheVariants.{Client, Server}
-use Rattle.rs_wire.specs.declared.words.Side.{Side}
 use Rattle.rs_wire.specs.declared.settings.Settings.{Settings}
-use Rattle.rs_wire.specs.Settings.{IsChecked, usual}
 use Rattle.tape.specs.declared.entry.Entry.{Entry}
-use Rattle.session_model.specs.Legal.{IsPlain}
+use Rattle.session_model.specs.Legal.{Fair, IsPlain, Legal}
 use Rattle.session_core.specs.Seen.{Seen}
 use Rattle.session_laws.specs.Ends.{AreEnds}
-use Rattle.cable.specs.declared.line.Line.{Line}
-use Rattle.cable.specs.Played.{Ends, Played, PlaysLine, PlaysLines, Sides, begins, nothing, usual_sides}
-use Rattle.cable.proofs.Drawing.{same_trans}
-use Rattle.cable.specs.Wires.{At, Keeps, Reaches, Wires, sides_of, IsOfSession}
+use Rattle.cable.specs.declared.script.line.Line.{Line}
+use Rattle.cable.specs.Played.{Ends, Played, PlaysLine, PlaysLines, Sides, begins, nothing}
+use Rattle.cable.specs.Wires.{At, Keeps, Reaches, Wires, sides_of}
 
 -- ---- the lines that are left
 
@@ -24,9 +21,6 @@ IsLeft s lines i r now = (r' : Ends) → PlaysLines s (drop i lines) now r' → 
 none_left : (s : Sides) (lines : List Line) (r : Ends) → lines ≡ [] → PlaysLines s lines r r
 unfolding PlaysLines
 none_left s lines r none = subst (λ (ls : List Line). PlaysLines s ls r r) (sym none) refl
-
-pub keeps_on : (u v w : Wires) → Keeps u v → Keeps v w → Keeps u w
-keeps_on u v w h k = record { client = same_trans u.client v.client w.client h.client k.client; server = same_trans u.server v.server w.server h.server k.server }
 
 pub line_played : (u v w : Wires) (lines : List Line) (i : ℕ) (x : Line) (r : Ends) → Keeps u v → i < length lines → x ≡ get_or lines i x → (b : Reaches v (IsLeft (sides_of u) lines i r)) → Reaches w (PlaysLine (sides_of v) x b.ends) → Reaches w (IsLeft (sides_of u) lines (i + 1) r)
 unfolding PlaysLines
@@ -45,23 +39,17 @@ some_at v Holds b = (b.ends, b.at)
 
 -- ---- a run
 
-usual_checked : (side : Side) → IsChecked (usual side)
-usual_checked side = grind (arith, common_steps)
-
-usual_plain : (side : Side) → IsPlain (usual side)
-usual_plain side = record { checked = usual_checked side; no_resumption = refl; no_leases = refl; no_fragments = refl }
-
 pub ok_holds : {A B : Type 0} (P : Type 0) (r : Result A B) → is_err r ≡ false → OnOk r P → P
 ok_holds P r h1 h2 = grind (arith, common_steps)
 
 -- the ends of a run
-pub usual_ends : (C S : List Entry) → IsOfSession (usual Client) C → IsOfSession (usual Server) S → AreEnds (usual Client) (usual Server) C S
-usual_ends C S c s = record { client = refl; server = refl; client_plain = usual_plain Client; server_plain = usual_plain Server; client_legal = c.0; server_legal = s.0; client_fair = c.1; server_fair = s.1 }
+pub plain_ends : (g h : Settings) (C S : List Entry) → g.side ≡ Client → h.side ≡ Server → IsPlain g → IsPlain h → Legal g C → Fair g C → Legal h S → Fair h S → AreEnds g h C S
+plain_ends g h C S client server cp sp cl cf sl sf = record { client = client; server = server; client_plain = cp; server_plain = sp; client_legal = cl; server_legal = sl; client_fair = cf; server_fair = sf }
 
 -- the lines of the script were played
-pub run_played : (client server : Seen) (v w : Wires) (C S : Seen) (script lines : List Line) → v ≡ record { client = client; server = server; wire = None } → client.settings ≡ usual Client → server.settings ≡ usual Server → C ≡ w.client → S ≡ w.server → lines ≡ script
-    → Reaches w (PlaysLines (sides_of v) lines (begins (sides_of v) lines)) → Played usual_sides script C.entries S.entries
-run_played client server v w C S script lines h1 h2 h3 h4 h5 h6 h7 = grind (arith, common_steps)
+pub run_played : (client server : Seen) (v w : Wires) (C S : Seen) (script lines : List Line) → v ≡ record { client = client; server = server; wire = None } → C ≡ w.client → S ≡ w.server → lines ≡ script
+    → Reaches w (PlaysLines (sides_of v) lines (begins (sides_of v) lines)) → Played (record { client = client.settings; server = server.settings }) script C.entries S.entries
+run_played client server v w C S script lines h1 h2 h3 h4 h5 = grind (arith, common_steps)
 
 pub run_client : (client server : Seen) (v w : Wires) (C : Seen) → v ≡ record { client = client; server = server; wire = None } → Keeps v w → C ≡ w.client → C ≡ record client { entries = C.entries; spare = C.spare }
 run_client client server v w C is k c_is = c_is ∙ (k.client ∙ (ap (λ (u : Wires). record u.client { entries = w.client.entries; spare = w.client.spare }) is ∙ ap (λ (u : Seen). record client { entries = u.entries; spare = u.spare }) (sym c_is)))
@@ -69,5 +57,8 @@ run_client client server v w C is k c_is = c_is ∙ (k.client ∙ (ap (λ (u : W
 pub run_server : (client server : Seen) (v w : Wires) (S : Seen) → v ≡ record { client = client; server = server; wire = None } → Keeps v w → S ≡ w.server → S ≡ record server { entries = S.entries; spare = S.spare }
 run_server client server v w S is k s_is = s_is ∙ (k.server ∙ (ap (λ (u : Wires). record u.server { entries = w.server.entries; spare = w.server.spare }) is ∙ ap (λ (u : Seen). record server { entries = u.entries; spare = u.spare }) (sym s_is)))
 
-pub legal_as : (side : Side) (first last : Seen) → first.settings ≡ usual side → last ≡ record first { entries = last.entries; spare = last.spare } → IsOfSession last.settings last.entries → IsOfSession (usual side) last.entries
-legal_as side first last is same legal = subst (λ (g : Settings). IsOfSession g last.entries) (ap (λ (u : Seen). u.settings) same ∙ is) legal
+pub legal_as : (first last : Seen) → last ≡ record first { entries = last.entries; spare = last.spare } → Legal last.settings last.entries → Legal first.settings last.entries
+legal_as first last same legal = subst (λ (g : Settings). Legal g last.entries) (ap (λ (u : Seen). u.settings) same) legal
+
+pub fair_as : (first last : Seen) → last ≡ record first { entries = last.entries; spare = last.spare } → Fair last.settings last.entries → Fair first.settings last.entries
+fair_as first last same fair = subst (λ (g : Settings). Fair g last.entries) (ap (λ (u : Seen). u.settings) same) fair

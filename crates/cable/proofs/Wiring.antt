@@ -1,40 +1,37 @@
--- The connection of a cable, and the ends that it follows.
+-- The connection of a cable, and what the server knows of it.
 use Rattle.std.proofs.lemmas.Grind.{common_steps}
-use Rattle.std.proofs.Common.{◌≡◌, ◌+◌, ℕ, Bool, false, cond, List, [], ◌∷◌, ◌++◌, Option, Some, None, refl, ap, subst, sym, ◌∙◌, arith, append-nil}
-use Rattle.rs_wire.specs.declared.words.Side.{Side}
-use Rattle.rs_wire.specs.declared.words.Side.TheVariants.{Client, Server}
+use Rattle.std.proofs.lemmas.Bool.Decides.{nat_tests}
+use Rattle.std.proofs.Common.{◌≡◌, ◌≤◌, ◌<◌, ◌+◌, ◌-◌, ◌&&◌, ℕ, Bool, true, false, cond, nat_lt, nat_le, List, [], ◌∷◌, ◌++◌, length, take, Option, Some, None, refl, ap, subst, sym, ◌∙◌, arith, append-nil}
 use Rattle.rs_wire.specs.declared.settings.Settings.{Settings}
-use Rattle.rs_wire.specs.Settings.{IsChecked}
-use Rattle.rs_wire.specs.declared.call.Call.{Call}
 use Rattle.rs_frame.specs.declared.frame.Frame.{Frame}
+use Rattle.rs_frame.specs.Framed.{framed_all}
 use Rattle.rs_chunk.specs.Rest.{Rest}
 use Rattle.tape.specs.declared.event.Event.{Event}
 use Rattle.tape.specs.declared.event.Event.TheVariants as event
 use Rattle.tape.specs.declared.answer.Answer.{Answer}
 use Rattle.tape.specs.declared.answer.Answer.TheVariants as answer
 use Rattle.tape.specs.declared.entry.Entry.{Entry}
-use Rattle.session_model.specs.Life.{begun, closed, is_live, live, openings}
-use Rattle.session_model.specs.Frames.{drawn, due, given}
-use Rattle.session_model.specs.Legal.{IsPlain}
-use Rattle.session_model.specs.Answers.{answer_to, facts}
+use Rattle.session_model.specs.Life.{is_live, live, openings}
+use Rattle.session_model.specs.Frames.{drawn, due, given, refusal}
+use Rattle.session_model.specs.Joined.{only, refused}
+use Rattle.session_model.specs.Answers.{answer_to}
 use Rattle.session_core.specs.Seen.{Seen}
 use Rattle.session_laws.proofs.Framing.{AreSpellable}
-use Rattle.session_model.proofs.Queue.{drawn_le}
-use Rattle.session_laws.proofs.Spelled.{due_spelled}
 use Rattle.cable.specs.declared.arrival.Arrival.{Arrival}
 use Rattle.cable.specs.declared.arrival.Arrival.TheVariants as arrival
 use Rattle.cable.specs.declared.cable.Wire.{Wire}
+use Rattle.cable.specs.declared.carrying.Left.{Left}
 use Rattle.cable.specs.declared.carrying.Most.{Most}
 use Rattle.cable.specs.declared.hearing.Crossing.{Crossing}
 use Rattle.cable.specs.declared.hearing.Known.{Known}
 use Rattle.cable.specs.declared.hearing.Known.TheVariants as known
-use Rattle.cable.specs.Played.{CarriesUp, Draws, Ends, Link, OnLink, Sides, There, Ups, adds, answered, arrives_up, asks, crossed, hears_if_accepted, hears_up, meets, nothing, opens, opened_by, there_of, with_client}
-use Rattle.tape.specs.Answers.{leaves}
-use Rattle.cable.specs.Hearing.{Carried, CrossedTo, Crosses, IsHearer, IsMet, IsMetBy, Nears, known_of}
-use Rattle.cable.specs.Wires.{Arrives, At, Knows, Reaches, ServerAt, WireAt, Wires, sides_of, wire_of, IsOfSession}
-use Rattle.cable.proofs.Grows.{Sends, added_quiet, drew_where}
-use Rattle.cable.proofs.Opening.{number_is}
-use Rattle.cable.proofs.Sending.{crosses_more, still_given}
+use Rattle.cable.specs.Played.{Ends, Link, Sides, There, adds, answered, arrivals, arrives_up, at_most, crossed, cuts_there, hears_if_accepted, hears_up, meets, opened_by, there_of, with_client}
+use Rattle.cable.specs.Hearing.{Ahead, Carried, CrossedTo, Crosses, Grew, IsHearer, IsMet, IsMetBy, Nears, Offered, known_of}
+use Rattle.cable.specs.Wires.{Arrives, Gave, Knows, ServerAt}
+use Rattle.cable.proofs.Grows.{Quiet, Sends, drew_where}
+use Rattle.cable.proofs.Moving.{grew_twice}
+use Rattle.cable.proofs.Opening.{number_is, refused_here}
+use Rattle.cable.proofs.Sending.{crosses_more, crosses_quiet}
 
 abbrev sides : Settings → Seen → Sides
 sides g v = record { client = g; server = v.settings }
@@ -57,18 +54,40 @@ nears_of g r v w h = near w.known (drawn r.client w.client) (due g r.client w.cl
 accepted : (t : There) (k : Known) (e n : ℕ) (frames : List Frame) (v : Seen) (x : Crossing) → k ≡ known.Accepted e → Knows t k n frames v x → (t ≡ There.Accepted e) × Crosses e n frames v x
 accepted t k e n frames v x h1 h2 = grind (arith, common_steps)
 
-settings_of : (v v' : Seen) → v' ≡ record v { entries = v'.entries; spare = v'.spare } → v'.settings ≡ v.settings
+pub settings_of : (v v' : Seen) → v' ≡ record v { entries = v'.entries; spare = v'.spare } → v'.settings ≡ v.settings
 settings_of v v' same = ap (λ (u : Seen). u.settings) same
 
-hears_at : (g : Settings) (r : Ends) (v v' : Seen) (w : Wire) (x : Crossing) (e : ℕ) → v' ≡ record v { entries = v'.entries; spare = v'.spare } → w.known ≡ known.Accepted e → ServerAt g r (There.Accepted e) v w → IsHearer e (drawn r.client w.client) (due g r.client w.client) v v' x
+hears_at : (g : Settings) (r : Ends) (v v' : Seen) (w : Wire) (x : Crossing) (e : ℕ) (some : Bool) → v' ≡ record v { entries = v'.entries; spare = v'.spare } → w.known ≡ known.Accepted e → ServerAt g r (There.Accepted e) v w → IsHearer e (drawn r.client w.client) (due g r.client w.client) v v' x some
     → ServerAt g (hears_up (sides g v) w.client e r) (There.Accepted e) v' (record w { up = x })
-hears_at g r v v' w x e h1 h2 h3 h4 = grind (arith, common_steps, settings_of)
+hears_at g r v v' w x e some h1 h2 h3 h4 = grind (arith, common_steps, settings_of)
+
+-- it accepted it, and heard what crossed
+pub arrives_heard : (g : Settings) (r : Ends) (t : There) (v v' : Seen) (w : Wire) (x : Crossing) (e : ℕ) (some : Bool) → v' ≡ record v { entries = v'.entries; spare = v'.spare } → w.known ≡ known.Accepted e → ServerAt g r t v w → IsHearer e (drawn r.client w.client) (due g r.client w.client) v v' x some
+    → Arrives g r t v v' w (record w { up = x }) some
+arrives_heard g r t v v' w x e some same is h heard =
+    let k = accepted t w.known e (drawn r.client w.client) (due g r.client w.client) v w.up is h.knows in
+    let here : ServerAt g r (There.Accepted e) v w = subst (λ (u : There). ServerAt g r u v w) k.0 h in
+    subst (λ (u : There). Arrives g r u v v' w (record w { up = x }) some) (sym k.0)
+    (record { there = There.Accepted e; at = hears_at g r v v' w x e some same is here heard; same = refl; grew = heard.grew })
+
+pub accepted_crosses : (g : Settings) (r : Ends) (t : There) (v : Seen) (w : Wire) (e : ℕ) → w.known ≡ known.Accepted e → ServerAt g r t v w → Crosses e (drawn r.client w.client) (due g r.client w.client) v w.up
+accepted_crosses g r t v w e is h = (accepted t w.known e (drawn r.client w.client) (due g r.client w.client) v w.up is h.knows).1
 
 -- it refused it: what crosses is lost
-pub arrives_refused : (g : Settings) (r : Ends) (t : There) (v : Seen) (w : Wire) (x : Crossing) → w.known ≡ known.Refused → ServerAt g r t v w → Arrives g r t v v w (record w { up = x })
-arrives_refused g r There.Nowhere v w x is h = absurd (subst (λ (k : Known). Knows There.Nowhere k (drawn r.client w.client) (due g r.client w.client) v w.up) is h.knows)
-arrives_refused g r (There.Accepted d) v w x is h = absurd (subst (λ (k : Known). Knows (There.Accepted d) k (drawn r.client w.client) (due g r.client w.client) v w.up) is h.knows)
-arrives_refused g r (There.Refused d m) v w x is h = (There.Refused d m, record { server = h.server; link = h.link; number = h.number; knows = subst (λ (k : Known). Knows (There.Refused d m) k (drawn r.client w.client) (due g r.client w.client) v x) (sym is) tt })
+pub arrives_refused : (g : Settings) (r : Ends) (t : There) (v : Seen) (w : Wire) (x : Crossing) (left : Left) → w.known ≡ known.Refused left → ServerAt g r t v w → Arrives g r t v v w (record w { up = x }) false
+arrives_refused g r There.Nowhere v w x left is h = absurd (subst (λ (k : Known). Knows There.Nowhere k (drawn r.client w.client) (due g r.client w.client) v w.up) is h.knows)
+arrives_refused g r (There.Accepted d) v w x left is h = absurd (subst (λ (k : Known). Knows (There.Accepted d) k (drawn r.client w.client) (due g r.client w.client) v w.up) is h.knows)
+arrives_refused g r (There.Refused d m) v w x left is h = record {
+  there = There.Refused d m;
+  at = record {
+    server = h.server;
+    link = h.link;
+    number = h.number;
+    knows = let k = subst (λ (k : Known). Knows (There.Refused d m) k (drawn r.client w.client) (due g r.client w.client) v w.up) is h.knows in subst (λ (k : Known). Knows (There.Refused d m) k (drawn r.client w.client) (due g r.client w.client) v x) (sym is) k;
+  };
+  same = refl;
+  grew = refl;
+}
 
 -- ---- the first frame
 
@@ -109,6 +128,12 @@ met_items n frames v v' x k e (arrival.Whole f ∷ more) same is front h =
 pub met_accepted : (n : ℕ) (frames : List Frame) (v v' : Seen) (x : Crossing) (k : Known) (e : ℕ) → v' ≡ record v { entries = v'.entries; spare = v'.spare } → k ≡ known.Accepted e → IsMet n frames v v' x k → MetAs n frames v v' x e
 met_accepted n frames v v' x k e same is h = met_items n frames v v' x k e (crossed v.settings.max_in n frames) same is refl h
 
+known_known : (a : Answer) → known_of a ≡ known.Nothing → ⊥
+known_known a h1 = grind (arith, common_steps)
+
+not_both : (left : Left) (e : ℕ) → known.Refused left ≡ known.Accepted e → ⊥
+not_both left e h1 = absurd (cc)
+
 -- the server of the ends after the first frame
 met_server : (g : Settings) (r : Ends) (v v' : Seen) (w : Wire) (x : Crossing) (k : Known) (f : Frame) (t : There) → ServerAt g r There.Nowhere v w → v'.entries ≡ answered v.settings v.entries (opening f) ∷ v.entries → there_of (answer_to v.settings v.entries (opening f)) (openings v.entries + 1) ≡ t → Knows t k (drawn r.client w.client) (due g r.client w.client) v' x
     → ServerAt g (met_ends g r v w f) t v' (record w { known = k; up = x })
@@ -118,38 +143,75 @@ met_meets : (g : Settings) (r : Ends) (v : Seen) (w : Wire) (f : Frame) (more : 
     → hears_if_accepted (sides g v) w.client t (met_ends g r v w f) ≡ arrives_up (sides g v) w.client There.Nowhere r
 met_meets g r v w f more t h1 h2 h3 = grind (arith, common_steps)
 
+met_came : (v v' : Seen) (f : Frame) → v'.entries ≡ answered v.settings v.entries (opening f) ∷ v.entries → arrivals v.entries < arrivals v'.entries
+unfolding arrivals
+met_came v v' f is = let more : arrivals v'.entries ≡ arrivals v.entries + 1 = ap arrivals is in omega (arith, more)
+
 -- it accepts the connection, and hears what crossed after it
-pub greets_heard : (g : Settings) (r : Ends) (v v' v'' : Seen) (w : Wire) (x x' : Crossing) (k : Known) (e : ℕ) → v' ≡ record v { entries = v'.entries; spare = v'.spare } → v'' ≡ record v' { entries = v''.entries; spare = v''.spare } → k ≡ known.Accepted e → ServerAt g r There.Nowhere v w
-    → MetAs (drawn r.client w.client) (due g r.client w.client) v v' x e → IsHearer e (drawn r.client w.client) (due g r.client w.client) v' v'' x' → Arrives g r There.Nowhere v v'' w (record w { known = k; up = x' })
-greets_heard g r v v' v'' w x x' k e same same' is h met heard =
+pub greets_heard : (g : Settings) (r : Ends) (v v' v'' : Seen) (w : Wire) (x x' : Crossing) (k : Known) (e : ℕ) (some : Bool) → v' ≡ record v { entries = v'.entries; spare = v'.spare } → v'' ≡ record v' { entries = v''.entries; spare = v''.spare } → k ≡ known.Accepted e → ServerAt g r There.Nowhere v w
+    → MetAs (drawn r.client w.client) (due g r.client w.client) v v' x e → IsHearer e (drawn r.client w.client) (due g r.client w.client) v' v'' x' some → Arrives g r There.Nowhere v v'' w (record w { known = k; up = x' }) true
+greets_heard g r v v' v'' w x x' k e some same same' is h met heard =
     let t_is = ap (λ (a : Answer). there_of a (openings v.entries + 1)) met.answer_is in
     let w1 : Wire = record w { known = k; up = x } in
     let knows : Knows (There.Accepted e) k (drawn r.client w.client) (due g r.client w.client) v' x = subst (λ (j : Known). Knows (There.Accepted e) j (drawn r.client w.client) (due g r.client w.client) v' x) (sym is) (refl, met.crosses) in
     let one = met_server g r v v' w x k met.f (There.Accepted e) h met.entries t_is knows in
-    let two = hears_at g (met_ends g r v w met.f) v' v'' w1 x' e same' is one heard in
+    let two = hears_at g (met_ends g r v w met.f) v' v'' w1 x' e some same' is one heard in
+    let came = met_came v v' met.f met.entries in
     let ends : hears_up (sides g v') w.client e (met_ends g r v w met.f) ≡ arrives_up (sides g v) w.client There.Nowhere r = ap (λ (q : Settings). hears_up (record { client = g; server = q }) w.client e (met_ends g r v w met.f)) (settings_of v v' same) ∙ met_meets g r v w met.f met.more (There.Accepted e) h met.front t_is in
-    (There.Accepted e, subst (λ (r' : Ends). ServerAt g r' (There.Accepted e) v'' (record w { known = k; up = x' })) ends two)
+    record {
+      there = There.Accepted e;
+      at = subst (λ (r' : Ends). ServerAt g r' (There.Accepted e) v'' (record w { known = k; up = x' })) ends two;
+      same = refl;
+      grew = grew_twice true some (arrivals v.entries) (arrivals v'.entries) (arrivals v''.entries) came heard.grew;
+    }
 
-refused_there : (a : Answer) (n : ℕ) → ((e : ℕ) → known_of a ≡ known.Accepted e → ⊥) → (there_of a n ≡ There.Refused n 0) × (known_of a ≡ known.Refused)
+refused_there : (a : Answer) (n : ℕ) → ((e : ℕ) → known_of a ≡ known.Accepted e → ⊥) → (there_of a n ≡ There.Refused n 0) × (known_of a ≡ known.Refused (record { bytes = framed_all (only (refusal a)); crossed = 0 }))
 refused_there (answer.Opened d) n out = absurd (out d refl)
 refused_there _ n out = (refl, refl)
 
-stays_out : (g : Settings) (r : Ends) (v v' : Seen) (w : Wire) (x : Crossing) (k : Known) → ServerAt g r There.Nowhere v w → arrives_up (sides g v) w.client There.Nowhere r ≡ r → (v' ≡ v) × (k ≡ known.Nothing) × Nears (drawn r.client w.client) (due g r.client w.client) v x → Arrives g r There.Nowhere v v' w (record w { known = k; up = x })
-stays_out g r v v' w x k h1 h2 h3 = grind (arith, common_steps)
+-- it knows nothing of it yet
+stays_out : (g : Settings) (r : Ends) (v v' : Seen) (w : Wire) (x : Crossing) (k : Known) → ServerAt g r There.Nowhere v w → arrives_up (sides g v) w.client There.Nowhere r ≡ r → (v' ≡ v) × (k ≡ known.Nothing) × Nears (drawn r.client w.client) (due g r.client w.client) v x → Arrives g r There.Nowhere v v' w (record w { known = k; up = x }) false
+stays_out g r v v' w x k h stays met = record {
+  there = There.Nowhere;
+  at = subst (λ (r' : Ends). ServerAt g r' There.Nowhere v' (record w { known = k; up = x })) (sym stays) (subst (λ (u : Seen). ServerAt g r There.Nowhere u (record w { known = k; up = x })) (sym met.0) (record {
+    server = h.server;
+    link = h.link;
+    number = h.number;
+    knows = subst (λ (j : Known). Knows There.Nowhere j (drawn r.client w.client) (due g r.client w.client) v x) (sym met.1) met.2;
+  }));
+  same = refl;
+  grew = ap (λ (u : Seen). arrivals u.entries) met.0;
+}
 
-greets_by : (g : Settings) (r : Ends) (v v' : Seen) (w : Wire) (x : Crossing) (k : Known) (items : List Arrival) → ((e : ℕ) → k ≡ known.Accepted e → ⊥) → ServerAt g r There.Nowhere v w → crossed v.settings.max_in (drawn r.client w.client) (due g r.client w.client) ≡ items
-    → IsMetBy items (drawn r.client w.client) (due g r.client w.client) v v' x k → Arrives g r There.Nowhere v v' w (record w { known = k; up = x })
-greets_by g r v v' w x k [] out h front met = stays_out g r v v' w x k h (ap (λ (l : List Arrival). meets (sides g v) w.client l r) front) met
-greets_by g r v v' w x k (arrival.TooLong ∷ more) out h front met = stays_out g r v v' w x k h (ap (λ (l : List Arrival). meets (sides g v) w.client l r) front) met
-greets_by g r v v' w x k (arrival.Whole f ∷ more) out h front met =
+nothing_met : (g : Settings) (r : Ends) (v v' : Seen) (w : Wire) (x : Crossing) (k : Known) (items : List Arrival) → k ≡ known.Nothing → ServerAt g r There.Nowhere v w → crossed v.settings.max_in (drawn r.client w.client) (due g r.client w.client) ≡ items
+    → IsMetBy items (drawn r.client w.client) (due g r.client w.client) v v' x k → Arrives g r There.Nowhere v v' w (record w { known = k; up = x }) false
+nothing_met g r v v' w x k [] is h front met = stays_out g r v v' w x k h (ap (λ (l : List Arrival). meets (sides g v) w.client l r) front) met
+nothing_met g r v v' w x k (arrival.TooLong ∷ more) is h front met = stays_out g r v v' w x k h (ap (λ (l : List Arrival). meets (sides g v) w.client l r) front) met
+nothing_met g r v v' w x k (arrival.Whole f ∷ more) is h front met = absurd (known_known (answer_to v.settings v.entries (opening f)) (sym met.0.1 ∙ is))
+
+pub greets_nothing : (g : Settings) (r : Ends) (v v' : Seen) (w : Wire) (x : Crossing) (k : Known) → k ≡ known.Nothing → ServerAt g r There.Nowhere v w → IsMet (drawn r.client w.client) (due g r.client w.client) v v' x k → Arrives g r There.Nowhere v v' w (record w { known = k; up = x }) false
+greets_nothing g r v v' w x k is h met = nothing_met g r v v' w x k (crossed v.settings.max_in (drawn r.client w.client) (due g r.client w.client)) is h refl met
+
+-- it refuses it
+refused_met : (g : Settings) (r : Ends) (v v' : Seen) (w : Wire) (x : Crossing) (k : Known) (left : Left) (items : List Arrival) → k ≡ known.Refused left → ServerAt g r There.Nowhere v w → crossed v.settings.max_in (drawn r.client w.client) (due g r.client w.client) ≡ items
+    → IsMetBy items (drawn r.client w.client) (due g r.client w.client) v v' x k → Arrives g r There.Nowhere v v' w (record w { known = k; up = x }) true
+refused_met g r v v' w x k left [] is h front met = let no : known.Nothing ≡ known.Refused left = sym met.1 ∙ is in absurd (cc)
+refused_met g r v v' w x k left (arrival.TooLong ∷ more) is h front met = let no : known.Nothing ≡ known.Refused left = sym met.1 ∙ is in absurd (cc)
+refused_met g r v v' w x k left (arrival.Whole f ∷ more) is h front met =
     let n = openings v.entries + 1 in
-    let a = refused_there (answer_to v.settings v.entries (opening f)) n (λ e is. out e (met.0.1 ∙ is)) in
-    let knows : Knows (There.Refused n 0) k (drawn r.client w.client) (due g r.client w.client) v' x = subst (λ (j : Known). Knows (There.Refused n 0) j (drawn r.client w.client) (due g r.client w.client) v' x) (sym (met.0.1 ∙ a.1)) tt in
-    (There.Refused n 0, subst (λ (r' : Ends). ServerAt g r' (There.Refused n 0) v' (record w { known = k; up = x })) (met_meets g r v w f more (There.Refused n 0) h front a.0) (met_server g r v v' w x k f (There.Refused n 0) h met.0.0 a.0 knows))
+    let a = answer_to v.settings v.entries (opening f) in
+    let out = refused_there a n (λ e same. not_both left e (sym is ∙ (met.0.1 ∙ same))) in
+    let gives : refused v'.entries n ≡ only (refusal a) = ap (λ (l : List Entry). refused l n) met.0.0 ∙ refused_here (answered v.settings v.entries (opening f)) v.entries f refl in
+    let knows : Knows (There.Refused n 0) k (drawn r.client w.client) (due g r.client w.client) v' x = subst (λ (j : Known). Knows (There.Refused n 0) j (drawn r.client w.client) (due g r.client w.client) v' x) (sym (met.0.1 ∙ out.1)) (ap framed_all (sym gives), refl, omega arith) in
+    record {
+      there = There.Refused n 0;
+      at = subst (λ (r' : Ends). ServerAt g r' (There.Refused n 0) v' (record w { known = k; up = x })) (met_meets g r v w f more (There.Refused n 0) h front out.0) (met_server g r v v' w x k f (There.Refused n 0) h met.0.0 out.0 knows);
+      same = refl;
+      grew = met_came v v' f met.0.0;
+    }
 
--- it refuses the connection, or knows nothing of it yet
-pub greets_not : (g : Settings) (r : Ends) (v v' : Seen) (w : Wire) (x : Crossing) (k : Known) → ((e : ℕ) → k ≡ known.Accepted e → ⊥) → ServerAt g r There.Nowhere v w → IsMet (drawn r.client w.client) (due g r.client w.client) v v' x k → Arrives g r There.Nowhere v v' w (record w { known = k; up = x })
-greets_not g r v v' w x k out h met = greets_by g r v v' w x k (crossed v.settings.max_in (drawn r.client w.client) (due g r.client w.client)) out h refl met
+pub greets_refused : (g : Settings) (r : Ends) (v v' : Seen) (w : Wire) (x : Crossing) (k : Known) (left : Left) → k ≡ known.Refused left → ServerAt g r There.Nowhere v w → IsMet (drawn r.client w.client) (due g r.client w.client) v v' x k → Arrives g r There.Nowhere v v' w (record w { known = k; up = x }) true
+greets_refused g r v v' w x k left is h met = refused_met g r v v' w x k left (crossed v.settings.max_in (drawn r.client w.client) (due g r.client w.client)) is h refl met
 
 -- ---- the client sends
 
@@ -167,13 +229,13 @@ knows_more There.Nowhere known.Nothing g c C C' v x rest piece s fed h = record 
   goes_on = h.goes_on;
 }
 knows_more (There.Accepted d) (known.Accepted e) g c C C' v x rest piece s fed h = (h.0, crosses_more g v.settings c d C C' v.entries x.rest rest x.over piece s.sends s.spelled s.gave fed h.1)
-knows_more (There.Refused d m) known.Refused g c C C' v x rest piece s fed h = tt
+knows_more (There.Refused d m) (known.Refused left) g c C C' v x rest piece s fed h = h
 knows_more _ _ g c C C' v x rest piece s fed h = absurd h
 
-abbrev fed : Wire → Rest → Wire
+abbrev pub fed : Wire → Rest → Wire
 fed w rest = record w { up = record w.up { rest = rest } }
 
-server_more : (g : Settings) (r : Ends) (C' : List Entry) (t : There) (v : Seen) (w : Wire) (rest : Rest) (piece : List ℕ) → Sent g w.client r.client C' piece → rest ≡ record w.up.rest { bytes = w.up.rest.bytes ++ piece } → ServerAt g r t v w → ServerAt g (with_client r C') t v (fed w rest)
+pub server_more : (g : Settings) (r : Ends) (C' : List Entry) (t : There) (v : Seen) (w : Wire) (rest : Rest) (piece : List ℕ) → Sent g w.client r.client C' piece → rest ≡ record w.up.rest { bytes = w.up.rest.bytes ++ piece } → ServerAt g r t v w → ServerAt g (with_client r C') t v (fed w rest)
 server_more g r C' t v w rest piece s is h = record {
   server = h.server;
   link = h.link;
@@ -181,147 +243,112 @@ server_more g r C' t v w rest piece s is h = record {
   knows = knows_more t w.known g w.client r.client C' v w.up rest piece s is h.knows;
 }
 
--- the client carried
-pub server_carried : (r : Ends) (t : There) (m : Most) (u u' v : Seen) (w : Wire) (rest : Rest) → r.client ≡ u.entries → IsPlain u.settings → IsOfSession u'.settings u'.entries → u' ≡ record u { entries = u'.entries; spare = u'.spare } → Carried w.client m u u' w.up.rest rest
-    → ServerAt u.settings r t v w → ServerAt u.settings (with_client r u'.entries) t v (fed w rest)
-server_carried r t m u u' v w rest client plain legal same k h =
-    let g = u.settings in
-    let went = (drew_where (is_live (live u.entries) w.client) g w.client m u.entries u'.entries k.draws).1 in
-    let here : IsOfSession g u'.entries = subst (λ (s : Settings). IsOfSession s u'.entries) (settings_of u u' same) legal in
-    let sent : Sent g w.client u.entries u'.entries k.piece = record { sends = went.sends w.client; spelled = due_spelled g u'.entries w.client plain here.0 here.1; gave = k.gave } in
-    server_more g r u'.entries t v w rest k.piece (subst (λ (l : List Entry). Sent g w.client l u'.entries k.piece) (sym client) sent) k.crossed h
+-- ---- the server goes on, and nothing comes at it
 
--- ---- lines
+pub knows_quiet : (t : There) (k : Known) (n : ℕ) (frames : List Frame) (v v' : Seen) (x : Crossing) → v'.settings ≡ v.settings → Quiet v.entries v'.entries → Knows t k n frames v x → Knows t k n frames v' x
+knows_quiet There.Nowhere known.Nothing n frames v v' x same q h = record { ahead = subst (λ (g : Settings). Ahead g frames x.rest) (sym same) h.ahead; bytes = h.bytes; goes_on = h.goes_on }
+knows_quiet (There.Accepted d) (known.Accepted e) n frames v v' x same q h = (h.0, subst (λ (g : Settings). CrossedTo g d n frames v'.entries x.rest x.over) (sym same) (crosses_quiet v.settings d n frames v.entries v'.entries x.rest x.over q h.1))
+knows_quiet (There.Refused d m) (known.Refused left) n frames v v' x same q h = (h.0 ∙ ap framed_all (sym (q.refused_are d)), h.1, h.2)
+knows_quiet _ _ n frames v v' x same q h = absurd h
 
-pub at_wire : (v : Wires) (r : Ends) (w : Wire) → v.wire ≡ Some w → At v r → WireAt (Some w) v r
-at_wire v r w is at = subst (λ (o : Option Wire). WireAt o v r) is at.wire
+-- ---- the server gives
 
--- the server before it hears, after the client carried
-pub carried_at : (v : Wires) (r : Ends) (m : Most) (w : Wire) (u' : Seen) (rest : Rest) → (is : v.wire ≡ Some w) → (at : At v r) → IsOfSession u'.settings u'.entries → u' ≡ record v.client { entries = u'.entries; spare = u'.spare } → Carried w.client m v.client u' w.up.rest rest
-    → ServerAt v.client.settings (with_client r u'.entries) (at_wire v r w is at).0 v.server (fed w rest)
-carried_at v r m w u' rest is at legal same k =
-    let here = at_wire v r w is at in
-    server_carried r here.0 m v.client u' v.server w rest at.client at.plain legal same k here.1
+numbered : (d n : ℕ) → (nat_lt 0 d && nat_le d n) ≡ true → 0 < d
+numbered d n h1 = grind (arith, nat_tests)
 
-arrives_client : (s : Sides) (c : ℕ) (t : There) (r : Ends) → (arrives_up s c t r).client ≡ r.client
-arrives_client s c t r = grind (arith, common_steps)
+-- it has a number there
+pub accepted_number : (g : Settings) (r : Ends) (t : There) (v : Seen) (w : Wire) (e : ℕ) → w.known ≡ known.Accepted e → ServerAt g r t v w → 0 < e
+accepted_number g r t v w e is h = numbered e (openings v.entries) (accepted_crosses g r t v w e is h).opened
 
-side_of : (v v' : Seen) (side : Side) → v' ≡ record v { entries = v'.entries; spare = v'.spare } → v.settings.side ≡ side → v'.settings.side ≡ side
-side_of v v' side same is = ap (λ (g : Settings). g.side) (settings_of v v' same) ∙ is
-
-up_here : (v : Wires) (r : Ends) (m : Most) (w w' : Wire) (u' s' : Seen) (rest : Rest) → (is : v.wire ≡ Some w) → (at : At v r) → IsOfSession u'.settings u'.entries → u' ≡ record v.client { entries = u'.entries; spare = u'.spare } → s' ≡ record v.server { entries = s'.entries; spare = s'.spare } → Carried w.client m v.client u' w.up.rest rest
-    → Arrives v.client.settings (with_client r u'.entries) (at_wire v r w is at).0 v.server s' (fed w rest) w' → Reaches (record { client = u'; server = s'; wire = Some w' }) (Ups (sides_of v) m r)
-up_here v r m w w' u' s' rest is at legal same kept k h =
-    let here = at_wire v r w is at in
-    let r' = arrives_up (sides_of v) w.client here.0 (with_client r u'.entries) in
-    let g : u'.settings ≡ v.client.settings = settings_of v.client u' same in
-    record {
-      ends = r';
-      at = record {
-        client_side = side_of v.client u' Client same at.client_side;
-        server_side = side_of v.server s' Server kept at.server_side;
-        plain = subst IsPlain (sym g) at.plain;
-        legal = legal;
-        client = arrives_client (sides_of v) w.client here.0 (with_client r u'.entries);
-        server = h.1.server;
-        wire = (h.0, subst (λ (q : Settings). ServerAt q r' h.0 s' w') (sym g) h.1);
-      };
-      holds = subst (λ (o : Option Link). OnLink o r r' (λ l. CarriesUp (sides_of v) m l r r')) (sym here.1.link)
-          (u'.entries, subst (λ (C : List Entry). Draws v.client.settings w.client m C u'.entries) (sym at.client) k.draws, refl);
-    }
-
--- a carrying line was played
-pub up_played : (v v0 : Wires) (r : Ends) (m : Most) (w w' : Wire) (u' s' : Seen) (rest : Rest) → v ≡ v0 → (is : v.wire ≡ Some w) → (at : At v r) → IsOfSession u'.settings u'.entries → u' ≡ record v.client { entries = u'.entries; spare = u'.spare } → s' ≡ record v.server { entries = s'.entries; spare = s'.spare } → Carried w.client m v.client u' w.up.rest rest
-    → Arrives v.client.settings (with_client r u'.entries) (at_wire v r w is at).0 v.server s' (fed w rest) w' → Reaches (record { client = u'; server = s'; wire = Some w' }) (Ups (sides_of v0) m r)
-up_played v v0 r m w w' u' s' rest shown is at legal same kept k h = subst (λ (x : Wires). Reaches (record { client = u'; server = s'; wire = Some w' }) (Ups (sides_of x) m r)) shown (up_here v r m w w' u' s' rest is at legal same kept k h)
-
-wire_asked : (o : Option Wire) (v : Wires) (r : Ends) (u' : Seen) → u' ≡ record v.client { entries = u'.entries; spare = u'.spare } → ((c : ℕ) → Sent v.client.settings c r.client u'.entries []) → WireAt o v r → WireAt o (record v { client = u' }) (with_client r u'.entries)
-wire_asked None v r u' same s h = h
-wire_asked (Some w) v r u' same s h = (
-  h.0,
-  subst (λ (g : Settings). ServerAt g (with_client r u'.entries) h.0 v.server w) (sym (settings_of v.client u' same))
-      (server_more v.client.settings r u'.entries h.0 v.server w w.up.rest [] (s w.client) (ap (λ (l : List ℕ). record w.up.rest { bytes = l }) (sym (append-nil w.up.rest.bytes))) h.1),
-)
-
-server_asked : (v : Wires) (r : Ends) (s' : Seen) (asked : Call) → At v r → s' ≡ record v.server { entries = s'.entries; spare = s'.spare } → s'.entries ≡ adds v.server.settings v.server.entries (event.Asked asked) → Reaches (record v { server = s' }) (λ r'. r' ≡ asks (sides_of v) Server asked r)
-server_asked v r s' asked h1 h2 h3 = grind (arith, common_steps, added_quiet, side_of)
-
-no_draws : (g : Settings) (past : List Entry) (asked : Call) (c : ℕ) (b : Bool) → drawn (cond b (answered g past (event.Asked asked) ∷ past) past) c ≡ drawn past c
-unfolding drawn
-no_draws g past asked c b = grind (arith, common_steps)
-
-client_asked : (v : Wires) (r : Ends) (u' : Seen) (asked : Call) → At v r → IsOfSession u'.settings u'.entries → u' ≡ record v.client { entries = u'.entries; spare = u'.spare } → u'.entries ≡ adds v.client.settings v.client.entries (event.Asked asked) → Reaches (record v { client = u' }) (λ r'. r' ≡ asks (sides_of v) Client asked r)
-client_asked v r u' asked at legal same now =
-    let u = v.client in
-    let g = u.settings in
-    let b = leaves (answer_to g u.entries (event.Asked asked)) in
-    let went = (added_quiet g u.entries asked b).1 in
-    let sent : (c : ℕ) → Sent g c u.entries (adds g u.entries (event.Asked asked)) [] = λ c. record {
-      sends = went.sends c;
-      spelled = let there = subst (IsOfSession g) now (subst (λ (s : Settings). IsOfSession s u'.entries) (settings_of u u' same) legal) in due_spelled g (adds g u.entries (event.Asked asked)) c at.plain there.0 there.1;
-      gave = still_given g c u.entries (adds g u.entries (event.Asked asked)) (went.sends c) (no_draws g u.entries asked c b) (drawn_le g u.entries c at.legal.0);
-    } in
-    record {
-      ends = with_client r u'.entries;
-      at = record {
-        client_side = side_of u u' Client same at.client_side;
-        server_side = at.server_side;
-        plain = subst IsPlain (sym (settings_of u u' same)) at.plain;
-        legal = legal;
-        client = refl;
-        server = at.server;
-        wire = wire_asked v.wire v r u' same (λ c. subst (λ (l : List Entry). Sent g c r.client l []) (sym now) (subst (λ (l : List Entry). Sent g c l (adds g u.entries (event.Asked asked)) []) (sym at.client) (sent c))) at.wire;
-      };
-      holds = ap (with_client r) (now ∙ ap (λ (l : List Entry). adds g l (event.Asked asked)) (sym at.client));
-    }
-
--- a call, at the value that a cable shows
-pub client_called : (v v0 : Wires) (r : Ends) (u' : Seen) (side : Side) (asked : Call) → v ≡ v0 → side ≡ Client → At v0 r → IsOfSession u'.settings u'.entries → u' ≡ record v.client { entries = u'.entries; spare = u'.spare } → u'.entries ≡ adds v.client.settings v.client.entries (event.Asked asked)
-    → Reaches (record v { client = u' }) (λ r'. r' ≡ asks (sides_of v0) side asked r)
-client_called v v0 r u' side asked shown is at legal same now =
-    subst (λ (x : Wires). Reaches (record v { client = u' }) (λ r'. r' ≡ asks (sides_of x) side asked r)) shown
-    (subst (λ (y : Side). Reaches (record v { client = u' }) (λ r'. r' ≡ asks (sides_of v) y asked r)) (sym is) (client_asked v r u' asked (subst (λ (x : Wires). At x r) (sym shown) at) legal same now))
-
-pub server_called : (v v0 : Wires) (r : Ends) (s' : Seen) (side : Side) (asked : Call) → v ≡ v0 → side ≡ Server → At v0 r → s' ≡ record v.server { entries = s'.entries; spare = s'.spare } → s'.entries ≡ adds v.server.settings v.server.entries (event.Asked asked)
-    → Reaches (record v { server = s' }) (λ r'. r' ≡ asks (sides_of v0) side asked r)
-server_called v v0 r s' side asked shown is at same now =
-    subst (λ (x : Wires). Reaches (record v { server = s' }) (λ r'. r' ≡ asks (sides_of x) side asked r)) shown
-    (subst (λ (y : Side). Reaches (record v { server = s' }) (λ r'. r' ≡ asks (sides_of v) y asked r)) (sym is) (server_asked v r s' asked (subst (λ (x : Wires). At x r) (sym shown) at) same now))
-
--- ---- the first connection
-
-first_answer : (g : Settings) → answer_to g [] (event.Open None false) ≡ answer.Opened 1
-unfolding facts openings begun closed
-first_answer g = refl
-
-first_server : (g : Settings) (v : Seen) (C : List Entry) (most : ℕ) → v.entries ≡ [] → IsPlain g → IsOfSession g C → C ≡ adds g [] (event.Open None false) → most ≡ v.settings.max_in → IsChecked v.settings
-    → ServerAt g (opens (sides g v) nothing) There.Nowhere v (record { client = 1; known = known.Nothing; up = record { rest = record { bytes = []; max_in = most }; over = false } })
-unfolding begun closed drawn facts openings
-first_server g v C most h1 h2 h3 h4 h5 h6 = grind (arith, common_steps, first_answer, due_spelled)
-
--- the client opened the first connection
-pub first_opened : (v v0 : Wires) (u' : Seen) (a : Answer) (o : Option Wire) (most : ℕ) → v ≡ v0 → At v0 nothing → IsOfSession u'.settings u'.entries → u' ≡ record v.client { entries = u'.entries; spare = u'.spare } → u'.entries ≡ adds v.client.settings v.client.entries (event.Open None false)
-    → a ≡ answer_to v.client.settings v.client.entries (event.Open None false) → o ≡ wire_of a most → most ≡ v.server.settings.max_in → IsChecked v.server.settings → Reaches (record { client = u'; server = v.server; wire = o }) (λ r. r ≡ opens (sides_of v0) nothing)
-first_opened v v0 u' a o most shown at0 legal same now right wire longest checked =
-    let at = subst (λ (x : Wires). At x nothing) (sym shown) at0 in
-    let g = v.client.settings in
-    let e : Event = event.Open None false in
-    let gs : u'.settings ≡ g = settings_of v.client u' same in
-    let C : u'.entries ≡ adds g [] e = now ∙ ap (λ (l : List Entry). adds g l e) (sym at.client) in
-    let opened : a ≡ answer.Opened 1 = right ∙ (ap (λ (l : List Entry). answer_to g l e) (sym at.client) ∙ first_answer g) in
-    let w : Wire = record { client = 1; known = known.Nothing; up = record { rest = record { bytes = []; max_in = most }; over = false } } in
-    let wire_is : o ≡ Some w = wire ∙ ap (λ (b : Answer). wire_of b most) opened in
-    let server = first_server g v.server u'.entries most (sym at.server) at.plain (subst (λ (k : Settings). IsOfSession k u'.entries) gs legal) C longest checked in
-    subst (λ (x : Wires). Reaches (record { client = u'; server = v.server; wire = o }) (λ r. r ≡ opens (sides_of x) nothing)) shown (record {
-      ends = opens (sides_of v) nothing;
-      at = record {
-        client_side = side_of v.client u' Client same at.client_side;
-        server_side = at.server_side;
-        plain = subst IsPlain (sym gs) at.plain;
-        legal = legal;
-        client = sym C;
-        server = at.server;
-        wire = subst (λ (x : Option Wire). WireAt x (record { client = u'; server = v.server; wire = o }) (opens (sides_of v) nothing)) (sym wire_is) (There.Nowhere, subst (λ (k : Settings). ServerAt k (opens (sides_of v) nothing) There.Nowhere v.server w) (sym gs) server);
-      };
-      holds = refl;
+-- nothing, before it knows of the connection
+pub gave_nothing : (m : Most) (g : Settings) (r : Ends) (t : There) (v : Seen) (w : Wire) → w.known ≡ known.Nothing → ServerAt g r t v w → Gave m g r t v v w w false
+gave_nothing m g r t v w is h =
+    let none = is_nowhere g r t v w is h in
+    let here : ServerAt g r There.Nowhere v w = subst (λ (u : There). ServerAt g r u v w) none h in
+    subst (λ (u : There). Gave m g r u v v w w false) (sym none) (record {
+      there = There.Nowhere;
+      gives = (refl, refl);
+      at = record { server = refl; link = refl; number = here.number; knows = here.knows };
+      piece = [];
+      bytes = refl;
+      crossed = ap (λ (b : List ℕ). record w { down = record w.down { rest = record w.down.rest { bytes = b } } }) (sym (append-nil w.down.rest.bytes));
+      grew = refl;
     })
+
+-- what it draws
+pub gave_draws : (m : Most) (g : Settings) (r : Ends) (t : There) (v v' : Seen) (w : Wire) (rest : Rest) (e : ℕ) (some : Bool) → v' ≡ record v { entries = v'.entries; spare = v'.spare } → w.known ≡ known.Accepted e → ServerAt g r t v w → Carried e m v v' w.down.rest rest some
+    → Gave m g r t v v' w (record w { down = record w.down { rest = rest } }) some
+gave_draws m g r t v v' w rest e some same is h k =
+    let n = drawn r.client w.client in
+    let frames = due g r.client w.client in
+    let a = accepted t w.known e n frames v w.up is h.knows in
+    let here : ServerAt g r (There.Accepted e) v w = subst (λ (u : There). ServerAt g r u v w) a.0 h in
+    let q = drew_where (is_live (live v.entries) e) v.settings e m v.entries v'.entries k.draws in
+    subst (λ (u : There). Gave m g r u v v' w (record w { down = record w.down { rest = rest } }) some) (sym a.0) (record {
+      there = There.Accepted e;
+      gives = (refl, k.draws);
+      at = record { server = refl; link = refl; number = here.number; knows = knows_quiet (There.Accepted e) w.known n frames v v' w.up (settings_of v v' same) q.0 here.knows };
+      piece = k.piece;
+      bytes = k.gave;
+      crossed = ap (λ (x : Rest). record w { down = record w.down { rest = x } }) k.crossed;
+      grew = k.grew;
+    })
+
+refused_as : (t : There) (k : Known) (left : Left) (n : ℕ) (frames : List Frame) (v : Seen) (x : Crossing) → k ≡ known.Refused left → Knows t k n frames v x → (d : ℕ) × (t ≡ There.Refused d left.crossed) × (left.bytes ≡ framed_all (refused v.entries d)) × (left.crossed ≤ length left.bytes)
+refused_as There.Nowhere k left n frames v x is h = absurd (subst (λ (j : Known). Knows There.Nowhere j n frames v x) is h)
+refused_as (There.Accepted d) k left n frames v x is h = absurd (subst (λ (j : Known). Knows (There.Accepted d) j n frames v x) is h)
+refused_as (There.Refused d m) k left n frames v x is h =
+    let a = subst (λ (j : Known). Knows (There.Refused d m) j n frames v x) is h in
+    (d, ap (λ (i : ℕ). There.Refused d i) (sym a.1), a.0, subst (λ (i : ℕ). i ≤ length left.bytes) (sym a.1) a.2)
+
+pub left_within : (g : Settings) (r : Ends) (t : There) (v : Seen) (w : Wire) (left : Left) → w.known ≡ known.Refused left → ServerAt g r t v w → left.crossed ≤ length left.bytes
+left_within g r t v w left is h = (refused_as t w.known left (drawn r.client w.client) (due g r.client w.client) v w.up is h.knows).3
+
+-- what is left of the refusal
+pub gave_refusal : (m : Most) (g : Settings) (r : Ends) (t : There) (v : Seen) (w : Wire) (left left' : Left) (rest : Rest) (some : Bool) → w.known ≡ known.Refused left → ServerAt g r t v w → Offered m left left' w.down.rest rest some
+    → Gave m g r t v v w (record w { known = known.Refused left'; down = record w.down { rest = rest } }) some
+gave_refusal m g r t v w left left' rest some is h k =
+    let n = drawn r.client w.client in
+    let frames = due g r.client w.client in
+    let a = refused_as t w.known left n frames v w.up is h.knows in
+    let d = a.0 in
+    let next = left.crossed + at_most m (length (framed_all (refused v.entries d)) - left.crossed) in
+    let crossed : left'.crossed ≡ next = k.crossed ∙ ap (λ (b : List ℕ). left.crossed + at_most m (length b - left.crossed)) a.2 in
+    let whole : left'.bytes ≡ framed_all (refused v.entries d) = k.bytes ∙ a.2 in
+    let here : ServerAt g r (There.Refused d left.crossed) v w = subst (λ (u : There). ServerAt g r u v w) a.1 h in
+    subst (λ (u : There). Gave m g r u v v w (record w { known = known.Refused left'; down = record w.down { rest = rest } }) some) (sym a.1) (record {
+      there = There.Refused d next;
+      gives = (refl, refl);
+      at = record { server = refl; link = refl; number = here.number; knows = (whole, crossed, subst (λ (i : ℕ). i ≤ length left'.bytes) crossed k.within) };
+      piece = k.piece;
+      bytes = ap (λ (i : ℕ). take i (framed_all (refused v.entries d))) (sym crossed) ∙ (ap (λ (b : List ℕ). take left'.crossed b) (sym a.2) ∙ (k.gave ∙ ap (λ (b : List ℕ). take left.crossed b ++ k.piece) a.2));
+      crossed = ap (λ (x : Rest). record w { known = known.Refused left'; down = record w.down { rest = x } }) k.fed;
+      grew = subst (λ (i : ℕ). Grew some left.crossed i) crossed k.grew;
+    })
+
+-- ---- the server cuts
+
+pub cut_accepted : (g : Settings) (r : Ends) (t : There) (v : Seen) (w : Wire) (e : ℕ) → w.known ≡ known.Accepted e → ServerAt g r t v w → t ≡ There.Accepted e
+cut_accepted g r t v w e is h = (accepted t w.known e (drawn r.client w.client) (due g r.client w.client) v w.up is h.knows).0
+
+not_accepted : (t : There) (k : Known) (n : ℕ) (frames : List Frame) (v : Seen) (x : Crossing) → ((e : ℕ) → k ≡ known.Accepted e → is_live (live v.entries) e ≡ false) → Knows t k n frames v x → cuts_there v.settings t v.entries ≡ v.entries
+not_accepted There.Nowhere k n frames v x out h = refl
+not_accepted (There.Accepted d) (known.Accepted e) n frames v x out h =
+    let off : is_live (live v.entries) d ≡ false = subst (λ (i : ℕ). is_live (live v.entries) i ≡ false) h.0 (out e refl) in
+    ap (λ (b : Bool). cond b (adds v.settings v.entries (event.Cut d)) v.entries) off
+not_accepted (There.Accepted d) known.Nothing n frames v x out h = absurd h
+not_accepted (There.Accepted d) (known.Refused left) n frames v x out h = absurd h
+not_accepted (There.Refused d m) k n frames v x out h = refl
+
+pub not_cut : (g : Settings) (r : Ends) (t : There) (v : Seen) (w : Wire) → ((e : ℕ) → w.known ≡ known.Accepted e → is_live (live v.entries) e ≡ false) → ServerAt g r t v w → v.entries ≡ cuts_there v.settings t v.entries
+not_cut g r t v w out h = sym (not_accepted t w.known (drawn r.client w.client) (due g r.client w.client) v w.up out h.knows)
+
+is_here : (n e : ℕ) → n ≡ e → 0 < e → is_live n e ≡ true
+is_here n e h1 h2 = grind (arith, nat_tests)
+
+pub is_cut : (g : Settings) (r : Ends) (t : There) (v v' : Seen) (w : Wire) (e : ℕ) → w.known ≡ known.Accepted e → live v.entries ≡ e → ServerAt g r t v w → v'.entries ≡ adds v.settings v.entries (event.Cut e) → v'.entries ≡ cuts_there v.settings t v.entries
+is_cut g r t v v' w e is here h now =
+    let some = accepted_number g r t v w e is h in
+    let on : is_live (live v.entries) e ≡ true = is_here (live v.entries) e here some in
+    let at = cut_accepted g r t v w e is h in
+    now ∙ (sym (ap (λ (b : Bool). cond b (adds v.settings v.entries (event.Cut e)) v.entries) on) ∙ ap (λ (u : There). cuts_there v.settings u v.entries) (sym at))

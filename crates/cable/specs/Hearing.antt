@@ -1,5 +1,5 @@
 -- What one end draws and hears, over the bytes between.
-use Rattle.std.specs.Prelude.{◌≡◌, ◌<◌, ◌+◌, ℕ, Bool, true, false, List, ◌∷◌, ◌++◌, map, drop, take, Option, Some, None, is_some}
+use Rattle.std.specs.Prelude.{◌≡◌, ◌<◌, ◌≤◌, ◌+◌, ◌-◌, ℕ, Bool, true, false, List, ◌∷◌, ◌++◌, length, map, drop, take, Option, Some, None, is_some}
 use Rattle.std.specs.List.{AllByRecursion}
 use Rattle.rs_wire.specs.declared.settings.Settings.{Settings}
 use Rattle.rs_frame.specs.declared.frame.Frame.{Frame}
@@ -12,16 +12,18 @@ use Rattle.tape.specs.declared.answer.Answer.{Answer}
 use Rattle.tape.specs.declared.answer.Answer.TheVariants as answer
 use Rattle.tape.specs.declared.entry.Entry.{Entry}
 use Rattle.session_model.specs.Life.{live, openings}
-use Rattle.session_model.specs.Frames.{came, due, drawn, first_bad, given, was_opened}
+use Rattle.session_model.specs.Frames.{came, due, drawn, first_bad, given, refusal, was_opened}
 use Rattle.session_model.specs.Answers.{answer_to}
+use Rattle.session_model.specs.Joined.{only}
 use Rattle.session_core.specs.Seen.{Seen}
 use Rattle.cable.specs.declared.arrival.Arrival.{Arrival}
 use Rattle.cable.specs.declared.arrival.Arrival.TheVariants as arrival
 use Rattle.cable.specs.declared.carrying.Most.{Most}
+use Rattle.cable.specs.declared.carrying.Left.{Left}
 use Rattle.cable.specs.declared.hearing.Crossing.{Crossing}
 use Rattle.cable.specs.declared.hearing.Known.{Known}
 use Rattle.cable.specs.declared.hearing.Known.TheVariants as known
-use Rattle.cable.specs.Played.{Draws, answered, crossed, hears}
+use Rattle.cable.specs.Played.{Draws, answered, arrivals, at_most, crossed, hears}
 
 -- an answer of a session that did not run out of memory
 abbrev pub IsNoWant : Answer → Type 0
@@ -40,12 +42,28 @@ pub record Filled (c : ℕ) (v w : Seen) (room : ℕ) (buffer : List ℕ) : Type
 abbrev pub IsStale : ℕ → Seen → Seen → ℕ → Type 0
 IsStale c v w room = w.entries ≡ record { who = 0; event = event.Draw c room; answer = answer.Stale (live v.entries) } ∷ v.entries
 
--- the draws of a carrying line, and the bytes that crossed by them
-pub record Carried (c : ℕ) (m : Most) (v w : Seen) (start rest : Rest) : Type 0 where
+-- a count grew, or it is as before
+abbrev pub Grew : Bool → ℕ → ℕ → Type 0
+Grew true m n = m < n
+Grew false m n = n ≡ m
+
+-- the draws of a carrying line, the bytes that crossed by them, and whether there are any
+pub record Carried (c : ℕ) (m : Most) (v w : Seen) (start rest : Rest) (some : Bool) : Type 0 where
   pub draws : Draws v.settings c m v.entries w.entries
   pub piece : List ℕ
   pub gave : given v.settings w.entries c ≡ given v.settings v.entries c ++ piece
   pub crossed : rest ≡ record start { bytes = start.bytes ++ piece }
+  pub grew : Grew some (drawn v.entries c) (drawn w.entries c)
+
+-- at most so many of the bytes left of a refusal crossed, and whether there were any
+pub record Offered (m : Most) (l k : Left) (start rest : Rest) (some : Bool) : Type 0 where
+  pub bytes : k.bytes ≡ l.bytes
+  pub crossed : k.crossed ≡ l.crossed + at_most m (length l.bytes - l.crossed)
+  pub within : k.crossed ≤ length k.bytes
+  pub piece : List ℕ
+  pub gave : take k.crossed l.bytes ≡ take l.crossed l.bytes ++ piece
+  pub fed : rest ≡ record start { bytes = start.bytes ++ piece }
+  pub grew : Grew some l.crossed k.crossed
 
 -- ---- what is in front of the bytes that crossed
 
@@ -108,14 +126,16 @@ pub record IsNear (v : Seen) (x : Crossing) : Type 0 where
 
 -- ---- what is heard
 
--- all came that can
-pub record IsHearer (c n : ℕ) (frames : List Frame) (v w : Seen) (x : Crossing) : Type 0 where
+-- all came that can, and whether something did
+pub record IsHearer (c n : ℕ) (frames : List Frame) (v w : Seen) (x : Crossing) (some : Bool) : Type 0 where
   pub entries : w.entries ≡ hears v.settings c n frames v.entries
   pub crosses : CrossedTo v.settings c n frames w.entries x.rest x.over
+  pub grew : Grew some (arrivals v.entries) (arrivals w.entries)
 
+-- what is known of a connection whose opening was answered so: a refusal gives its frame, or nothing
 abbrev pub known_of : Answer → Known
 known_of (answer.Opened d) = known.Accepted d
-known_of _ = known.Refused
+known_of a = known.Refused (record { bytes = framed_all (only (refusal a)); crossed = 0 })
 
 -- the first frame of a connection came
 abbrev pub IsOpenedBy : Frame → Seen → Seen → Known → Type 0

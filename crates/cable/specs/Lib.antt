@@ -4,5 +4,6 @@ pub mod Played
 pub mod Hearing
 pub mod Wires
 pub mod Report
+pub mod Shelves
 pub mod Script
 pub mod Words

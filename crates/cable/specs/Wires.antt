@@ -1,20 +1,24 @@
 -- What the code of a cable keeps, and the two ends that it follows.
-use Rattle.std.specs.Prelude.{◌≡◌, ◌<◌, ℕ, [], false, List, Option, Some, None}
+use Rattle.std.specs.Prelude.{◌≡◌, ◌<◌, ◌≤◌, ℕ, Bool, [], ◌++◌, false, List, length, take, Option, Some, None}
+use Rattle.rs_wire.specs.declared.words.Side.{Side}
 use Rattle.rs_wire.specs.declared.words.Side.TheVariants.{Client, Server}
 use Rattle.rs_wire.specs.declared.settings.Settings.{Settings}
 use Rattle.rs_frame.specs.declared.frame.Frame.{Frame}
+use Rattle.rs_frame.specs.Framed.{framed_all}
 use Rattle.tape.specs.declared.entry.Entry.{Entry}
 use Rattle.tape.specs.declared.answer.Answer.{Answer}
 use Rattle.tape.specs.declared.answer.Answer.TheVariants as answer
 use Rattle.session_model.specs.Frames.{drawn, due}
 use Rattle.session_model.specs.Legal.{Fair, IsPlain, Legal}
+use Rattle.session_model.specs.Joined.{refused}
 use Rattle.session_core.specs.Seen.{Seen}
 use Rattle.cable.specs.declared.cable.Wire.{Wire}
+use Rattle.cable.specs.declared.carrying.Most.{Most}
 use Rattle.cable.specs.declared.hearing.Crossing.{Crossing}
 use Rattle.cable.specs.declared.hearing.Known.{Known}
 use Rattle.cable.specs.declared.hearing.Known.TheVariants as known
-use Rattle.cable.specs.Played.{Ends, Sides, There, arrives_up}
-use Rattle.cable.specs.Hearing.{Crosses, Nears}
+use Rattle.cable.specs.Played.{Ends, Gives, Sides, There, arrivals, arrives_up, bytes_down, frames_down, gave, moved}
+use Rattle.cable.specs.Hearing.{Crosses, Grew, Nears}
 
 -- what is seen of a cable
 pub record Wires : Type 0 where
@@ -34,7 +38,7 @@ pub record Keeps (v w : Wires) : Type 0 where
 abbrev pub Knows : There → Known → ℕ → List Frame → Seen → Crossing → Type 0
 Knows There.Nowhere known.Nothing n frames v x = Nears n frames v x
 Knows (There.Accepted d) (known.Accepted e) n frames v x = (e ≡ d) × Crosses d n frames v x
-Knows (There.Refused d m) known.Refused n frames v x = Unit {0}
+Knows (There.Refused d m) (known.Refused left) n frames v x = (left.bytes ≡ framed_all (refused v.entries d)) × (left.crossed ≡ m) × (m ≤ length left.bytes)
 Knows _ _ n frames v x = ⊥
 
 -- the server of these ends and the connection, which a client under settings g opened
@@ -44,24 +48,51 @@ pub record ServerAt (g : Settings) (r : Ends) (t : There) (v : Seen) (w : Wire) 
   pub number : 0 < w.client
   pub knows : Knows t w.known (drawn r.client w.client) (due g r.client w.client) v w.up
 
--- all came at the server that can
-abbrev pub Arrives : Settings → Ends → There → Seen → Seen → Wire → Wire → Type 0
-Arrives g r t v v' w w' = (t' : There) × ServerAt g (arrives_up (record { client = g; server = v.settings }) w.client t r) t' v' w'
+-- some server and connection
+abbrev pub IsServerAt : Seen → Wire → Type 0
+IsServerAt v w = (g : Settings) × (r : Ends) × (t : There) × ServerAt g r t v w
+
+-- all came at the server that can, and whether something did; nothing crossed to the client
+pub record Arrives (g : Settings) (r : Ends) (t : There) (v v' : Seen) (w w' : Wire) (some : Bool) : Type 0 where
+  pub there : There
+  pub at : ServerAt g (arrives_up (record { client = g; server = v.settings }) w.client t r) there v' w'
+  pub same : w' ≡ record w { known = w'.known; up = w'.up }
+  pub grew : Grew some (arrivals v.entries) (arrivals v'.entries)
+
+-- the server gave what it can, and whether it gave something; nothing crossed to it
+pub record Gave (m : Most) (g : Settings) (r : Ends) (t : There) (v v' : Seen) (w w' : Wire) (some : Bool) : Type 0 where
+  pub there : There
+  pub gives : Gives v.settings m t there v.entries v'.entries
+  pub at : ServerAt g (gave w.client there v'.entries r) there v' w'
+  pub piece : List ℕ
+  pub bytes : take (bytes_down there v'.entries) (framed_all (frames_down v.settings there v'.entries)) ≡ take (bytes_down t v.entries) (framed_all (frames_down v.settings t v.entries)) ++ piece
+  pub crossed : w' ≡ record w { known = w'.known; down = record w.down { rest = record w.down.rest { bytes = w.down.rest.bytes ++ piece } } }
+  pub grew : Grew some (bytes_down t v.entries) (bytes_down there v'.entries)
+
+-- what crossed to the client on its connection c, of which the server knows this
+abbrev pub ClientAt : ℕ → There → Seen → Seen → Crossing → Type 0
+ClientAt c t client server x = Crosses c (bytes_down t server.entries) (frames_down server.settings t server.entries) client x
+
+pub record LinkAt (w : Wire) (v : Wires) (r : Ends) : Type 0 where
+  pub there : There
+  pub up : ServerAt v.client.settings r there v.server w
+  pub down : ClientAt w.client there v.client v.server w.down
 
 abbrev pub WireAt : Option Wire → Wires → Ends → Type 0
 WireAt None v r = r.link ≡ None
-WireAt (Some w) v r = (t : There) × ServerAt v.client.settings r t v.server w
+WireAt (Some w) v r = LinkAt w v r
 
--- what a session promises of its entries: the answers are right, and whoever brought the events kept their conditions
-abbrev pub IsOfSession : Settings → List Entry → Type 0
-IsOfSession g past = Legal g past × Fair g past
+-- an end of a plain session: its answers are right, and whoever brought the events kept their conditions
+pub record IsPlainEnd (side : Side) (v : Seen) : Type 0 where
+  pub side_is : v.settings.side ≡ side
+  pub plain : IsPlain v.settings
+  pub legal : Legal v.settings v.entries
+  pub fair : Fair v.settings v.entries
 
 -- the cable follows these ends
 pub record At (v : Wires) (r : Ends) : Type 0 where
-  pub client_side : v.client.settings.side ≡ Client
-  pub server_side : v.server.settings.side ≡ Server
-  pub plain : IsPlain v.client.settings
-  pub legal : IsOfSession v.client.settings v.client.entries
+  pub client_is : IsPlainEnd Client v.client
+  pub server_is : IsPlainEnd Server v.server
   pub client : r.client ≡ v.client.entries
   pub server : r.server ≡ v.server.entries
   pub wire : WireAt v.wire v r
@@ -76,7 +107,11 @@ pub record Reaches (v : Wires) (Holds : Ends → Type 0) : Type 0 where
   pub at : At v ends
   pub holds : Holds ends
 
--- the connection that an answer to the client opens, at a server that takes frames of so many bytes
-abbrev pub wire_of : Answer → ℕ → Option Wire
-wire_of (answer.Opened c) most = Some (record { client = c; known = known.Nothing; up = record { rest = record { bytes = []; max_in = most }; over = false } })
-wire_of _ most = None
+-- whether something moved or came between these ends and those
+abbrev pub IsMoved : Bool → Ends → Ends → Type 0
+IsMoved some r r' = Grew some (moved r) (moved r')
+
+-- the connection that an answer to the client opens, between a client and a server that take frames of so many bytes
+abbrev pub wire_of : Answer → ℕ → ℕ → Option Wire
+wire_of (answer.Opened c) most here = Some (record { client = c; known = known.Nothing; up = record { rest = record { bytes = []; max_in = most }; over = false }; down = record { rest = record { bytes = []; max_in = here }; over = false } })
+wire_of _ most here = None

@@ -7,6 +7,7 @@ ghost use Rattle.cable.specs.Hearing.{IsNextOf, IsSpelledInFront, too_long, whol
 use rs_chunk::{Front, Reader};
 use rs_frame::{Frame, FrameFault, decode};
 use rs_wire::OutOfMemory;
+use session_model::LONG_FRAME;
 use std::alloc::Global;
 use tape::Event;
 
@@ -25,7 +26,10 @@ pub(crate) fn event_of(conn: u64, arrival: Arrival) -> Event
 {
     match arrival {
         Arrival::Whole(frame) => Event::Came { conn, frame },
-        Arrival::TooLong => Event::Bad { conn, rule: 10 },
+        Arrival::TooLong => Event::Bad {
+            conn,
+            rule: LONG_FRAME,
+        },
     }
 }
 

@@ -2,7 +2,8 @@
 
 ghost use Rattle.std.specs.Prelude.{◌≡◌, None, false, IfOk, OnOk};
 ghost use Rattle.rs_wire.specs.declared.words.Side.TheVariants.{Client};
-ghost use Rattle.session_model.specs.Legal.{IsAskable, IsFair};
+ghost use Rattle.rs_wire.specs.Calls.{CanBeAsked};
+ghost use Rattle.session_model.specs.Legal.{CanBring};
 ghost use Rattle.session_model.specs.Answers.{answer_to};
 ghost use Rattle.session_core.specs.Seen.{IsNoDrawEvent};
 ghost use Rattle.cable.specs.Played.{adds};
@@ -28,7 +29,7 @@ pub(crate) fn wanted(answer: &Answer) -> Result<(), OutOfMemory>
 
 /// Brings an event to an end: its answer.
 pub(crate) fn tell<T: Tape>(end: &mut Session<T>, event: &Event) -> Result<Answer, OutOfMemory>
-    requires fair { IsFair end.old.settings event.now }
+    requires fair { CanBring end.old.settings event.now }
     requires no_draw { IsNoDrawEvent event.now }
     ensures end { end.new ≡ record end.old { entries = end.new.entries; spare = end.new.spare } }
     ensures noted { OnOk result (end.new.entries ≡
@@ -64,10 +65,20 @@ pub(crate) fn ask<T: Tape>(
     end: &mut Session<T>,
     call: &Call,
 ) -> Result<Answer, OutOfMemory>
-    requires { IsAskable call.now }
+    requires { CanBeAsked call.now }
     ensures end { end.new ≡ record end.old { entries = end.new.entries; spare = end.new.spare } }
     ensures noted { OnOk result (end.new.entries ≡
         adds end.old.settings end.old.entries (Event.Asked call.now)) }
 {
     tell(end, &asked(call.copy(alloc)?))
+}
+
+/// A connection is gone at an end.
+pub(crate) fn cut<T: Tape>(end: &mut Session<T>, conn: u64) -> Result<(), OutOfMemory>
+    ensures end { end.new ≡ record end.old { entries = end.new.entries; spare = end.new.spare } }
+    ensures noted { OnOk result (end.new.entries ≡
+        adds end.old.settings end.old.entries (Event.Cut conn)) }
+{
+    tell(end, &Event::Cut { conn })?;
+    Ok(())
 }

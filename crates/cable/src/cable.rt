@@ -1,18 +1,19 @@
 //! Two ends of a session, and the connection between them.
 
-ghost use Rattle.std.specs.Prelude.{◌≡◌, ◌<◌, ◌^◌, None, OnOk, length};
+ghost use Rattle.std.specs.Prelude.{◌≡◌, ◌<◌, ◌^◌, ◌||◌, [], None, false, IfOk, OnOk, length};
 ghost use Rattle.std.specs.List.{AllByRecursion};
 ghost use Rattle.rs_wire.specs.declared.words.Side.TheVariants.{Server};
 ghost use Rattle.rs_wire.specs.declared.settings.Settings.{Settings as Limits};
-ghost use Rattle.session_model.specs.Legal.{IsAskable};
+ghost use Rattle.rs_wire.specs.Calls.{CanBeAsked};
 ghost use Rattle.cable.specs.Line.{IsLine};
-ghost use Rattle.cable.specs.Played.{Ends, PlaysLine, PlaysLines, There, Ups, asks, begins, nothing, opens};
-ghost use Rattle.cable.specs.Wires.{Arrives, At, IsAt, Keeps, Reaches, ServerAt, sides_of, wire_of};
+ghost use Rattle.cable.specs.Played.{Downs, Drains, Ends, PlaysLine, PlaysLines, Round, There, Ups, asks, begins, cuts, cuts_there, nothing, opens};
+ghost use Rattle.cable.specs.Wires.{Arrives, At, Gave, IsAt, IsMoved, IsServerAt, Keeps, Reaches, ServerAt, sides_of, wire_of};
 
-use crate::bringing::{ask, connect};
-use crate::carrying::{Most, carry};
+use crate::MOST_ROUNDS;
+use crate::bringing::{ask, connect, cut};
+use crate::carrying::{Most, carry, offer};
 use crate::hearing::{Crossing, Known, hear, meet};
-use crate::line::Line;
+use crate::script::line::Line;
 use rs_chunk::Reader;
 use rs_wire::{Call, OutOfMemory, Side};
 use session_core::Session;
@@ -32,9 +33,11 @@ pub(crate) struct Wire {
     pub known: Known,
     /// What crossed to the server.
     pub up: Crossing,
+    /// What crossed to the client.
+    pub down: Crossing,
 }
 
-/// Two ends, and the connection between them, once the client opened one.
+/// Two ends, and the connection that joins them, from the client's opening to its cut.
 #[derive(Drop)]
 pub(crate) struct Cable<T: Tape> {
     client: Session<T>,
@@ -50,9 +53,24 @@ impl<T: Tape> Model for Cable<T> {
     ghost view = { λ c. record { client = c.client; server = c.server; wire = c.wire } };
 }
 
+fn any(first: bool, second: bool) -> bool
+    ensures { result ≡ (first || second) }
+{
+    first || second
+}
+
+fn crossing(alloc: Global, max_in: u32) -> Crossing
+    ensures { result ≡ record { rest = record { bytes = []; max_in = max_in }; over = false } }
+{
+    Crossing {
+        rest: Reader::new(alloc, max_in),
+        over: false,
+    }
+}
+
 // The connection that the client's answer opens.
-fn wire_of(alloc: Global, answer: &Answer, max_in: u32) -> Option<Wire>
-    ensures { result ≡ wire_of answer.now max_in }
+fn wire_of(alloc: Global, answer: &Answer, up_max: u32, down_max: u32) -> Option<Wire>
+    ensures { result ≡ wire_of answer.now up_max down_max }
 {
     let Answer::Opened(client) = answer else {
         return None;
@@ -60,53 +78,94 @@ fn wire_of(alloc: Global, answer: &Answer, max_in: u32) -> Option<Wire>
     Some(Wire {
         client: *client,
         known: Known::Nothing,
-        up: Crossing {
-            rest: Reader::new(alloc, max_in),
-            over: false,
-        },
+        up: crossing(alloc, up_max),
+        down: crossing(alloc, down_max),
     })
 }
 
-// The first frame opens the connection at the server, which then hears what crossed after it.
+// The first frame opens the connection at the server, which then hears what crossed after it:
+// whether it heard something.
 fn greet<T: Tape>(
     alloc: Global,
     server: &mut Session<T>,
     wire: &mut Wire,
-) -> Result<(), OutOfMemory>
+) -> Result<bool, OutOfMemory>
     requires side { server.old.settings.side ≡ Server }
     requires at { (g : Limits) × (r : Ends) × ServerAt g r There.Nowhere server.old wire.old }
     ensures server { server.new ≡
         record server.old { entries = server.new.entries; spare = server.new.spare } }
     ensures arrived { (g : Limits) (r : Ends) → ServerAt g r There.Nowhere server.old wire.old →
-        OnOk result (Arrives g r There.Nowhere server.old server.new wire.old wire.new) }
+        IfOk result (Arrives g r There.Nowhere server.old server.new wire.old wire.new) }
 {
     wire.known = meet(alloc, server, &mut wire.up)?;
-    if let Known::Accepted(conn) = wire.known {
-        return hear(alloc, server, conn, &mut wire.up);
+    match wire.known {
+        Known::Nothing => Ok(false),
+        Known::Accepted(conn) => {
+            hear(alloc, server, conn, &mut wire.up)?;
+            Ok(true)
+        }
+        Known::Refused(_) => Ok(true),
     }
-    Ok(())
 }
 
-// The server hears what crossed. It hears nothing on a connection that it refused.
+// The server hears what crossed, and nothing on a connection that it refused: whether it heard
+// something.
 fn arrive<T: Tape>(
     alloc: Global,
     server: &mut Session<T>,
     wire: &mut Wire,
-) -> Result<(), OutOfMemory>
+) -> Result<bool, OutOfMemory>
     requires side { server.old.settings.side ≡ Server }
-    requires at { (g : Limits) × (r : Ends) × (t : There) × ServerAt g r t server.old wire.old }
+    requires at { IsServerAt server.old wire.old }
     ensures server { server.new ≡
         record server.old { entries = server.new.entries; spare = server.new.spare } }
     ensures arrived { (g : Limits) (r : Ends) (t : There) → ServerAt g r t server.old wire.old →
-        OnOk result (Arrives g r t server.old server.new wire.old wire.new) }
+        IfOk result (Arrives g r t server.old server.new wire.old wire.new) }
 {
     match wire.known {
         Known::Nothing => greet(alloc, server, wire),
         Known::Accepted(conn) => hear(alloc, server, conn, &mut wire.up),
-        Known::Refused => {
+        Known::Refused(_) => {
             wire.up.rest = Reader::new(alloc, 0);
-            Ok(())
+            Ok(false)
         }
+    }
+}
+
+// The server gives what it can, and lets it cross: whether it gave something.
+fn give<T: Tape>(
+    server: &mut Session<T>,
+    wire: &mut Wire,
+    most: Most,
+    buffer: &mut [u8],
+) -> Result<bool, OutOfMemory>
+    requires some { 0 < length buffer.old }
+    requires few { length buffer.old < 2 ^ 32 }
+    requires at { IsServerAt server.old wire.old }
+    ensures server { server.new ≡
+        record server.old { entries = server.new.entries; spare = server.new.spare } }
+    ensures gave { (g : Limits) (r : Ends) (t : There) → ServerAt g r t server.old wire.old →
+        IfOk result (Gave most g r t server.old server.new wire.old wire.new) }
+{
+    match &mut wire.known {
+        Known::Nothing => Ok(false),
+        Known::Accepted(conn) => carry(server, *conn, most, buffer, &mut wire.down.rest),
+        Known::Refused(left) => offer(left, most, &mut wire.down.rest),
+    }
+}
+
+// The server cuts a connection that it accepted and that is live.
+fn cut_there<T: Tape>(server: &mut Session<T>, wire: &Wire) -> Result<(), OutOfMemory>
+    requires at { IsServerAt server.old wire.now }
+    ensures server { server.new ≡
+        record server.old { entries = server.new.entries; spare = server.new.spare } }
+    ensures cut { (g : Limits) (r : Ends) (t : There) → ServerAt g r t server.old wire.now →
+        OnOk result (server.new.entries ≡
+        cuts_there server.old.settings t server.old.entries) }
+{
+    match wire.known {
+        Known::Accepted(conn) if server.live() == conn => cut(server, conn),
+        _ => Ok(()),
     }
 }
 
@@ -139,14 +198,15 @@ impl<T: Tape> Cable<T> {
     {
         let answer = connect(&mut self.client)?;
         self.client.legal();
-        let max_in = self.server.settings().settings().max_in;
-        self.wire = wire_of(alloc, &answer, max_in);
+        let up_max = self.server.settings().settings().max_in;
+        let down_max = self.client.settings().settings().max_in;
+        self.wire = wire_of(alloc, &answer, up_max, down_max);
         Ok(())
     }
 
     // A line with a call.
     fn call(&mut self, alloc: Global, side: Side, call: &Call) -> Result<(), OutOfMemory>
-        requires askable { IsAskable call.now }
+        requires askable { CanBeAsked call.now }
         requires at { IsAt self.old }
         ensures ends { Keeps self.old self.new }
         ensures played { (r : Ends) → At self.old r →
@@ -160,28 +220,99 @@ impl<T: Tape> Cable<T> {
             }
             Side::Server => {
                 ask(alloc, &mut self.server, call)?;
+                self.server.legal();
                 Ok(())
             }
         }
     }
 
-    // A line `up`.
-    fn up(&mut self, alloc: Global, most: Most, buffer: &mut [u8]) -> Result<(), OutOfMemory>
+    // What the client draws is carried to the server: whether something moved or came.
+    fn up(&mut self, alloc: Global, most: Most, buffer: &mut [u8]) -> Result<bool, OutOfMemory>
         requires some { 0 < length buffer.old }
         requires few { length buffer.old < 2 ^ 32 }
         requires at { IsAt self.old }
         ensures ends { Keeps self.old self.new }
-        ensures played { (r : Ends) → At self.old r →
-            OnOk result (Reaches self.new (Ups (sides_of self.old) most r)) }
+        ensures played { (r : Ends) → At self.old r → IfOk result (λ moved.
+            Reaches self.new (λ r'. Ups (sides_of self.old) most r r' × IsMoved moved r r')) }
     {
         let Some(mut wire) = self.wire.take() else {
-            return Ok(());
+            return Ok(false);
         };
         let number = wire.client;
-        carry(&mut self.client, number, most, buffer, &mut wire.up.rest)?;
+        let gave = carry(&mut self.client, number, most, buffer, &mut wire.up.rest)?;
         self.client.legal();
-        arrive(alloc, &mut self.server, &mut wire)?;
+        let came = arrive(alloc, &mut self.server, &mut wire)?;
+        self.server.legal();
         self.wire = Some(wire);
+        Ok(any(gave, came))
+    }
+
+    // What the server gives is carried to the client: whether something moved or came.
+    fn down(&mut self, alloc: Global, most: Most, buffer: &mut [u8]) -> Result<bool, OutOfMemory>
+        requires some { 0 < length buffer.old }
+        requires few { length buffer.old < 2 ^ 32 }
+        requires at { IsAt self.old }
+        ensures ends { Keeps self.old self.new }
+        ensures played { (r : Ends) → At self.old r → IfOk result (λ moved.
+            Reaches self.new (λ r'. Downs (sides_of self.old) most r r' × IsMoved moved r r')) }
+    {
+        let Some(mut wire) = self.wire.take() else {
+            return Ok(false);
+        };
+        let gave = give(&mut self.server, &mut wire, most, buffer)?;
+        self.server.legal();
+        let number = wire.client;
+        let came = hear(alloc, &mut self.client, number, &mut wire.down)?;
+        self.client.legal();
+        self.wire = Some(wire);
+        Ok(any(gave, came))
+    }
+
+    // All that is queued is carried up, then down: whether something moved or came.
+    fn round(&mut self, alloc: Global, buffer: &mut [u8]) -> Result<bool, OutOfMemory>
+        requires some { 0 < length buffer.old }
+        requires few { length buffer.old < 2 ^ 32 }
+        requires at { IsAt self.old }
+        ensures ends { Keeps self.old self.new }
+        ensures played { (r : Ends) → At self.old r → IfOk result (λ moved.
+            Reaches self.new (λ r'. Round (sides_of self.old) r r' × IsMoved moved r r')) }
+    {
+        let up = self.up(alloc, Most::All, buffer)?;
+        let down = self.down(alloc, Most::All, buffer)?;
+        Ok(any(up, down))
+    }
+
+    // A line `drain`.
+    fn drain(&mut self, alloc: Global, buffer: &mut [u8]) -> Result<(), OutOfMemory>
+        requires some { 0 < length buffer.old }
+        requires few { length buffer.old < 2 ^ 32 }
+        requires at { IsAt self.old }
+        ensures ends { Keeps self.old self.new }
+        ensures played { (r : Ends) → At self.old r → OnOk result
+            (Reaches self.new (Drains MOST_ROUNDS (sides_of self.old) r)) }
+    {
+        for _ in 0..MOST_ROUNDS {
+            if !self.round(alloc, buffer)? {
+                return Ok(());
+            }
+        }
+        Ok(())
+    }
+
+    // A line `cut`.
+    fn cut(&mut self) -> Result<(), OutOfMemory>
+        requires at { IsAt self.old }
+        ensures ends { Keeps self.old self.new }
+        ensures played { (r : Ends) → At self.old r →
+            OnOk result (Reaches self.new (λ r'. r' ≡ cuts (sides_of self.old) r)) }
+    {
+        let Some(wire) = self.wire.take() else {
+            return Ok(());
+        };
+        cut(&mut self.client, wire.client)?;
+        self.client.legal();
+        cut_there(&mut self.server, &wire)?;
+        self.server.legal();
         Ok(())
     }
 
@@ -196,7 +327,16 @@ impl<T: Tape> Cable<T> {
     {
         match line {
             Line::Ask { side, call } => self.call(alloc, *side, call),
-            Line::Up { most } => self.up(alloc, Most::Bytes(most.get()), buffer),
+            Line::Up { most } => {
+                self.up(alloc, Most::Bytes(most.get()), buffer)?;
+                Ok(())
+            }
+            Line::Down { most } => {
+                self.down(alloc, Most::Bytes(most.get()), buffer)?;
+                Ok(())
+            }
+            Line::Drain => self.drain(alloc, buffer),
+            Line::Cut => self.cut(),
         }
     }
 

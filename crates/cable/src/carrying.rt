@@ -1,14 +1,14 @@
 //! Bytes are drawn at one end, and cross.
 
-ghost use Rattle.std.specs.Prelude.{◌≡◌, ◌≤◌, ◌<◌, ◌^◌, ◌∷◌, true, false, length, OnOk};
+ghost use Rattle.std.specs.Prelude.{◌≡◌, ◌≤◌, ◌<◌, ◌^◌, ◌∷◌, true, false, length, IfOk, OnOk};
 ghost use Rattle.session_model.specs.Life.{is_live, live};
 ghost use Rattle.session_model.specs.Frames.{queued};
 ghost use Rattle.cable.specs.Played.{at_most};
-ghost use Rattle.cable.specs.Hearing.{Carried, Filled, IsStale};
+ghost use Rattle.cable.specs.Hearing.{Carried, Filled, IsStale, Offered};
 
 use crate::bringing::{CALLER, wanted};
 use rs_chunk::Reader;
-use rs_wire::OutOfMemory;
+use rs_wire::{Blob, OutOfMemory};
 use session_core::Session;
 use tape::Tape;
 
@@ -53,29 +53,51 @@ fn stale<T: Tape>(end: &mut Session<T>, conn: u64, buffer: &mut [u8]) -> Result<
     wanted(&end.draw(CALLER, conn, buffer))
 }
 
-/// Draws at an end, and lets what it gives cross.
+/// Draws at an end, and lets what it gives cross: whether it gave something.
 pub(crate) fn carry<T: Tape>(
     end: &mut Session<T>,
     conn: u64,
     most: Most,
     buffer: &mut [u8],
     rest: &mut Reader,
-) -> Result<(), OutOfMemory>
+) -> Result<bool, OutOfMemory>
     requires some { 0 < length buffer.old }
     requires few { length buffer.old < 2 ^ 32 }
     requires number { 0 < conn }
     ensures end { end.new ≡ record end.old { entries = end.new.entries; spare = end.new.spare } }
-    ensures carried { OnOk result (Carried conn most end.old end.new rest.old rest.new) }
+    ensures carried { IfOk result (Carried conn most end.old end.new rest.old rest.new) }
 {
     if end.live() != conn {
-        return stale(end, conn, &mut buffer[..1]);
+        stale(end, conn, &mut buffer[..1])?;
+        return Ok(false);
     }
-    let mut left = lesser(most, end.queued());
+    let total = lesser(most, end.queued());
+    let mut left = total;
     while left > 0 {
         let count = (buffer.len() as u64).min(left);
         fill(end, conn, &mut buffer[..count as usize])?;
         rest.feed(&buffer[..count as usize])?;
         left -= count;
     }
-    Ok(())
+    Ok(total > 0)
+}
+
+/// The bytes that refuse a connection: one frame after its length, or none.
+#[derive(Drop)]
+pub(crate) struct Left {
+    pub bytes: Blob,
+    /// How many of them crossed.
+    pub crossed: usize,
+}
+
+/// Lets what is left of a refusal cross: whether there was something.
+pub(crate) fn offer(left: &mut Left, most: Most, rest: &mut Reader) -> Result<bool, OutOfMemory>
+    requires within { left.old.crossed ≤ length left.old.bytes }
+    ensures offered { IfOk result (Offered most left.old left.new rest.old rest.new) }
+{
+    let count = lesser(most, (left.bytes.len() - left.crossed) as u64) as usize;
+    let end = left.crossed + count;
+    rest.feed(&left.bytes.as_slice()[left.crossed..end])?;
+    left.crossed = end;
+    Ok(count > 0)
 }

@@ -4,7 +4,10 @@ ghost use Rattle.std.specs.Prelude.{◌≡◌, ℕ, List, Some, false, IfOk, OnO
 ghost use Rattle.rs_wire.specs.declared.words.Side.TheVariants.{Server};
 ghost use Rattle.rs_frame.specs.declared.frame.Frame.{Frame as Meant};
 ghost use Rattle.rs_frame.specs.Spelling.{IsSpellable};
-ghost use Rattle.session_model.specs.Legal.{IsFair};
+ghost use Rattle.rs_frame.specs.Framed.{framed_all};
+ghost use Rattle.session_model.specs.Legal.{CanBring};
+ghost use Rattle.session_model.specs.Frames.{refusal};
+ghost use Rattle.session_model.specs.Joined.{only};
 ghost use Rattle.session_model.specs.Answers.{answer_to};
 ghost use Rattle.session_core.specs.Seen.{IsNoDrawEvent};
 ghost use Rattle.cable.specs.Played.{adds, event_of as event_meant};
@@ -13,10 +16,11 @@ ghost use Rattle.cable.specs.Hearing.{Crosses, IsCrossing, IsHearer, IsMet, IsNe
 
 use crate::arrival::{Arrival, event_of, is_too_long, next, whole};
 use crate::bringing::tell;
-use rs_chunk::Reader;
+use crate::carrying::Left;
+use rs_chunk::{Reader, frame_bytes};
 use rs_frame::Frame;
-use rs_wire::OutOfMemory;
-use session_core::Session;
+use rs_wire::{Blob, OutOfMemory};
+use session_core::{Session, refusal_frame};
 use std::alloc::Global;
 use tape::{Answer, Event, Tape};
 
@@ -29,19 +33,19 @@ pub(crate) struct Crossing {
 }
 
 /// What an end knows of a connection that the other end opened.
-#[derive(Clone, Copy, Debug, PartialEq, Eq)]
+#[derive(Drop)]
 pub(crate) enum Known {
     /// Nothing: its first frame did not come yet.
     Nothing,
     /// It accepted it; the number that it has there.
     Accepted(u64),
-    /// It refused it.
-    Refused,
+    /// It refused it; what it gives there in place of all else.
+    Refused(Left),
 }
 
 // Brings an event to an end: whether its answer leaves an entry.
 fn brings<T: Tape>(end: &mut Session<T>, event: &Event) -> Result<bool, OutOfMemory>
-    requires fair { IsFair end.old.settings event.now }
+    requires fair { CanBring end.old.settings event.now }
     requires no_draw { IsNoDrawEvent event.now }
     ensures end { end.new ≡ record end.old { entries = end.new.entries; spare = end.new.spare } }
     ensures noted { OnOk result (end.new.entries ≡
@@ -55,7 +59,7 @@ fn brings<T: Tape>(end: &mut Session<T>, event: &Event) -> Result<bool, OutOfMem
 
 // Brings what stands in front: whether its answer leaves an entry.
 fn come<T: Tape>(end: &mut Session<T>, conn: u64, next: Arrival) -> Result<bool, OutOfMemory>
-    requires fair { IsFair end.old.settings (event_meant conn next) }
+    requires fair { CanBring end.old.settings (event_meant conn next) }
     ensures end { end.new ≡ record end.old { entries = end.new.entries; spare = end.new.spare } }
     ensures noted { OnOk result (end.new.entries ≡
         adds end.old.settings end.old.entries (event_meant conn next)) }
@@ -65,47 +69,67 @@ fn come<T: Tape>(end: &mut Session<T>, conn: u64, next: Arrival) -> Result<bool,
     brings(end, &event_of(conn, next))
 }
 
-/// Brings all that crossed and can come.
+/// Brings all that crossed and can come: whether something did.
 pub(crate) fn hear<T: Tape>(
     alloc: Global,
     end: &mut Session<T>,
     conn: u64,
     crossing: &mut Crossing,
-) -> Result<(), OutOfMemory>
+) -> Result<bool, OutOfMemory>
     requires crossing { IsCrossing conn end.old crossing.old }
     ensures end { end.new ≡ record end.old { entries = end.new.entries; spare = end.new.spare } }
     ensures heard { (n : ℕ) (frames : List Meant) → Crosses conn n frames end.old crossing.old →
-        OnOk result (IsHearer conn n frames end.old end.new crossing.new) }
+        IfOk result (IsHearer conn n frames end.old end.new crossing.new) }
 {
+    let mut came = false;
     if crossing.over {
-        return Ok(());
+        return Ok(came);
     }
     while let Some(next) = next(alloc, &crossing.rest)? {
         let last = is_too_long(&next);
         if !come(end, conn, next)? {
-            return Ok(());
+            return Ok(came);
         }
+        came = true;
         if last {
             crossing.over = true;
-            return Ok(());
+            return Ok(came);
         }
         crossing.rest.pass();
     }
-    Ok(())
+    Ok(came)
 }
 
-fn known_by(answer: &Answer) -> Known
-    ensures { result ≡ known_of answer.now }
+// The bytes of what refuses a connection whose opening was answered so.
+fn refusal_bytes(alloc: Global, answer: &Answer) -> Result<Blob, OutOfMemory>
+    ensures { IfOk result (λ bytes. bytes ≡ framed_all (only (refusal answer.now))) }
+{
+    let mut bytes = Vec::new(alloc);
+    if let Some(frame) = refusal_frame(alloc, answer)? {
+        frame_bytes(&frame, &mut bytes)?;
+    }
+    Ok(Blob::from_vec(bytes))
+}
+
+fn known_by(alloc: Global, answer: &Answer) -> Result<Known, OutOfMemory>
+    ensures { IfOk result (λ k. k ≡ known_of answer.now) }
 {
     match answer {
-        Answer::Opened(conn) => Known::Accepted(*conn),
-        _ => Known::Refused,
+        Answer::Opened(conn) => Ok(Known::Accepted(*conn)),
+        _ => Ok(Known::Refused(Left {
+            bytes: refusal_bytes(alloc, answer)?,
+            crossed: 0,
+        })),
     }
 }
 
 // Brings an opening: what the end knows of the connection then.
-fn opens<T: Tape>(end: &mut Session<T>, event: &Event) -> Result<Known, OutOfMemory>
-    requires fair { IsFair end.old.settings event.now }
+fn opens<T: Tape>(
+    alloc: Global,
+    end: &mut Session<T>,
+    event: &Event,
+) -> Result<Known, OutOfMemory>
+    requires fair { CanBring end.old.settings event.now }
     requires no_draw { IsNoDrawEvent event.now }
     ensures end { end.new ≡ record end.old { entries = end.new.entries; spare = end.new.spare } }
     ensures noted { OnOk result (end.new.entries ≡
@@ -114,17 +138,21 @@ fn opens<T: Tape>(end: &mut Session<T>, event: &Event) -> Result<Known, OutOfMem
         known_of (answer_to end.old.settings end.old.entries event.now)) }
 {
     let answer = tell(end, event)?;
-    Ok(known_by(&answer))
+    known_by(alloc, &answer)
 }
 
 // Brings the first frame of a connection.
-fn open_by<T: Tape>(end: &mut Session<T>, frame: Frame) -> Result<Known, OutOfMemory>
+fn open_by<T: Tape>(
+    alloc: Global,
+    end: &mut Session<T>,
+    frame: Frame,
+) -> Result<Known, OutOfMemory>
     requires side { end.old.settings.side ≡ Server }
     requires spellable { IsSpellable frame }
     ensures end { end.new ≡ record end.old { entries = end.new.entries; spare = end.new.spare } }
     ensures opened { IfOk result (IsOpenedBy frame end.old end.new) }
 {
-    opens(end, &Event::opened_by(frame))
+    opens(alloc, end, &Event::opened_by(frame))
 }
 
 /// Brings the first frame that crossed, which opens the connection. Where it is longer than the end
@@ -143,7 +171,7 @@ pub(crate) fn meet<T: Tape>(
     let Some(frame) = whole(next(alloc, &crossing.rest)?) else {
         return Ok(Known::Nothing);
     };
-    let known = open_by(end, frame)?;
+    let known = open_by(alloc, end, frame)?;
     crossing.rest.pass();
     Ok(known)
 }

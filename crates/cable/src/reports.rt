@@ -4,7 +4,12 @@ ghost use Rattle.std.specs.Prelude.{◌≡◌, ◌++◌, OnOk, OnErr};
 ghost use Rattle.session_core.specs.Seen.{told_by};
 ghost use Rattle.cable.specs.Report.{counts_of, report_of, told_lines};
 
-use crate::entries::{put_counts, put_entries};
+mod answers;
+mod entries;
+mod events;
+mod text;
+
+use crate::reports::entries::{put_counts, put_entries};
 use crate::run::Ran;
 use rs_wire::{OutOfMemory, Side};
 use session_core::Session;

@@ -2,12 +2,11 @@
 
 ghost use Rattle.std.specs.Prelude.{◌≡◌, ℕ, [], List, false};
 ghost use Rattle.rs_wire.specs.declared.words.Side.TheVariants.{Client, Server};
-ghost use Rattle.rs_wire.specs.Settings.{usual};
 ghost use Rattle.session_model.specs.Lists.{IsPrefix};
 ghost use Rattle.session_model.specs.Frames.{handled, made};
 ghost use Rattle.session_model.specs.Joined.{Joined};
-ghost use Rattle.session_model.specs.Legal.{Fair, Legal};
-ghost use Rattle.cable.specs.Played.{Played, pair_of, usual_sides};
+ghost use Rattle.session_model.specs.Legal.{Fair, IsPlain, Legal};
+ghost use Rattle.cable.specs.Played.{Played, pair_of};
 
 use crate::cable::Cable;
 use crate::laws::played_laws;
@@ -27,8 +26,9 @@ pub struct Ran<T: Tape> {
     pub want: bool,
 }
 
-/// Runs a script between a client and a server of which nothing happened yet, both with the usual
-/// settings. The client opens the connection before the first line; every caller is number 0.
+/// Runs a script between a client and a server of which nothing happened yet, both without resumption,
+/// leases and fragments. The client opens the connection before the first line; every caller is
+/// number 0.
 ///
 /// Where `want` is false, the script was played to its end.
 pub fn scheduled<T: Tape>(
@@ -37,26 +37,29 @@ pub fn scheduled<T: Tape>(
     client: Session<T>,
     server: Session<T>,
 ) -> Ran<T>
-    requires client_settings { client.settings ≡ usual Client }
-    requires server_settings { server.settings ≡ usual Server }
+    requires client_side { client.settings.side ≡ Client }
+    requires server_side { server.settings.side ≡ Server }
+    requires client_plain { IsPlain client.settings }
+    requires server_plain { IsPlain server.settings }
     requires client_fresh { client.entries ≡ [] }
     requires server_fresh { server.entries ≡ [] }
     ensures played { result.want ≡ false →
-        Played usual_sides script.now result.client.entries result.server.entries }
+        Played (record { client = client.settings; server = server.settings }) script.now
+        result.client.entries result.server.entries }
 
     // The bytes of the two ends crossed, and what each handled is a prefix of what the other made.
-    ensures joined { result.want ≡ false → (pairs : List ℕ) × Joined (usual Client) (usual Server)
-        result.client.entries result.server.entries (pair_of pairs) }
+    ensures joined { result.want ≡ false → (pairs : List ℕ) × Joined client.settings
+        server.settings result.client.entries result.server.entries (pair_of pairs) }
     ensures up { result.want ≡ false →
-        IsPrefix (handled result.server.entries) (made (usual Client) result.client.entries) }
+        IsPrefix (handled result.server.entries) (made client.settings result.client.entries) }
     ensures down { result.want ≡ false →
-        IsPrefix (handled result.client.entries) (made (usual Server) result.server.entries) }
+        IsPrefix (handled result.client.entries) (made server.settings result.server.entries) }
 
     // Where memory ran out too, both ends are as their answers say.
-    ensures client_legal { Legal (usual Client) result.client.entries }
-    ensures server_legal { Legal (usual Server) result.server.entries }
-    ensures client_fair { Fair (usual Client) result.client.entries }
-    ensures server_fair { Fair (usual Server) result.server.entries }
+    ensures client_legal { Legal client.settings result.client.entries }
+    ensures server_legal { Legal server.settings result.server.entries }
+    ensures client_fair { Fair client.settings result.client.entries }
+    ensures server_fair { Fair server.settings result.server.entries }
     ensures client { result.client ≡
         record client { entries = result.client.entries; spare = result.client.spare } }
     ensures server { result.server ≡

@@ -1,5 +1,5 @@
 pub mod Moves
-pub mod Playing
+pub mod Whole
 pub mod Reading
 pub mod Right
 pub mod Telling

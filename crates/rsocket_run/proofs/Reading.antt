@@ -13,7 +13,7 @@ use Rattle.command_line.specs.declared.task.Task.TheVariants as tasks
 use Rattle.rsocket_run.specs.Run.{HasBadCapture, HasWrongText, RanBack, RanFrames}
 use Rattle.rsocket_run.specs.Stops.{StoppedBy, of_capture, of_text}
 use Rattle.rsocket_run.specs.Streams.{IsReadTo}
-use Rattle.rsocket_run.proofs.Playing.{whole_text}
+use Rattle.rsocket_run.proofs.Whole.{whole_text}
 
 -- behind a text that is empty stands what was appended
 from_empty : (old new more : List ℕ) → old ≡ [] → new ≡ old ++ more → new ≡ more

@@ -2,7 +2,7 @@
 use Rattle.std.proofs.Common.{true, false, ◌≡◌, ℕ, ◌+◌, ◌≤◌, List, [], ◌∷◌, ◌++◌, length, map, Option, inl, inr, sym, ap, subst, ◌∙◌, arith}
 use Rattle.std.specs.List.{AllByRecursion}
 use Rattle.std.proofs.lemmas.List.{length-append}
-use Rattle.cable.specs.declared.line.Line.{Line}
+use Rattle.cable.specs.declared.script.line.Line.{Line}
 use Rattle.cable.specs.declared.script.ScriptFault.TheVariants.{Line as WrongLine}
 use Rattle.cable.specs.Line.{IsLine, IsText as IsLineText, text_of}
 use Rattle.cable.specs.Script.{IsFault, IsScript}
@@ -15,7 +15,7 @@ use Rattle.command_line.specs.declared.task.Task.{Task}
 use Rattle.command_line.specs.declared.task.Task.TheVariants as tasks
 use Rattle.rsocket_run.specs.Run.{HasBadFrame, HasWrongLine, IsRightInput}
 use Rattle.rsocket_run.specs.Streams.{IsReadTo}
-use Rattle.rsocket_run.proofs.Playing.{whole_text}
+use Rattle.rsocket_run.proofs.Whole.{whole_text}
 
 -- an input below the limit is read to its end
 all_read : (most : ℕ) (input read : List ℕ) (left : Option (List ℕ)) → IsReadTo most input read left → length input + 1 ≤ most → read ≡ input

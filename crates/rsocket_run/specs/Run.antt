@@ -1,23 +1,14 @@
 -- What a run of the program promises.
-use Rattle.std.specs.Prelude.{◌≡◌, ℕ, ◌≤◌, ◌⊎◌, true, false, List, [], ◌∷◌, ◌++◌, length, codes, decimal, Option, Some, is_some}
+use Rattle.std.specs.Prelude.{◌≡◌, ℕ, ◌⊎◌, true, false, List, [], ◌∷◌, ◌++◌, codes, decimal, Option, Some}
 use Rattle.outside.specs.Causes.{one_more}
 use Rattle.outside.specs.Streams.{ByteStream}
-use Rattle.rs_wire.specs.Settings.{usual}
-use Rattle.rs_wire.specs.declared.words.Side.{Side}
-use Rattle.rs_wire.specs.declared.words.Side.TheVariants.{Client, Server}
 use Rattle.rs_frame.specs.declared.frame.Frame.{Frame}
 use Rattle.rs_frame.specs.Framed.{framed_all}
 use Rattle.tape.specs.declared.entry.Entry.{Entry}
-use Rattle.session_core.specs.Seen.{Seen, told_by}
-use Rattle.session_model.specs.Lists.{IsPrefix}
-use Rattle.session_model.specs.Frames.{made, handled}
-use Rattle.session_model.specs.Legal.{Fair, Legal}
-use Rattle.session_model.specs.Joined.{Joined}
-use Rattle.cable.specs.declared.line.Line.{Line}
+use Rattle.cable.specs.declared.script.line.Line.{Line}
 use Rattle.cable.specs.Script.{IsScript, IsFault}
 use Rattle.cable.specs.declared.script.ScriptFault.TheVariants.{Line as WrongLine}
-use Rattle.cable.specs.Played.{Played, pair_of, usual_sides}
-use Rattle.cable.specs.Report.{report_of}
+use Rattle.cable.specs.Shelves.{GotTapes, Reports}
 use Rattle.capture.specs.Captured.{IsBadAt, IsCapture, all_lines}
 use Rattle.capture.specs.Text.{IsTextOf, IsWrongLine}
 use Rattle.capture.specs.declared.lines.BadFrame.{BadFrame}
@@ -52,33 +43,6 @@ abbrev pub memory_line : List ℕ
 memory_line = codes "rsocket: out of memory" ++ 10 ∷ []
 
 -- ---- the work that is done
-
--- an end with the usual settings and these entries, the newest first, over a tape that tells them where a fresh one tells; its spare
--- is left out
-abbrev pub end_of : Side → Option (List Entry) → List Entry → Seen
-end_of side fresh entries = record { settings = usual side; entries = entries; tells = is_some fresh; spare = 0 }
-
--- the two ends of a run of this script, their entries the newest first: each list is a session's, the bytes of the two
--- crossed, and what each end has handled is a prefix of what the other made
-pub record EndsOf (script : List Line) (client server : List Entry) : Type 0 where
-  pub played : Played usual_sides script client server
-  pub client_legal : Legal (usual Client) client
-  pub server_legal : Legal (usual Server) server
-  pub client_fair : Fair (usual Client) client
-  pub server_fair : Fair (usual Server) server
-  pub pairs : List ℕ
-  pub joined : Joined (usual Client) (usual Server) client server (pair_of pairs)
-  pub server_handled : IsPrefix (handled server) (made (usual Client) client)
-  pub client_handled : IsPrefix (handled client) (made (usual Server) server)
-
--- the text is the report of a run of this script, and the shelf has got back the tapes of just this client and this
--- server: of tapes that tell nothing there are the two lines of counts
-pub record Reports (script : List Line) (fresh : Option (List Entry)) (shelf shelf' : List (Option (List Entry))) (text : List ℕ) : Type 0 where
-  pub client : List Entry
-  pub server : List Entry
-  pub ends : EndsOf script client server
-  pub put_back : shelf' ≡ shelf ++ told_by (is_some fresh) client ∷ told_by (is_some fresh) server ∷ []
-  pub reported : text ≡ report_of (end_of Client fresh client) (end_of Server fresh server)
 
 -- `cable`: the input was read to its end and is a script, and this is the report of a run of it
 pub record RanCable (input : List ℕ) (left : Option (List ℕ)) (fresh : Option (List Entry)) (shelf shelf' : List (Option (List Entry))) (out : List ℕ) : Type 0 where
@@ -179,12 +143,6 @@ abbrev pub OfTask : List (List ℕ) → ByteStream → (Task → List ℕ → Ty
 OfTask words input P = (task : Task) (text : List ℕ) → Asks words task → input.told ≡ Some text → P task text
 
 -- ---- the shelf
-
--- a shelf got at most that many tapes back
-pub record GotTapes (most : ℕ) (shelf shelf' : List (Option (List Entry))) : Type 0 where
-  pub tapes : List (Option (List Entry))
-  pub few : length tapes ≤ most
-  pub back : shelf' ≡ shelf ++ tapes
 
 -- the input, where it is told, was read to its end and is a script
 abbrev pub WasScript : ByteStream → Option (List ℕ) → Type 0

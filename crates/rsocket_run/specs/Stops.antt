@@ -16,7 +16,8 @@ use Rattle.rsocket_run.specs.declared.input.Unread.{Unread}
 use Rattle.rsocket_run.specs.declared.input.Unread.TheVariants as unread
 use Rattle.command_line.specs.declared.task.Task.{Task}
 use Rattle.tape.specs.declared.entry.Entry.{Entry}
-use Rattle.rsocket_run.specs.Run.{GotEnds, GotTapes, WasScript, HasBadFrame, HasWrongLine, bad_frame_line, memory_line, read_fault_line, usage_line, wrong_line}
+use Rattle.cable.specs.Shelves.{GotTapes}
+use Rattle.rsocket_run.specs.Run.{GotEnds, WasScript, HasBadFrame, HasWrongLine, bad_frame_line, memory_line, read_fault_line, usage_line, wrong_line}
 use Rattle.rsocket_run.specs.Streams.{CutOff, Writes, WritesLine}
 
 -- what a stop tells of the input, and the text that the run has by then

@@ -5,10 +5,8 @@
 //! the status.
 #![tactic(auto)]
 
-mod ends;
 mod input;
 mod output;
-mod play;
 mod program;
 mod stop;
 mod tasks;

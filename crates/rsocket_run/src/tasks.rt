@@ -7,9 +7,8 @@ ghost use Rattle.rsocket_run.specs.Stops.{IsShelfAfterCable, StoppedBy, faults_a
 ghost use Rattle.rsocket_run.specs.Streams.{HasRead};
 
 use crate::input::read_to;
-use crate::play::play;
 use crate::stop::Stop;
-use cable::Script;
+use cable::{Script, play};
 use capture::{from_lines, to_lines};
 use outside::Source;
 use std::alloc::Global;

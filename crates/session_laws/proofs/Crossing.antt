@@ -10,10 +10,11 @@ use Rattle.session_model.specs.Lists.{IsPrefix}
 use Rattle.session_model.specs.Life.{closed, is_live, openings}
 use Rattle.session_model.specs.Frames.{came, drawn, due, handled, made}
 use Rattle.session_model.specs.Legal.{Legal}
-use Rattle.session_model.specs.Joined.{IsOpening, is_accepted}
+use Rattle.session_model.specs.Joined.{IsOpening, bytes_offered, frames_offered, is_accepted, refused}
 use Rattle.session_laws.specs.Ends.{AreEnds, AreJoined, AreDrained}
 use Rattle.session_laws.proofs.Prefixes.{prefix_nil, prefix_trans}
 use Rattle.session_laws.proofs.Framing.{frames_given}
+use Rattle.session_laws.proofs.Refused.{counted_offer, offered_spelled, refused_spelled}
 use Rattle.session_laws.proofs.Life.{accepted, accepted_is, accepted_le, none_accepted, none_handled}
 use Rattle.session_laws.proofs.Spelled.{due_spelled, came_spelled}
 use Rattle.session_laws.proofs.Due.{counting, due_at, due_begins, prefix_counting}
@@ -32,13 +33,12 @@ none_or_some (suc n) P none some = some (omega arith)
 
 -- an end under g made, and its peer under h handled, whose accepted connection is number c at the first end
 begins_made : (g h : Settings) (A B : List Entry) (c : ℕ) → IsEnd g A → IsEnd h B
-    → (0 < accepted B → IsPrefix (came B (accepted B)) (due g A c)) → IsPrefix (handled B) (made g A)
+    → (0 < accepted B → IsPrefix (heard B) (counting (due g A c))) → IsPrefix (handled B) (made g A)
 begins_made g h A B c a b crossed =
     none_or_some (accepted B) (IsPrefix (handled B) (made g A))
     (λ none. rw (none_handled h B b.legal none) (prefix_nil (made g A)))
     (λ some.
-    let counted = prefix_counting (came B (accepted B)) (due g A c) (crossed some) in
-    let heard_begins = prefix_trans (heard B) (counting (due g A c)) (made g A) counted (due_begins g A c a.legal a.once) in
+    let heard_begins = prefix_trans (heard B) (counting (due g A c)) (made g A) (crossed some) (due_begins g A c a.legal a.once) in
     prefix_trans (handled B) (heard B) (made g A) (begins h B b.legal b.once) heard_begins)
 
 client_end : (g h : Settings) (C S : List Entry) → AreEnds g h C S → IsEnd g C
@@ -55,19 +55,19 @@ crossed_up g h C S pair d j is =
     let owed = due_spelled g C (pair d) e.client_plain e.client_legal e.client_fair in
     frames_given (drawn C (pair d)) (came S d) (due g C (pair d)) (came_spelled h S d e.server_fair) owed (j.joined.up d is).begins
 
--- the same the other way
+-- what came at the client begins what the server offered there
 crossed_down : (g h : Settings) (C S : List Entry) (pair : ℕ → ℕ) (d : ℕ) → AreJoined g h C S pair → IsOpening S d
-    → IsPrefix (came C (pair d)) (due h S d)
+    → IsPrefix (came C (pair d)) (frames_offered h S d)
 crossed_down g h C S pair d j is =
     let e = j.ends in
-    let owed = due_spelled h S d e.server_plain e.server_legal e.server_fair in
-    frames_given (drawn S d) (came C (pair d)) (due h S d) (came_spelled g C (pair d) e.client_fair) owed (j.joined.down d is).begins
+    let owed = offered_spelled (refused S d) (due h S d) (due_spelled h S d e.server_plain e.server_legal e.server_fair) (refused_spelled S d) in
+    frames_given (bytes_offered S d) (came C (pair d)) (frames_offered h S d) (came_spelled g C (pair d) e.client_fair) owed (j.joined.down d is).begins
 
 pub handled_up : (g h : Settings) (C S : List Entry) (pair : ℕ → ℕ) → AreJoined g h C S pair → IsPrefix (handled S) (made g C)
 handled_up g h C S pair j =
     let e = j.ends in
     begins_made g h C S (pair (accepted S)) (client_end g h C S e) (server_end g h C S e)
-    (λ some. crossed_up g h C S pair (accepted S) j (record { above = some; within = accepted_le h S e.server_legal }))
+    (λ some. prefix_counting (came S (accepted S)) (due g C (pair (accepted S))) (crossed_up g h C S pair (accepted S) j (record { above = some; within = accepted_le h S e.server_legal })))
 
 no_opening : (S : List Entry) (d : ℕ) → openings S ≡ 0 → IsOpening S d → ⊥
 no_opening S d none is = let above = is.above in let within = is.within in absurd (omega arith)
@@ -76,12 +76,12 @@ pub handled_down : (g h : Settings) (C S : List Entry) (pair : ℕ → ℕ) → 
 handled_down g h C S pair j =
     let e = j.ends in
     begins_made h g S C 1 (server_end g h C S e) (client_end g h C S e)
-    (λ some. none_or_some (openings S) (IsPrefix (came C (accepted C)) (due h S 1))
-    (λ none. rw (j.joined.unpaired (accepted C) (λ d is. absurd (no_opening S d none is))).0 (prefix_nil (due h S 1)))
+    (λ some. none_or_some (openings S) (IsPrefix (heard C) (counting (due h S 1)))
+    (λ none. rw (j.joined.unpaired (accepted C) (λ d is. absurd (no_opening S d none is))).0 (prefix_nil (counting (due h S 1))))
     (λ there.
     let first : IsOpening S 1 = record { above = omega arith; within = omega arith } in
     let at : pair 1 ≡ accepted C = accepted_is g C (pair 1) e.client_legal (j.joined.accepted 1 first) in
-    subst (λ (c : ℕ). IsPrefix (came C c) (due h S 1)) at (crossed_down g h C S pair 1 j first)))
+    counted_offer S 1 (due h S 1) (came C (accepted C)) (subst (λ (c : ℕ). IsPrefix (came C c) (frames_offered h S 1)) at (crossed_down g h C S pair 1 j first))))
 
 -- ---- boundaries
 

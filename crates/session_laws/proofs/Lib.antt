@@ -4,6 +4,7 @@ pub mod Life
 pub mod Growth
 pub mod Agreed
 pub mod Spelled
+pub mod Refused
 pub mod Due
 pub mod Got
 pub mod Crossing

@@ -6,8 +6,7 @@ use Rattle.session_model.specs.Frames.{queued}
 use Rattle.session_core.specs.Seen.{Seen}
 use Rattle.cable.specs.Played.{at_most}
 use Rattle.cable.specs.Hearing.{Filled}
-use Rattle.cable.proofs.Drawing.{Drew, carried_stale, drew_more, lesser_below, none_drew, same_trans}
-use Rattle.cable.proofs.Results.{on_ok}
+use Rattle.cable.proofs.Drawing.{Drew, carried_all, carried_stale, drew_more, lesser_below, none_drew, same_trans}
 use Rattle.cable.proofs.carrying.carry.Goals as goal
 
 pub returns-then-live-conn-clause-carried : goal.returns-then-live-conn-clause-carried
@@ -16,8 +15,7 @@ returns-then-live-conn-clause-carried g c =
     let test = c.if-live-conn.true in
     let out : is_live (live c.args.end.now.entries) c.args.conn ≡ false = grind (arith, nat_tests) in
     let len = length-take 1 c.args.buffer.now in
-    on_ok _ _ c.stale.result (c.stale.ensures.stale out)
-    (λ s. carried_stale c.args.end.now c.stale.new.end c.args.conn c.args.most c.args.rest.now (length (take 1 c.args.buffer.now)) out (omega (arith, len, c.requires.some)) (omega (arith, len)) s)
+    carried_stale c.args.end.now c.stale.new.end c.args.conn c.args.most c.args.rest.now (length (take 1 c.args.buffer.now)) out (omega (arith, len, c.requires.some)) (omega (arith, len)) (c.in_ok-stale.ensures.stale out)
 
 pub loop-left-init : goal.loop-left-init
 loop-left-init g c =
@@ -26,8 +24,8 @@ loop-left-init g c =
     let test = c.if-live-conn.false in
     let some = c.requires.number in
     let here : is_live (live end.entries) c.args.conn ≡ true = grind (arith, nat_tests) in
-    let total : c.lesser-left.result ≡ at_most c.args.most (queued end.settings end.entries) = c.lesser-left.ensures ∙ ap (at_most c.args.most) c.queued.ensures in
-    let none : 0 ≡ at_most c.args.most (queued end.settings end.entries) - c.lesser-left.result = omega (arith, total) in
+    let total : c.lesser-total.result ≡ at_most c.args.most (queued end.settings end.entries) = c.lesser-total.ensures ∙ ap (at_most c.args.most) c.queued.ensures in
+    let none : 0 ≡ at_most c.args.most (queued end.settings end.entries) - c.lesser-total.result = omega (arith, total) in
     record {
       below = omega (arith, total);
       room = refl;
@@ -60,3 +58,15 @@ loop-left-preserved g c =
       drew = subst (Drew end.settings c.args.conn end.entries c.fill.new.end.entries c.args.rest.now c.feed.new.self) sum
           (drew_more end l.end c.fill.new.end c.args.conn c.args.rest.now l.rest c.feed.new.self (total - l.left) count c.fill.new.buffer l.invariant.end d some few fits fill fed);
     }
+
+pub returns-clause-carried : goal.returns-clause-carried
+returns-clause-carried g c =
+    let l = c.loop-left in
+    let end = c.args.end.now in
+    let known = c.live.ensures in
+    let test = c.if-live-conn.false in
+    let some = c.requires.number in
+    let here : is_live (live end.entries) c.args.conn ≡ true = grind (arith, nat_tests) in
+    let total : c.lesser-total.result ≡ at_most c.args.most (queued end.settings end.entries) = c.lesser-total.ensures ∙ ap (at_most c.args.most) c.queued.ensures in
+    let all : at_most c.args.most (queued end.settings end.entries) - l.left ≡ c.lesser-total.result = omega (arith, total, c.loop-left-test.false) in
+    carried_all end l.end c.args.conn c.args.most c.args.rest.now l.rest c.lesser-total.result _ here total refl (subst (Drew end.settings c.args.conn end.entries l.end.entries c.args.rest.now l.rest) all l.invariant.drew)

@@ -1,5 +1,5 @@
 use Rattle.std.proofs.Common.{inr, rules}
-use Rattle.rsocket_run.proofs.Playing.{script_read, was_script}
+use Rattle.rsocket_run.proofs.Whole.{script_read, was_script}
 use Rattle.rsocket_run.proofs.tasks.cable.Goals as goal
 
 pub returns-clause-done : goal.returns-clause-done

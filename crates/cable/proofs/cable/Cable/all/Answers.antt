@@ -1,4 +1,5 @@
-use Rattle.cable.proofs.Playing.{all_played, keeps_on, line_played, some_at}
+use Rattle.cable.proofs.Followed.{keeps_on}
+use Rattle.cable.proofs.Playing.{all_played, line_played, some_at}
 use Rattle.cable.proofs.cable.Cable.all.Goals as goal
 
 pub loop-line-preserved : goal.loop-line-preserved

@@ -1,12 +1,28 @@
 use Rattle.std.proofs.Common.{ℕ, sym, subst, OnOk}
-use Rattle.cable.specs.declared.line.Line.{Line}
+use Rattle.cable.specs.declared.script.line.Line.{Line}
 use Rattle.cable.specs.declared.carrying.Most.TheVariants as most
-use Rattle.cable.specs.Played.{PlaysLine, Ups}
+use Rattle.cable.specs.Played.{Downs, PlaysLine, Ups}
 use Rattle.cable.specs.Wires.{Reaches, sides_of}
+use Rattle.cable.proofs.Followed.{first_holds}
 use Rattle.cable.proofs.cable.Cable.line.Goals as goal
 
-pub returns-in-Up-clause-played : goal.returns-in-Up-clause-played
-returns-in-Up-clause-played g c = λ r at.
+pub returns-in_ok-up-in-Up-clause-played : goal.returns-in_ok-up-in-Up-clause-played
+returns-in_ok-up-in-Up-clause-played g c = λ r at.
     let s = sides_of c.args.self.now in
-    subst (λ (l : Line). OnOk c.up.result (Reaches c.up.new.self (PlaysLine s l r))) (sym c.in-Up.is)
-    (subst (λ (n : ℕ). OnOk c.up.result (Reaches c.up.new.self (Ups s (most.Bytes n) r))) c.get.ensures.value (c.up.ensures.played r at))
+    subst (λ (l : Line). Reaches c.up.new.self (PlaysLine s l r)) (sym c.in-Up.is)
+    (subst (λ (n : ℕ). Reaches c.up.new.self (Ups s (most.Bytes n) r)) c.get.ensures.value (first_holds c.up.new.self (Ups s (most.Bytes c.get.result) r) _ (c.in_ok-up-in-Up.ensures.played r at)))
+
+pub returns-in_ok-down-in-Down-clause-played : goal.returns-in_ok-down-in-Down-clause-played
+returns-in_ok-down-in-Down-clause-played g c = λ r at.
+    let s = sides_of c.args.self.now in
+    subst (λ (l : Line). Reaches c.down.new.self (PlaysLine s l r)) (sym c.in-Down.is)
+    (subst (λ (n : ℕ). Reaches c.down.new.self (Downs s (most.Bytes n) r)) c.get-in-Down.ensures.value (first_holds c.down.new.self (Downs s (most.Bytes c.get-in-Down.result) r) _ (c.in_ok-down-in-Down.ensures.played r at)))
+
+pub returns-in-Ask-clause-played : goal.returns-in-Ask-clause-played
+returns-in-Ask-clause-played g c = λ r at. subst (λ (l : Line). OnOk c.call.result (Reaches c.call.new.self (PlaysLine (sides_of c.args.self.now) l r))) (sym c.in-Ask.is) (c.call.ensures.played r at)
+
+pub returns-in-Drain-clause-played : goal.returns-in-Drain-clause-played
+returns-in-Drain-clause-played g c = λ r at. subst (λ (l : Line). OnOk c.drain.result (Reaches c.drain.new.self (PlaysLine (sides_of c.args.self.now) l r))) (sym c.in-Drain.is) (c.drain.ensures.played r at)
+
+pub returns-in-Cut-clause-played : goal.returns-in-Cut-clause-played
+returns-in-Cut-clause-played g c = λ r at. subst (λ (l : Line). OnOk c.cut.result (Reaches c.cut.new.self (PlaysLine (sides_of c.args.self.now) l r))) (sym c.in-Cut.is) (c.cut.ensures.played r at)

@@ -1,0 +1,33 @@
+use Rattle.std.proofs.Common.{subst}
+use Rattle.cable.specs.Played.{Sides}
+use Rattle.cable.specs.Shelves.{EndsOf}
+use Rattle.cable.proofs.OverShelf.{at_ok, got_both, if_ok, ok_is, report_is, sides_are, told_of, two_tapes, went_on}
+use Rattle.cable.proofs.shelved.play.Goals as goal
+
+pub returns-clause-reports : goal.returns-clause-reports
+returns-clause-reports g c = at_ok c.report_of-text.result _ (λ text is.
+    let went = ok_is _ _ _ is c.report_of-text.ensures.went in
+    let client = went_on _ _ _ _ c.in_ok-client.ensures.client c.scheduled-ran.ensures.client in
+    let server = went_on _ _ _ _ c.in_ok-client.ensures.server c.scheduled-ran.ensures.server in
+    record {
+      client = c.scheduled-ran.result.client.entries;
+      server = c.scheduled-ran.result.server.entries;
+      ends = subst (λ (s : Sides). EndsOf s c.args.script.now c.scheduled-ran.result.client.entries c.scheduled-ran.result.server.entries) (sides_are _ _ _ c.in_ok-client.ensures.client c.in_ok-client.ensures.server) (record {
+        played = c.scheduled-ran.ensures.played went;
+        client_legal = c.scheduled-ran.ensures.client_legal;
+        server_legal = c.scheduled-ran.ensures.server_legal;
+        client_fair = c.scheduled-ran.ensures.client_fair;
+        server_fair = c.scheduled-ran.ensures.server_fair;
+        pairs = (c.scheduled-ran.ensures.joined went).0;
+        joined = (c.scheduled-ran.ensures.joined went).1;
+        server_handled = c.scheduled-ran.ensures.up went;
+        client_handled = c.scheduled-ran.ensures.down went;
+      });
+      put_back = got_both _ _ _ _ _ _ _ _ c.in_ok-client.ensures.back c.put_back.ensures.back c.put_back-2.ensures.back
+          (told_of _ _ _ _ _ c.in_ok-client.ensures.client c.scheduled-ran.ensures.client c.into_tape.ensures.told)
+          (told_of _ _ _ _ _ c.in_ok-client.ensures.server c.scheduled-ran.ensures.server c.into_tape-2.ensures.told);
+      reported = report_is _ _ _ _ client server (if_ok _ _ _ is c.report_of-text.ensures.reported);
+    })
+
+pub returns-clause-got : goal.returns-clause-got
+returns-clause-got g c = two_tapes _ _ _ _ _ _ c.in_ok-client.ensures.back c.put_back.ensures.back c.put_back-2.ensures.back
