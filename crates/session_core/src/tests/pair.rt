@@ -26,6 +26,20 @@ pub struct Shown<'a> {
     pub counts: Counts,
 }
 
+fn ask(alloc: Global, end: &mut Session<Kept>, call: Act) -> Result<(), Fail> {
+    let event = Event::Asked(call.call(alloc)?);
+    act(end, &event)?;
+    Ok(())
+}
+
+// The connection is gone at an end where it was opened.
+fn part(end: &mut Session<Kept>) -> Result<(), Fail> {
+    if end.live() == 1 {
+        act(end, &Event::Cut { conn: 1 })?;
+    }
+    Ok(())
+}
+
 /// A client and a server, with the bytes of frames that did not cross whole.
 #[derive(Drop)]
 struct Pair {
@@ -135,16 +149,6 @@ impl Pair {
         Ok(())
     }
 
-    // The connection is gone at both ends, at the server where it was opened.
-    fn cut(&mut self) -> Result<(), Fail> {
-        let cut = Event::Cut { conn: 1 };
-        act(&mut self.client, &cut)?;
-        if self.server.live() == 1 {
-            act(&mut self.server, &cut)?;
-        }
-        Ok(())
-    }
-
     fn does(&mut self, alloc: Global, next: Move) -> Result<(), Fail> {
         match next {
             Move::Client(call) => ask(alloc, &mut self.client, call),
@@ -158,15 +162,12 @@ impl Pair {
                 Ok(())
             }
             Move::Drain => self.drain(alloc),
-            Move::Cut => self.cut(),
+            Move::Cut => {
+                part(&mut self.client)?;
+                part(&mut self.server)
+            }
         }
     }
-}
-
-fn ask(alloc: Global, end: &mut Session<Kept>, call: Act) -> Result<(), Fail> {
-    let event = Event::Asked(call.call(alloc)?);
-    act(end, &event)?;
-    Ok(())
 }
 
 // An end shows what stands in the table.
