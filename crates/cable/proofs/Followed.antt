@@ -79,7 +79,7 @@ client_link v r w u' same client before after q h =
     let g = v.client.settings in
     let gs : u'.settings ≡ g = settings_of v.client u' same in
     let sent : Sent g w.client r.client u'.entries [] = subst (λ (l : List Entry). Sent g w.client l u'.entries []) (sym client)
-        (sent_by v.client u' w.client [] same before after q.goes (still_given g w.client v.client.entries u'.entries (q.goes.sends w.client) (q.drawn_are w.client) (drawn_le g v.client.entries w.client before.legal))) in
+    (sent_by v.client u' w.client [] same before after q.goes (still_given g w.client v.client.entries u'.entries (q.goes.sends w.client) (q.drawn_are w.client) (drawn_le g v.client.entries w.client before.legal))) in
     record {
       there = h.there;
       up = subst (λ (k : Settings). ServerAt k (with_client r u'.entries) h.there v.server w) (sym gs) (server_more g r u'.entries h.there v.server w w.up.rest [] sent (nothing_fed w.up.rest) h.up);
@@ -197,9 +197,9 @@ up_here v r m w w' u' s' rest a b is at legal fair slegal sfair same kept k h =
     let quiet = drew_arrivals (is_live (live v.client.entries) c) v.client.settings c m v.client.entries u'.entries k.draws in
     let client_is : r'.client ≡ u'.entries = arrives_client s c here.there r1 in
     let before : moved r ≡ (drawn v.client.entries c + bytes_down here.there v.server.entries) + (arrivals v.client.entries + arrivals v.server.entries) =
-        moved_on_link r c here.there here.up.link ∙ (ap (λ (l : List Entry). (drawn l c + bytes_down here.there r.server) + (arrivals l + arrivals r.server)) at.client ∙ ap (λ (l : List Entry). (drawn v.client.entries c + bytes_down here.there l) + (arrivals v.client.entries + arrivals l)) at.server) in
+    moved_on_link r c here.there here.up.link ∙ (ap (λ (l : List Entry). (drawn l c + bytes_down here.there r.server) + (arrivals l + arrivals r.server)) at.client ∙ ap (λ (l : List Entry). (drawn v.client.entries c + bytes_down here.there l) + (arrivals v.client.entries + arrivals l)) at.server) in
     let after : moved r' ≡ (drawn u'.entries c + bytes_down h.there s'.entries) + (arrivals u'.entries + arrivals s'.entries) =
-        moved_on_link r' c h.there link2 ∙ (ap (λ (l : List Entry). (drawn l c + bytes_down h.there r'.server) + (arrivals l + arrivals r'.server)) client_is ∙ ap (λ (l : List Entry). (drawn u'.entries c + bytes_down h.there l) + (arrivals u'.entries + arrivals l)) h.at.server) in
+    moved_on_link r' c h.there link2 ∙ (ap (λ (l : List Entry). (drawn l c + bytes_down h.there r'.server) + (arrivals l + arrivals r'.server)) client_is ∙ ap (λ (l : List Entry). (drawn u'.entries c + bytes_down h.there l) + (arrivals u'.entries + arrivals l)) h.at.server) in
     record {
       ends = r';
       at = record {
@@ -319,9 +319,9 @@ down_here v r m w w' u' s' x a b is at legal fair slegal sfair same kept k h =
     let down1 : ClientAt w'.client k.there u' s' x = subst (λ (q : Settings). CrossedTo q w'.client n (frames_down s'.settings k.there s'.entries) u'.entries x.rest x.over) (sym gs) down0 in
     let quiet = gave_arrivals v.server.settings m here.there k.there v.server.entries s'.entries k.gives in
     let before : moved r ≡ (drawn v.client.entries c + bytes_down here.there v.server.entries) + (arrivals v.client.entries + arrivals v.server.entries) =
-        moved_on_link r c here.there here.up.link ∙ (ap (λ (l : List Entry). (drawn l c + bytes_down here.there r.server) + (arrivals l + arrivals r.server)) at.client ∙ ap (λ (l : List Entry). (drawn v.client.entries c + bytes_down here.there l) + (arrivals v.client.entries + arrivals l)) at.server) in
+    moved_on_link r c here.there here.up.link ∙ (ap (λ (l : List Entry). (drawn l c + bytes_down here.there r.server) + (arrivals l + arrivals r.server)) at.client ∙ ap (λ (l : List Entry). (drawn v.client.entries c + bytes_down here.there l) + (arrivals v.client.entries + arrivals l)) at.server) in
     let after : moved r' ≡ (drawn u'.entries c + n) + (arrivals u'.entries + arrivals s'.entries) =
-        moved_on_link r' c k.there refl ∙ ap (λ (l : List Entry). (drawn l c + n) + (arrivals l + arrivals s'.entries)) client_is in
+    moved_on_link r' c k.there refl ∙ ap (λ (l : List Entry). (drawn l c + n) + (arrivals l + arrivals s'.entries)) client_is in
     record {
       ends = r';
       at = record {

@@ -124,11 +124,7 @@ fn known_by(alloc: Global, answer: &Answer) -> Result<Known, OutOfMemory>
 }
 
 // Brings an opening: what the end knows of the connection then.
-fn opens<T: Tape>(
-    alloc: Global,
-    end: &mut Session<T>,
-    event: &Event,
-) -> Result<Known, OutOfMemory>
+fn opens<T: Tape>(alloc: Global, end: &mut Session<T>, event: &Event) -> Result<Known, OutOfMemory>
     requires fair { CanBring end.old.settings event.now }
     requires no_draw { IsNoDrawEvent event.now }
     ensures end { end.new ≡ record end.old { entries = end.new.entries; spare = end.new.spare } }
@@ -142,11 +138,7 @@ fn opens<T: Tape>(
 }
 
 // Brings the first frame of a connection.
-fn open_by<T: Tape>(
-    alloc: Global,
-    end: &mut Session<T>,
-    frame: Frame,
-) -> Result<Known, OutOfMemory>
+fn open_by<T: Tape>(alloc: Global, end: &mut Session<T>, frame: Frame) -> Result<Known, OutOfMemory>
     requires side { end.old.settings.side ≡ Server }
     requires spellable { IsSpellable frame }
     ensures end { end.new ≡ record end.old { entries = end.new.entries; spare = end.new.spare } }
