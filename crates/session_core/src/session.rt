@@ -25,7 +25,26 @@ use tape::{Answer, Entry, Event, Tape};
 const FULL: u64 = 1 << 63;
 
 /// One end of a session, with the tape of its entries. Contracts see its settings, its entries, the
-/// newest first, whether the tape tells them, and how many more it takes without memory.
+/// newest first, whether the tape shows them, and how many more it takes without memory.
+///
+/// ```text
+///                     Open: Opened(n)
+///    +-----------+                      +-----------------------+
+///    | not begun | -------------------> | begun: n is live      |
+///    +-----------+                      +-----------------------+
+///          |                               |  Came or Bad on n: Violation(rule),
+///          |  Open by a wrong first        |  PeerError(code)
+///          |  frame: SetupRefused(fault)   |  Cut of n: Parted
+///          |  Close: Done                  |  Close: Done
+///          v                               v
+///    +----------------------------------------------------------+
+///    | closed, for the first cause, and never open again        |
+///    +----------------------------------------------------------+
+/// ```
+///
+/// A connection stays live in a closed session until it is cut, so what is queued can still be drawn,
+/// and what waits on a stream can still be taken. Every other call is then refused as `Closed`, and
+/// every frame and opening is answered `Closed`.
 #[derive(Drop)]
 pub struct Session<T: Tape> {
     alloc: Global,
