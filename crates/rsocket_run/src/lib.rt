@@ -23,6 +23,10 @@ mod frames_tests;
 #[cfg(test)]
 mod order_tests;
 #[cfg(test)]
+mod script_tests;
+#[cfg(test)]
+mod stream_tests;
+#[cfg(test)]
 mod tests;
 #[cfg(test)]
 mod words_tests;

@@ -10,3 +10,5 @@ pub mod Got
 pub mod Crossing
 pub mod Lawful
 pub mod OwnEnds
+pub mod ReadWords
+pub mod ReadStreams

@@ -1,15 +1,12 @@
 -- The frame that refuses an opening.
-use Rattle.std.proofs.Common.{◌≡◌, ℕ, List, [], ◌∷◌, ◌++◌, Option, Some, None, refl, ◌∙◌, arith}
+use Rattle.std.proofs.Common.{◌≡◌, ℕ, List, [], ◌∷◌, ◌++◌, refl, ◌∙◌, arith}
 use Rattle.std.proofs.lemmas.Grind.{common_steps}
 use Rattle.std.proofs.lemmas.List.Elements.{filter-append}
 use Rattle.rs_frame.specs.declared.frame.Frame.{Frame}
 use Rattle.rs_frame.specs.Spelling.{is_resumable}
 use Rattle.tape.specs.declared.event.Event.{Event}
-use Rattle.tape.specs.declared.event.Event.TheVariants as event
 use Rattle.tape.specs.declared.answer.Answer.{Answer}
-use Rattle.tape.specs.declared.answer.Answer.TheVariants as answer
 use Rattle.tape.specs.declared.entry.Entry.{Entry}
-use Rattle.rs_wire.specs.declared.fault.SetupFault.{SetupFault}
 use Rattle.session_model.specs.Lists.{IsPrefix}
 use Rattle.session_model.specs.Frames.{refusal}
 use Rattle.session_model.specs.Joined.{only, refused, refuses, unless_refused}

@@ -1,3 +1,4 @@
 pub mod Ends
 pub mod Marks
 pub mod Streams
+pub mod Read

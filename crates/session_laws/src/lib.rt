@@ -25,7 +25,7 @@ pub use one_end::{
 };
 pub use streams::{
     a_response_carries_one_payload, a_stream_delivers_one_end, items_stay_within_credit,
-    nothing_is_taken_after_an_own_end, over_is_for_good, streams_stay_within_their_limit,
-    taken_is_what_was_delivered_first, what_came_before_is_lawful,
+    nothing_is_taken_after_an_own_end, over_is_for_good, streams_are_what_frames_say,
+    streams_stay_within_their_limit, taken_is_what_was_delivered_first, what_came_before_is_lawful,
 };
 pub use two_ends::{drained_is_equal, handled_begins_made, handled_is_a_boundary};

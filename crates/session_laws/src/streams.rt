@@ -12,16 +12,36 @@ ghost use Rattle.rs_wire.specs.declared.words.Way.{Way};
 ghost use Rattle.tape.specs.declared.entry.Entry.{Entry};
 ghost use Rattle.stream_model.specs.Laws.{IsOver, OneEnd, OneResponse, TakenFirst};
 ghost use Rattle.stream_model.specs.Laws.{UsedWithinGranted};
-ghost use Rattle.stream_model.specs.Streams.{live};
-ghost use Rattle.stream_model.specs.Turns.{Turn, delivered, taken, waiting};
+ghost use Rattle.stream_model.specs.Streams.{live, turn};
+ghost use Rattle.stream_model.specs.Turns.{Turn, delivered, granted, items, over, taken, waiting};
+ghost use Rattle.session_model.specs.Frames.{seen};
 ghost use Rattle.session_model.specs.Lists.{IsPrefix};
 ghost use Rattle.session_model.specs.Streams.{words};
+ghost use Rattle.session_laws.specs.Read.{framed, framed_words, read};
 ghost use Rattle.session_laws.specs.Streams.{EndsReceiving, IsLawful, IsStream, stream};
 
 /// What came before any entry of a lawful list is lawful.
 pub fn what_came_before_is_lawful()
     ensures { (g : Settings) (more past : List Entry) →
         IsLawful g (more ++ past) → IsLawful g past }
+{}
+
+/// The streams are what the frames say that an end made and handled, in the order of its entries:
+/// the same requests, and on each stream the same words, but that no frame tells what callers took,
+/// and that the payload of a response completes in its frame whatever its call said (RSocket 1.0,
+/// "Stream Sequences and Lifetimes"). So whether a way is over, its items, and how many were granted
+/// are read off the frames, and so is how many streams are open.
+pub fn streams_are_what_frames_say()
+    ensures streams { (g : Settings) (past : List Entry) (s : ℕ) → IsLawful g past →
+        turn g.max_streams (read (seen g past)) s ≡ framed (stream g past s) }
+    ensures over { (t : Turn) (w : Way) →
+        over t.opening (framed_words t.opening t.words) w ≡ over t.opening t.words w }
+    ensures items { (t : Turn) (w : Way) →
+        items t.opening (framed_words t.opening t.words) w ≡ items t.opening t.words w }
+    ensures granted { (t : Turn) (w : Way) →
+        granted t.opening (framed_words t.opening t.words) w ≡ granted t.opening t.words w }
+    ensures open { (g : Settings) (past : List Entry) → IsLawful g past →
+        live g.max_streams (read (seen g past)) ≡ live g.max_streams (words past) }
 {}
 
 /// On each way of a stream or a channel no more items were used than were granted, by this end or

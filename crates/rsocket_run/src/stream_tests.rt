@@ -1,0 +1,226 @@
+//! Whole runs of scripts with streams: credit, cancel, errors and limits.
+
+use crate::script_tests::plays;
+use std::test::Fail;
+
+#[test]
+fn items_stop_where_credit_ends_and_go_on_after_a_grant(rt: HostRuntime) -> Result<(), Fail> {
+    let script = "client stream 2 61
+drain
+server next 1 62
+server next 1 62
+server next 1 62
+drain
+client grant 1 1
+drain
+server next 1 62
+drain
+";
+    let report = "client made 2 21 handled 3 21
+server made 3 21 handled 2 21
+client open: opened 1
+client stream 2 1: stream 1
+client came PAYLOAD 1 7: handled
+client came PAYLOAD 1 7: handled
+client grant 1 1: done
+client came PAYLOAD 1 7: handled
+server open SETUP 0 68: opened 1
+server came REQUEST_STREAM 1 11: handled
+server next 1 1: done
+server next 1 1: done
+server next 1 1: no credit 2
+server came REQUEST_N 1 10: handled
+server next 1 1: done
+";
+    assert!(rt; plays(rt.alloc(), script, report)?);
+    Ok(())
+}
+
+#[test]
+fn each_way_of_a_channel_ends_once(rt: HostRuntime) -> Result<(), Fail> {
+    let script = "client channel 2 61
+client done 1
+drain
+server next 1 62
+server done 1
+server next 1 62
+drain
+client take 1
+client take 1
+client take 1
+";
+    let report = "client made 2 17 handled 2 13
+server made 2 13 handled 2 17
+client open: opened 1
+client channel 2 1: stream 1
+client done 1: done
+client came PAYLOAD 1 7: handled
+client came PAYLOAD 1 6: handled
+client take 1: item 1
+client take 1: complete
+client take 1: ended
+server open SETUP 0 68: opened 1
+server came REQUEST_CHANNEL 1 11: handled
+server came PAYLOAD 1 6: handled
+server next 1 1: done
+server done 1: done
+server next 1 1: ended
+";
+    assert!(rt; plays(rt.alloc(), script, report)?);
+    Ok(())
+}
+
+#[test]
+fn nothing_is_taken_after_an_own_cancel(rt: HostRuntime) -> Result<(), Fail> {
+    let script = "client stream 5 61
+drain
+server next 1 62
+client cancel 1
+down 1000
+client take 1
+up 1000
+server take 1
+server next 1 62
+";
+    let report = "client made 2 17 handled 1 7
+server made 1 7 handled 2 17
+client open: opened 1
+client stream 5 1: stream 1
+client cancel 1: done
+client came PAYLOAD 1 7: handled
+client take 1: ended
+server open SETUP 0 68: opened 1
+server came REQUEST_STREAM 1 11: handled
+server next 1 1: done
+server came CANCEL 1 6: handled
+server take 1: canceled
+server next 1 1: ended
+";
+    assert!(rt; plays(rt.alloc(), script, report)?);
+    Ok(())
+}
+
+#[test]
+fn a_response_is_an_item_and_its_end(rt: HostRuntime) -> Result<(), Fail> {
+    let script = "client response 61
+drain
+server last 1 -
+drain
+client take 1
+client take 1
+client take 1
+";
+    let report = "client made 1 7 handled 1 6
+server made 1 6 handled 1 7
+client open: opened 1
+client response 1: stream 1
+client came PAYLOAD 1 6: handled
+client take 1: item 0
+client take 1: complete
+client take 1: ended
+server open SETUP 0 68: opened 1
+server came REQUEST_RESPONSE 1 7: handled
+server last 1 0: done
+";
+    assert!(rt; plays(rt.alloc(), script, report)?);
+    Ok(())
+}
+
+#[test]
+fn an_error_ends_a_response(rt: HostRuntime) -> Result<(), Fail> {
+    let script = "client response 61
+drain
+server fail 1 513 6f6f
+drain
+client take 1
+client take 1
+";
+    let report = "client made 1 7 handled 1 12
+server made 1 12 handled 1 7
+client open: opened 1
+client response 1: stream 1
+client came ERROR 1 12: handled
+client take 1: error 513 2
+client take 1: ended
+server open SETUP 0 68: opened 1
+server came REQUEST_RESPONSE 1 7: handled
+server fail 1 513 2: done
+";
+    assert!(rt; plays(rt.alloc(), script, report)?);
+    Ok(())
+}
+
+#[test]
+fn a_responder_that_cancels_a_channel_still_sends(rt: HostRuntime) -> Result<(), Fail> {
+    let script = "client channel 1 61
+drain
+server cancel 1
+drain
+client next 1 62
+server next 1 62
+";
+    let report = "client made 1 11 handled 1 6
+server made 2 13 handled 1 11
+client open: opened 1
+client channel 1 1: stream 1
+client came CANCEL 1 6: handled
+client next 1 1: ended
+server open SETUP 0 68: opened 1
+server came REQUEST_CHANNEL 1 11: handled
+server cancel 1: done
+server next 1 1: done
+";
+    assert!(rt; plays(rt.alloc(), script, report)?);
+    Ok(())
+}
+
+#[test]
+fn only_who_receives_items_grants(rt: HostRuntime) -> Result<(), Fail> {
+    let report = "client made 1 7 handled 0 0
+server made 0 0 handled 0 0
+client open: opened 1
+client response 1: stream 1
+client grant 1 1: wrong kind
+client cancel 9: unknown stream
+";
+    let script = "client response 61\nclient grant 1 1\nclient cancel 9\n";
+    assert!(rt; plays(rt.alloc(), script, report)?);
+    let report = "client made 1 11 handled 0 0
+server made 0 0 handled 1 11
+client open: opened 1
+client stream 1 1: stream 1
+server open SETUP 0 68: opened 1
+server came REQUEST_STREAM 1 11: handled
+server grant 1 1: wrong kind
+";
+    let script = "client stream 1 61\ndrain\nserver grant 1 1\n";
+    assert!(rt; plays(rt.alloc(), script, report)?);
+    Ok(())
+}
+
+#[test]
+fn the_peers_requests_are_its_jobs(rt: HostRuntime) -> Result<(), Fail> {
+    let script = "client fnf 61:62
+client channel 7 - last
+server job
+drain
+server job
+server job
+server job
+server take 3
+";
+    let report = "client made 2 21 handled 0 0
+server made 0 0 handled 2 21
+client open: opened 1
+client fnf 2: stream 1
+client channel 7 0 last: stream 3
+server open SETUP 0 68: opened 1
+server came REQUEST_FNF 1 11: handled
+server came REQUEST_CHANNEL 3 10: handled
+server job: job 1 fnf 2
+server job: job 3 channel 0
+server take 3: complete
+";
+    assert!(rt; plays(rt.alloc(), script, report)?);
+    Ok(())
+}
