@@ -224,3 +224,83 @@ server take 3: complete
     assert!(rt; plays(rt.alloc(), script, report)?);
     Ok(())
 }
+
+#[test]
+fn no_more_streams_are_open_than_may_be(rt: HostRuntime) -> Result<(), Fail> {
+    let report = "client made 1 11 handled 0 0
+server made 0 0 handled 0 0
+client open: opened 1
+client stream 1 1: stream 1
+client stream 1 1: too many streams 1
+";
+    let script = "set client streams 1\nclient stream 1 61\nclient stream 1 61\n";
+    assert!(rt; plays(rt.alloc(), script, report)?);
+    Ok(())
+}
+
+#[test]
+fn a_request_above_the_peers_limit_is_turned_away(rt: HostRuntime) -> Result<(), Fail> {
+    let script = "set server streams 1
+client stream 1 61
+client stream 1 61
+drain
+client take 3
+";
+    let report = "client made 2 22 handled 1 17
+server made 1 17 handled 2 22
+client open: opened 1
+client stream 1 1: stream 1
+client stream 1 1: stream 3
+client came ERROR 3 17: handled
+client take 3: error 514 7
+server open SETUP 0 68: opened 1
+server came REQUEST_STREAM 1 11: handled
+server came REQUEST_STREAM 3 11: handled
+";
+    assert!(rt; plays(rt.alloc(), script, report)?);
+    Ok(())
+}
+
+#[test]
+fn a_frame_above_the_limit_is_bad_as_soon_as_its_length_is_there(
+    rt: HostRuntime,
+) -> Result<(), Fail> {
+    let script = "set client maxin 64
+client response 61
+drain
+server many 1 1 100
+down 3
+";
+    let report = "client made 1 7 handled 0 0
+server made 1 106 handled 1 7
+client open: opened 1
+client response 1: stream 1
+client bad 10: violation bad-frame
+server open SETUP 0 68: opened 1
+server came REQUEST_RESPONSE 1 7: handled
+server next 1 100: done
+";
+    assert!(rt; plays(rt.alloc(), script, report)?);
+    Ok(())
+}
+
+#[test]
+fn a_full_queue_refuses_an_item(rt: HostRuntime) -> Result<(), Fail> {
+    let script = "set hold 0
+set slack 0
+client stream 5 61
+drain
+server many 1 2 10000000
+";
+    let report = "client made 1 11 handled 0 0
+server made 1 10000006 handled 1 11
+client open: opened 1
+client stream 5 1: stream 1
+server open SETUP 0 68: opened 1
+server came REQUEST_STREAM 1 11: handled
+server next 1 10000000: done
+server next 1 10000000: out full 10000009
+";
+    assert!(rt; plays(rt.alloc(), script, report)?);
+    Ok(())
+}
