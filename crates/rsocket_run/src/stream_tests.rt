@@ -304,3 +304,46 @@ server next 1 10000000: out full 10000009
     assert!(rt; plays(rt.alloc(), script, report)?);
     Ok(())
 }
+
+#[test]
+fn a_stream_is_taken_to_its_end(rt: HostRuntime) -> Result<(), Fail> {
+    let script = "client stream 2 61
+drain
+server job
+server next 1 6f6e65
+server next 1 74776f
+server next 1 7468726565
+drain
+client take 1
+client grant 1 1
+drain
+server last 1 7468726565
+drain
+client take 1
+client take 1
+client take 1
+";
+    let report = "client made 2 21 handled 3 29
+server made 3 29 handled 2 21
+client open: opened 1
+client stream 2 1: stream 1
+client came PAYLOAD 1 9: handled
+client came PAYLOAD 1 9: handled
+client take 1: item 3
+client grant 1 1: done
+client came PAYLOAD 1 11: handled
+client take 1: item 3
+client take 1: item 5
+client take 1: complete
+server open SETUP 0 68: opened 1
+server came REQUEST_STREAM 1 11: handled
+server job: job 1 stream 1
+server next 1 3: done
+server next 1 3: done
+server next 1 5: no credit 2
+server came REQUEST_N 1 10: handled
+server last 1 5: done
+";
+    assert!(rt; plays(rt.alloc(), script, report)?);
+    Ok(())
+}
