@@ -12,3 +12,4 @@ pub mod Lawful
 pub mod OwnEnds
 pub mod ReadWords
 pub mod ReadStreams
+pub mod HandedOut

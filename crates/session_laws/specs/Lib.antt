@@ -2,3 +2,4 @@ pub mod Ends
 pub mod Marks
 pub mod Streams
 pub mod Read
+pub mod Jobs

@@ -24,8 +24,9 @@ pub use one_end::{
     queued_is_what_is_left, seen_is_made_and_handled,
 };
 pub use streams::{
-    a_response_carries_one_payload, a_stream_delivers_one_end, items_stay_within_credit,
-    nothing_is_taken_after_an_own_end, over_is_for_good, streams_are_what_frames_say,
-    streams_stay_within_their_limit, taken_is_what_was_delivered_first, what_came_before_is_lawful,
+    a_response_carries_one_payload, a_stream_delivers_one_end, each_request_is_handed_out_once,
+    items_stay_within_credit, nothing_is_taken_after_an_own_end, over_is_for_good,
+    streams_are_what_frames_say, streams_stay_within_their_limit,
+    taken_is_what_was_delivered_first, what_came_before_is_lawful,
 };
 pub use two_ends::{drained_is_equal, handled_begins_made, handled_is_a_boundary};

@@ -12,11 +12,12 @@ ghost use Rattle.rs_wire.specs.declared.words.Way.{Way};
 ghost use Rattle.tape.specs.declared.entry.Entry.{Entry};
 ghost use Rattle.stream_model.specs.Laws.{IsOver, OneEnd, OneResponse, TakenFirst};
 ghost use Rattle.stream_model.specs.Laws.{UsedWithinGranted};
-ghost use Rattle.stream_model.specs.Streams.{live, turn};
+ghost use Rattle.stream_model.specs.Streams.{jobs, jobs_waiting, live, turn};
 ghost use Rattle.stream_model.specs.Turns.{Turn, delivered, granted, items, over, taken, waiting};
 ghost use Rattle.session_model.specs.Frames.{seen};
 ghost use Rattle.session_model.specs.Lists.{IsPrefix};
 ghost use Rattle.session_model.specs.Streams.{words};
+ghost use Rattle.session_laws.specs.Jobs.{jobs_got, jobs_on};
 ghost use Rattle.session_laws.specs.Read.{framed, framed_words, read};
 ghost use Rattle.session_laws.specs.Streams.{EndsReceiving, IsLawful, IsStream, stream};
 
@@ -72,6 +73,17 @@ pub fn taken_is_what_was_delivered_first()
 pub fn a_stream_delivers_one_end()
     ensures { (g : Settings) (past : List Entry) (s : ℕ) (t : Turn) →
         IsStream g past s t → OneEnd t }
+{}
+
+/// Each request of the peer's is handed out once at most, and in the order in which the requests
+/// became whole: what callers got as jobs, and then what waits, are all jobs, and no stream has two
+/// (RSocket 1.0, "Request").
+pub fn each_request_is_handed_out_once()
+    ensures order { (g : Settings) (past : List Entry) → IsLawful g past →
+        jobs_got past ++ jobs_waiting g.max_streams (words past) ≡
+        jobs g.max_streams (words past) }
+    ensures once { (g : Settings) (past : List Entry) (s : ℕ) → IsLawful g past →
+        jobs_on s (jobs_got past) ≤ 1 }
 {}
 
 /// After an own CANCEL or ERROR that ends the way on which this end receives, nothing waits on the
