@@ -1,12 +1,12 @@
 //! The words of a call on a stream, and of the calls of one word.
 
-ghost use Rattle.std.specs.Prelude.{◌≡◌, ℕ, List, true, codes, IfNone, IfSome};
+ghost use Rattle.std.specs.Prelude.{◌≡◌, ◌++◌, ◌∷◌, ℕ, Bool, List, true, codes, IfNone, IfSome, IsTrue, decimal};
 ghost use Rattle.hex.specs.Hex.{IsBytes};
 ghost use Rattle.rs_wire.specs.Calls.{is_stream_code};
 ghost use Rattle.rs_wire.specs.declared.call.Call.{Call as Meant};
 ghost use Rattle.rs_wire.specs.declared.message.Message.{Message as Said};
-ghost use Rattle.cable.specs.Line.{IsAmount, IsPayload, IsSayable, call_words};
-ghost use Rattle.cable.specs.Words.{SpellsCall};
+ghost use Rattle.cable.specs.Line.{IsAmount, IsPayload, IsSayable, call_words, part_text};
+ghost use Rattle.cable.specs.Words.{SpellsCall, bytes_of, is_part};
 
 use crate::reports::text::next_word;
 use crate::script::words::asked::Asked;
@@ -51,7 +51,9 @@ fn grant_of(word: &[u8]) -> Option<Asked<'_>>
     ensures none { IfNone result ((s n : ℕ) → IsAmount s → IsAmount n →
         ¬ (word.now ≡ call_words (Call.Grant s n))) }
 {
-    let (stream, rest) = amount_and_after(word, "grant")?;
+    let Some((stream, rest)) = amount_and_after(word, "grant") else {
+        return None;
+    };
     match amount(rest) {
         Some(n) => Some(Asked::Grant {
             stream: stream.get(),
@@ -75,6 +77,21 @@ fn cancel_of(word: &[u8]) -> Option<Asked<'_>>
     }
 }
 
+// `CODE PART`: an error code of a stream, and what the error says.
+fn error_of(word: &[u8]) -> Option<(u32, &[u8])>
+    ensures some { IfSome result (λ r.
+        (word.now ≡ decimal r.0 ++ (32 ∷ part_text (bytes_of r.1.now))) ×
+        (is_stream_code r.0 ≡ true) × IsTrue (is_part r.1.now) × IsBytes (bytes_of r.1.now)) }
+    ensures none { IfNone result ((code : ℕ) (content : List ℕ) → is_stream_code code ≡ true →
+        IsBytes content → ¬ (word.now ≡ decimal code ++ (32 ∷ part_text content))) }
+{
+    let (code, content) = code_and(word)?;
+    if is_part(content) {
+        return Some((code, content));
+    }
+    None
+}
+
 // `fail S CODE PART`.
 fn fail_of(word: &[u8]) -> Option<Asked<'_>>
     ensures some { IfSome result (SpellsCall word.now) }
@@ -82,16 +99,17 @@ fn fail_of(word: &[u8]) -> Option<Asked<'_>>
         is_stream_code code ≡ true → IsBytes content →
         ¬ (word.now ≡ call_words (Call.Fail s code content))) }
 {
-    let (stream, rest) = amount_and_after(word, "fail")?;
-    let (code, content) = code_and(rest)?;
-    if is_part(content) {
-        return Some(Asked::Fail {
+    let Some((stream, rest)) = amount_and_after(word, "fail") else {
+        return None;
+    };
+    match error_of(rest) {
+        Some((code, content)) => Some(Asked::Fail {
             stream: stream.get(),
             code,
             content,
-        });
+        }),
+        None => None,
     }
-    None
 }
 
 // `take S`.

@@ -48,11 +48,11 @@ pub(crate) fn after<'a>(word: &'a [u8], first: &str) -> Option<&'a [u8]>
 }
 
 /// What stands before this text at the end.
-pub(crate) fn before<'a>(word: &'a [u8], last: &str) -> Option<&'a [u8]>
+pub(crate) fn before<'a>(word: &'a [u8], last: &[u8]) -> Option<&'a [u8]>
     ensures some { IfSome result (λ front. word.now ≡ front.now ++ last.now) }
     ensures none { IfNone result ((front : List ℕ) → ¬ (word.now ≡ front ++ last.now)) }
 {
-    word.strip_suffix(last.as_bytes())
+    word.strip_suffix(last)
 }
 
 /// The amount that the word is the decimal text of.

@@ -57,7 +57,11 @@ pub(crate) fn amount_and_payload_after<'a>(
     ensures none { IfNone result ((n : ℕ) (m : Said) → IsAmount n → IsPayload m →
         ¬ (word.now ≡ first.now ++ (32 ∷ (decimal n ++ (32 ∷ payload_text m))))) }
 {
-    let (n, rest) = amount_and_after(word, first)?;
-    let payload = payload_of(rest)?;
-    Some((n, payload))
+    let Some((n, rest)) = amount_and_after(word, first) else {
+        return None;
+    };
+    match payload_of(rest) {
+        Some(payload) => Some((n, payload)),
+        None => None,
+    }
 }

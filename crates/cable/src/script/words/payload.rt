@@ -1,8 +1,9 @@
 //! The parts of a message, as words.
 
-ghost use Rattle.std.specs.Prelude.{◌≡◌, IfNone, IfOk, IfSome, IsTrue};
+ghost use Rattle.std.specs.Prelude.{◌≡◌, ℕ, List, IfNone, IfOk, IfSome, IsTrue};
+ghost use Rattle.hex.specs.Hex.{IsBytes};
 ghost use Rattle.rs_wire.specs.declared.message.Message.{Message as Said};
-ghost use Rattle.cable.specs.Line.{IsPayload, payload_text};
+ghost use Rattle.cable.specs.Line.{IsPayload, part_text, payload_text};
 ghost use Rattle.cable.specs.Words.{Spells, are_parts, bytes_of, is_part, message_of};
 
 use crate::script::words::cuts::cut_at;
@@ -23,9 +24,12 @@ pub(crate) enum Payload<'a> {
     },
 }
 
-/// Whether the word is a part.
+/// Whether the word is a part of a message.
 pub(crate) fn is_part(word: &[u8]) -> bool
-    ensures { result ≡ is_part word.now }
+    ensures value { result ≡ is_part word.now }
+    ensures spelled { IsTrue result →
+        (word.now ≡ part_text (bytes_of word.now)) × IsBytes (bytes_of word.now) }
+    ensures only { (bytes : List ℕ) → IsBytes bytes → word.now ≡ part_text bytes → IsTrue result }
 {
     is_hex_word(word, NO_BYTES)
 }

@@ -55,7 +55,7 @@ fn last_channel_of(word: &[u8]) -> Option<Asked<'_>>
     ensures none { IfNone result ((n : ℕ) (m : Said) → IsAmount n → IsPayload m →
         ¬ (word.now ≡ call_words (Call.Request Kind.Channel (Some n) m true))) }
 {
-    let front = before(word, " last")?;
+    let front = before(word, b" last")?;
     match amount_and_payload_after(front, "channel") {
         Some((n, payload)) => Some(Asked::Request {
             kind: Kind::Channel,
