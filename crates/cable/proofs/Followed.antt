@@ -6,6 +6,8 @@ use Rattle.rs_wire.specs.declared.words.Side.TheVariants.{Client, Server}
 use Rattle.rs_wire.specs.declared.settings.Settings.{Settings}
 use Rattle.rs_wire.specs.Settings.{IsChecked}
 use Rattle.rs_wire.specs.declared.call.Call.{Call}
+use Rattle.rs_wire.specs.declared.call.Call.TheVariants as call
+use Rattle.rs_wire.specs.Calls.{CanBeAsked}
 use Rattle.rs_frame.specs.declared.frame.Frame.{Frame}
 use Rattle.rs_frame.specs.Framed.{framed_all}
 use Rattle.rs_chunk.specs.Rest.{Rest}
@@ -32,9 +34,10 @@ use Rattle.cable.specs.declared.carrying.Most.TheVariants as most
 use Rattle.cable.specs.declared.hearing.Crossing.{Crossing}
 use Rattle.cable.specs.declared.hearing.Known.{Known}
 use Rattle.cable.specs.declared.hearing.Known.TheVariants as known
-use Rattle.cable.specs.Played.{CarriesDown, CarriesUp, Downs, Drains, Draws, Ends, Link, OnLink, Round, Sides, There, Ups, adds, answered, arrivals, arrives_up, asks, at_most, bytes_down, crossed, cuts, cuts_on, cuts_there, frames_down, gave, hears, hears_down, moved, nothing, opens, with_client, with_server}
+use Rattle.cable.specs.Played.{CarriesDown, CarriesUp, Downs, Drains, Draws, Ends, Link, OnLink, Round, Sides, There, Ups, adds, answered, arrivals, arrives_up, asks, asks_often, at_most, bytes_down, crossed, cuts, cuts_on, cuts_there, frames_down, gave, hears, hears_down, moved, nothing, opens, with_client, with_server}
 use Rattle.cable.specs.Played.{Gives as GivesDown}
 use Rattle.cable.specs.Hearing.{Carried, CrossedTo, Crosses, Grew, IsHearer, Offered}
+use Rattle.cable.specs.Line.{IsSayable}
 use Rattle.cable.specs.Wires.{Arrives, At, ClientAt, Gave, IsAt, IsMoved, IsPlainEnd, Keeps, Knows, LinkAt, Reaches, ServerAt, WireAt, Wires, sides_of, wire_of}
 use Rattle.cable.proofs.Drawing.{same_trans}
 use Rattle.cable.proofs.Grows.{Goes, Quiet, added_quiet, cut_quiet, drew_where, goes_not, hears_on, quiet_not}
@@ -124,6 +127,18 @@ asked_by v u' asked now =
     let b = leaves (answer_to v.settings v.entries (event.Asked asked)) in
     let q = added_quiet v.settings v.entries asked b in
     subst (StandsBy v.settings v.entries) (sym now) (record { quiet = q.0; goes = q.1; drawn_are = λ c. no_draws v.settings v.entries asked c b })
+
+-- what a script says can be asked
+pub askable : (c : Call) → IsSayable c → CanBeAsked c
+askable (call.Request k i m x) h = (h.0, h.2)
+askable (call.Next stream m x) h = tt
+askable (call.Done stream) h = tt
+askable (call.Grant stream n) h = tt
+askable (call.Cancel stream) h = tt
+askable (call.Fail stream code content) h = h.1
+askable (call.Take stream) h = tt
+askable call.TakeJob h = tt
+askable call.Close h = tt
 
 -- a call, at the value that a cable shows
 pub client_called : (v v0 : Wires) (r : Ends) (u' : Seen) (side : Side) (asked : Call) → v ≡ v0 → side ≡ Client → At v0 r → Legal u'.settings u'.entries → Fair u'.settings u'.entries → u' ≡ record v.client { entries = u'.entries; spare = u'.spare } → u'.entries ≡ adds v.client.settings v.client.entries (event.Asked asked)
@@ -360,6 +375,36 @@ sides_kept v w k =
 
 pub first_holds : (w : Wires) (P Q : Ends → Type 0) → Reaches w (λ r. P r × Q r) → Reaches w P
 first_holds w P Q b = record { ends = b.ends; at = b.at; holds = b.holds.0 }
+
+-- ---- a call that is made often
+
+-- the calls that are left make of these what all make of those at first
+abbrev pub AreCallsLeft : ℕ → ℕ → Sides → Side → Call → Ends → Ends → Type 0
+AreCallsLeft n i s side c r now = asks_often (n - i) s side c now ≡ asks_often n s side c r
+
+pub often_begins : (n : ℕ) (s : Sides) (side : Side) (c : Call) (v : Wires) (r : Ends) → At v r → Reaches v (AreCallsLeft n 0 s side c r)
+often_begins n s side c v r at =
+    let all : n - 0 ≡ n = omega arith in
+    record { ends = r; at = at; holds = ap (λ (k : ℕ). asks_often k s side c r) all }
+
+asked_once : (n : ℕ) (s : Sides) (side : Side) (c : Call) (r : Ends) → asks_often (suc n) s side c r ≡ asks_often n s side c (asks s side c r)
+unfolding asks_often
+asked_once n s side c r = refl
+
+pub often_on : (n i : ℕ) (s : Sides) (side : Side) (c : Call) (v w : Wires) (r : Ends) → i < n → (b : Reaches v (AreCallsLeft n i s side c r)) → Reaches w (λ r'. r' ≡ asks s side c b.ends) → Reaches w (AreCallsLeft n (i + 1) s side c r)
+often_on n i s side c v w r below b one =
+    let step : n - i ≡ suc (n - (i + 1)) = omega (arith, below) in
+    let more : asks_often (n - i) s side c b.ends ≡ asks_often (n - (i + 1)) s side c (asks s side c b.ends) = ap (λ (k : ℕ). asks_often k s side c b.ends) step ∙ asked_once (n - (i + 1)) s side c b.ends in
+    record { ends = one.ends; at = one.at; holds = ap (asks_often (n - (i + 1)) s side c) one.holds ∙ (sym more ∙ b.holds) }
+
+asked_none : (s : Sides) (side : Side) (c : Call) (r : Ends) → asks_often 0 s side c r ≡ r
+unfolding asks_often
+asked_none s side c r = refl
+
+pub often_ends : (n i : ℕ) (s : Sides) (side : Side) (c : Call) (v : Wires) (r : Ends) → n ≤ i → Reaches v (AreCallsLeft n i s side c r) → Reaches v (λ r'. r' ≡ asks_often n s side c r)
+often_ends n i s side c v r past b =
+    let none : n - i ≡ 0 = omega (arith, past) in
+    record { ends = b.ends; at = b.at; holds = sym (asked_none s side c b.ends) ∙ (ap (λ (k : ℕ). asks_often k s side c b.ends) (sym none) ∙ b.holds) }
 
 -- ---- a round, and a drain
 

@@ -6,16 +6,16 @@ ghost use Rattle.rs_wire.specs.declared.words.Side.TheVariants.{Server};
 ghost use Rattle.rs_wire.specs.declared.settings.Settings.{Settings as Limits};
 ghost use Rattle.rs_wire.specs.Calls.{CanBeAsked};
 ghost use Rattle.cable.specs.Line.{IsLine};
-ghost use Rattle.cable.specs.Played.{Downs, Drains, Ends, PlaysLine, PlaysLines, Round, There, Ups, asks, begins, cuts, cuts_there, nothing, opens};
+ghost use Rattle.cable.specs.Played.{Downs, Drains, Ends, PlaysLine, PlaysLines, Round, There, Ups, an_item, asks, asks_often, begins, cuts, cuts_there, nothing, opens};
 ghost use Rattle.cable.specs.Wires.{Arrives, At, Gave, IsAt, IsMoved, IsServerAt, Keeps, Reaches, ServerAt, sides_of, wire_of};
 
-use crate::MOST_ROUNDS;
 use crate::bringing::{ask, connect, cut};
 use crate::carrying::{Most, carry, offer};
 use crate::hearing::{Crossing, Known, hear, meet};
 use crate::script::line::Line;
+use crate::{ITEM_BYTE, MOST_ROUNDS};
 use rs_chunk::Reader;
-use rs_wire::{Call, OutOfMemory, Side};
+use rs_wire::{Blob, Call, Message, OutOfMemory, Side};
 use session_core::Session;
 use std::alloc::Global;
 use std::marker::Model;
@@ -169,6 +169,21 @@ fn cut_there<T: Tape>(server: &mut Session<T>, wire: &Wire) -> Result<(), OutOfM
     }
 }
 
+// An item of a line `many`.
+fn item(alloc: Global, stream: u32, size: u32) -> Result<Call, OutOfMemory>
+    ensures { IfOk result (λ call. call ≡ an_item stream size) }
+{
+    let content = Blob::from_vec(vec![in alloc; ITEM_BYTE; size as usize]?);
+    Ok(Call::Next {
+        stream,
+        message: Message {
+            metadata: None,
+            content,
+        },
+        complete: false,
+    })
+}
+
 impl<T: Tape> Cable<T> {
     /// Two ends that no connection joins.
     pub fn new(client: Session<T>, server: Session<T>) -> Cable<T>
@@ -224,6 +239,20 @@ impl<T: Tape> Cable<T> {
                 Ok(())
             }
         }
+    }
+
+    // A call that is made so many times.
+    fn often(&mut self, alloc: Global, side: Side, call: &Call, n: u32) -> Result<(), OutOfMemory>
+        requires askable { CanBeAsked call.now }
+        requires at { IsAt self.old }
+        ensures ends { Keeps self.old self.new }
+        ensures played { (r : Ends) → At self.old r → OnOk result
+            (Reaches self.new (λ r'. r' ≡ asks_often n (sides_of self.old) side call.now r)) }
+    {
+        for _ in 0..n {
+            self.call(alloc, side, call)?;
+        }
+        Ok(())
     }
 
     // What the client draws is carried to the server: whether something moved or came.
@@ -327,6 +356,15 @@ impl<T: Tape> Cable<T> {
     {
         match line {
             Line::Ask { side, call } => self.call(alloc, *side, call),
+            Line::Many {
+                side,
+                stream,
+                count,
+                size,
+            } => {
+                let item = item(alloc, *stream, *size)?;
+                self.often(alloc, *side, &item, count.get())
+            }
             Line::Up { most } => {
                 self.up(alloc, Most::Bytes(most.get()), buffer)?;
                 Ok(())

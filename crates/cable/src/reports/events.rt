@@ -6,7 +6,7 @@ ghost use Rattle.cable.specs.Report.{call_text, event_text, frame_text, initial_
 ghost use Rattle.cable.specs.Lines.{CanBeTold};
 
 use crate::reports::answers::put_numbered;
-use crate::reports::text::kind_word;
+use crate::reports::text::{kind_word, next_word};
 use frame_text::frame_name;
 use plain_text::{write_number_word, write_text};
 use rs_frame::Frame;
@@ -40,12 +40,6 @@ fn put_last(out: &mut Vec<u8>, complete: bool) -> Result<(), OutOfMemory>
         return write_text(out, " last");
     }
     Ok(())
-}
-
-fn next_word(complete: bool) -> &'static str
-    ensures { result.now ≡ next_word complete }
-{
-    if complete { "last" } else { "next" }
 }
 
 // Appends a word and two numbers after it.

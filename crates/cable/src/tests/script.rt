@@ -1,5 +1,5 @@
 use crate::{Line, Script, ScriptFault};
-use rs_wire::{Amount, Call, Side};
+use rs_wire::{Amount, Call, Kind, Side};
 use std::test::Fail;
 
 fn fault(rt: &HostRuntime, text: &[u8]) -> Option<ScriptFault> {
@@ -42,6 +42,125 @@ fn each_line_has_one_text(rt: HostRuntime) -> Result<(), Fail> {
 }
 
 #[test]
+fn each_request_has_one_text(rt: HostRuntime) -> Result<(), Fail> {
+    let text =
+        b"client response 61\nserver stream 1 -\nclient channel 2 61\nclient channel 2147483647 61:62 last";
+    let script = Script::read(rt.alloc(), text).map_err(|_| Fail::from("the script is right"))?;
+    match script.lines() {
+        [
+            Line::Ask {
+                side: Side::Client,
+                call: Call::Request {
+                    kind: Kind::Response,
+                    initial: None,
+                    complete: false,
+                    ..
+                },
+            },
+            Line::Ask {
+                side: Side::Server,
+                call: Call::Request {
+                    kind: Kind::Stream,
+                    initial: Some(one),
+                    complete: false,
+                    ..
+                },
+            },
+            Line::Ask {
+                call: Call::Request {
+                    kind: Kind::Channel,
+                    initial: Some(two),
+                    complete: false,
+                    ..
+                },
+                ..
+            },
+            Line::Ask {
+                call: Call::Request {
+                    kind: Kind::Channel,
+                    initial: Some(most),
+                    message,
+                    complete: true,
+                },
+                ..
+            },
+        ] => {
+            assert!(rt; one.get() == 1 && two.get() == 2 && most.get() == 2_147_483_647);
+            assert!(rt; message.content.as_slice() == b"b".as_slice());
+            assert!(rt; message.metadata.is_some());
+        }
+        _ => return Err(Fail::from("there are four requests")),
+    }
+    Ok(())
+}
+
+#[test]
+fn each_call_on_a_stream_has_one_text(rt: HostRuntime) -> Result<(), Fail> {
+    let text =
+        b"client next 1 61\nserver last 2 -\nclient done 3\nclient grant 4 5\nclient cancel 6\nclient fail 7 4294967294 6f\nclient take 8\nserver job\nserver many 2147483647 9 16000000";
+    let script = Script::read(rt.alloc(), text).map_err(|_| Fail::from("the script is right"))?;
+    match script.lines() {
+        [
+            Line::Ask {
+                call: Call::Next {
+                    stream: 1,
+                    complete: false,
+                    ..
+                },
+                ..
+            },
+            Line::Ask {
+                side: Side::Server,
+                call: Call::Next {
+                    stream: 2,
+                    complete: true,
+                    ..
+                },
+            },
+            Line::Ask {
+                call: Call::Done { stream: 3 },
+                ..
+            },
+            Line::Ask {
+                call: Call::Grant { stream: 4, n: five },
+                ..
+            },
+            Line::Ask {
+                call: Call::Cancel { stream: 6 },
+                ..
+            },
+            Line::Ask {
+                call: Call::Fail {
+                    stream: 7,
+                    code: 4_294_967_294,
+                    content,
+                },
+                ..
+            },
+            Line::Ask {
+                call: Call::Take { stream: 8 },
+                ..
+            },
+            Line::Ask {
+                call: Call::TakeJob,
+                ..
+            },
+            Line::Many {
+                side: Side::Server,
+                stream: 2_147_483_647,
+                count: nine,
+                size: 16_000_000,
+            },
+        ] => {
+            assert!(rt; five.get() == 5 && nine.get() == 9);
+            assert!(rt; content.as_slice() == b"o".as_slice());
+        }
+        _ => return Err(Fail::from("there are nine lines")),
+    }
+    Ok(())
+}
+
+#[test]
 fn empty_lines_and_comments_are_passed_over(rt: HostRuntime) -> Result<(), Fail> {
     for text in [b"".as_slice(), b"\n", b"\n\n", b"# up 0\n#", b"#\xff"] {
         let read = Script::read(rt.alloc(), text).map_err(|_| Fail::from("the script is right"))?;
@@ -76,6 +195,41 @@ fn the_first_wrong_line_is_told(rt: HostRuntime) {
         b"drain 1",
         b"cut 1",
         b" # up 1",
+        b"client",
+        b"client response",
+        b"client stream 61",
+        b"client stream 0 61",
+        b"client stream 1 61 last",
+        b"client stream  1 61",
+        b"client channel 1 61 first",
+        b"client channel 1 61  last",
+        b"client channel 1 last",
+        b"client fnf 1 61",
+        b"client next 0 61",
+        b"client next 1",
+        b"client last 1 61 last",
+        b"client done",
+        b"client take",
+        b"client take 01",
+        b"client job 1",
+        b"client jobs",
+        b"client grant 1",
+        b"client grant 1 2147483648",
+        b"client cancel 2147483648",
+        b"client fail 1 0 -",
+        b"client fail 1 512 -",
+        b"client fail 1 517 -",
+        b"client fail 1 768 -",
+        b"client fail 1 4294967295 -",
+        b"client fail 1 4294967809 -",
+        b"client fail 1 513",
+        b"client fail 1 513 61:62",
+        b"client many 1 0 1",
+        b"client many 1 1 16000001",
+        b"client many 1 1",
+        b"client many 1 1 1 61",
+        b"many 1 1 1",
+        b"job",
     ] {
         assert_eq!(rt; fault(&rt, text), Some(ScriptFault::Line(1)));
     }
@@ -83,6 +237,20 @@ fn the_first_wrong_line_is_told(rt: HostRuntime) {
         fault(&rt, b"up 1\nup 2\n\n# up 3\nup 0\nup 0"),
         Some(ScriptFault::Line(5))
     );
+}
+
+#[test]
+fn the_last_numbers_are_right(rt: HostRuntime) {
+    for text in [
+        b"client fail 1 513 -".as_slice(),
+        b"client fail 1 516 -",
+        b"client fail 1 769 -",
+        b"client many 1 2147483647 0",
+        b"client grant 2147483647 2147483647",
+        b"client fail 2147483647 4294967294 -",
+    ] {
+        assert_eq!(rt; fault(&rt, text), None);
+    }
 }
 
 #[test]

@@ -1,8 +1,0 @@
-use Rattle.cable.proofs.Texts.{parts_cut, parts_whole}
-use Rattle.cable.proofs.script.words.parts_of.Goals as goal
-
-pub returns-in-Some-clause-only : goal.returns-in-Some-clause-only
-returns-in-Some-clause-only c = λ m right is. parts_cut m c.args.word.now _ _ right is c.in-Some.ensures.cut.0 c.in-Some.ensures.cut.1
-
-pub returns-in-None-clause-only : goal.returns-in-None-clause-only
-returns-in-None-clause-only c = λ m right is. parts_whole m c.args.word.now right is c.in-None.ensures.whole
