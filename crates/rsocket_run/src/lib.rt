@@ -23,6 +23,8 @@ mod frames_tests;
 #[cfg(test)]
 mod order_tests;
 #[cfg(test)]
+mod settings_tests;
+#[cfg(test)]
 mod tests;
 #[cfg(test)]
 mod words_tests;
