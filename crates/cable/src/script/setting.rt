@@ -81,13 +81,12 @@ impl SettingLine {
     }
 }
 
-// The value after this name, where it is in the range.
-fn valued(word: &[u8], name: &[u8], low: u64, high: u64) -> Option<u64>
-    ensures some { IfSome result (λ n. (word.now ≡ name.now ++ (32 ∷ decimal n)) × IsIn low n high) }
-    ensures none { IfNone result ((n : ℕ) → IsIn low n high →
-        ¬ (word.now ≡ name.now ++ (32 ∷ decimal n))) }
+// The value after this name and its space, where it is in the range.
+fn valued(words: &[u8], name: &[u8], low: u64, high: u64) -> Option<u64>
+    ensures some { IfSome result (λ n. (words.now ≡ name.now ++ decimal n) × IsIn low n high) }
+    ensures none { IfNone result ((n : ℕ) → IsIn low n high → ¬ (words.now ≡ name.now ++ decimal n)) }
 {
-    let value = word.strip_prefix(name)?.strip_prefix(b" ")?;
+    let value = words.strip_prefix(name)?;
     read_number(value, low, high)
 }
 
@@ -96,31 +95,31 @@ fn setting_of(words: &[u8]) -> Option<Setting>
     ensures some { IfSome result (λ s. (words.now ≡ setting_words s) × IsSetting s) }
     ensures none { IfNone result ((s : Meant) → IsSetting s → ¬ (words.now ≡ setting_words s)) }
 {
-    if let Some(ms) = valued(words, b"keepalive", 1, 2_147_483_647) {
+    if let Some(ms) = valued(words, b"keepalive ", 1, 2_147_483_647) {
         return Some(Setting::Keepalive(ms as u32));
     }
-    if let Some(ms) = valued(words, b"lifetime", 1, 2_147_483_647) {
+    if let Some(ms) = valued(words, b"lifetime ", 1, 2_147_483_647) {
         return Some(Setting::Lifetime(ms as u32));
     }
-    if let Some(bytes) = valued(words, b"hold", 0, 1_073_741_824) {
+    if let Some(bytes) = valued(words, b"hold ", 0, 1_073_741_824) {
         return Some(Setting::Hold(bytes));
     }
-    if let Some(bytes) = valued(words, b"slack", 0, 2_147_483_647) {
+    if let Some(bytes) = valued(words, b"slack ", 0, 2_147_483_647) {
         return Some(Setting::Slack(bytes));
     }
-    if let Some(bytes) = valued(words, b"maxin", 64, 16_777_215) {
+    if let Some(bytes) = valued(words, b"maxin ", 64, 16_777_215) {
         return Some(Setting::MaxIn(bytes as u32));
     }
-    if let Some(bytes) = valued(words, b"maxpayload", 1, 16_000_000) {
+    if let Some(bytes) = valued(words, b"maxpayload ", 1, 16_000_000) {
         return Some(Setting::MaxPayload(bytes as u32));
     }
-    if let Some(count) = valued(words, b"streams", 1, 65_536) {
+    if let Some(count) = valued(words, b"streams ", 1, 65_536) {
         return Some(Setting::MaxStreams(count as u32));
     }
-    if let Some(id) = valued(words, b"lastid", 1, 2_147_483_647) {
+    if let Some(id) = valued(words, b"lastid ", 1, 2_147_483_647) {
         return Some(Setting::LastId(id as u32));
     }
-    let position = valued(words, b"top", 0, 9_223_372_036_854_775_807)?;
+    let position = valued(words, b"top ", 0, 9_223_372_036_854_775_807)?;
     Some(Setting::Top(position))
 }
 
