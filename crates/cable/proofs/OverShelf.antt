@@ -1,5 +1,5 @@
 -- A script that was played over tapes of a shelf.
-use Rattle.std.proofs.Common.{◌≡◌, ℕ, ◌≤◌, ◌+◌, List, [], ◌∷◌, ◌++◌, length, Option, Some, is_some, refl, sym, ap, subst, ◌∙◌, append_assoc, arith, Result, Ok, Err, IfOk, OnOk}
+use Rattle.std.proofs.Common.{◌≡◌, ℕ, List, [], ◌∷◌, ◌++◌, Option, is_some, refl, ap, subst, ◌∙◌, append_assoc, arith, Result, Ok, Err, IfOk, OnOk}
 use Rattle.rs_wire.specs.declared.words.Side.{Side}
 use Rattle.tape.specs.declared.entry.Entry.{Entry}
 use Rattle.session_core.specs.Seen.{Seen, told_by}

@@ -1,15 +1,14 @@
 -- Nothing is wrong in settings that setting lines changed.
 use Rattle.std.proofs.lemmas.Grind.{common_steps}
-use Rattle.std.proofs.Common.{◌≡◌, ℕ, ◌<◌, ◌≤◌, ◌+◌, Bool, true, false, if◌then◌else◌, List, [], ◌∷◌, length, drop, get_or, Option, Some, None, refl, sym, ap, subst, ◌∙◌, arith}
+use Rattle.std.proofs.Common.{◌≡◌, ℕ, ◌<◌, ◌≤◌, ◌+◌, Bool, true, false, if◌then◌else◌, List, [], ◌∷◌, length, drop, get_or, Some, None, refl, sym, ap, subst, ◌∙◌, arith}
 use Rattle.std.proofs.lemmas.List.{drop_all}
 use Rattle.std.specs.List.{AllByRecursion}
 use Rattle.rs_wire.specs.declared.words.Side.{Side}
 use Rattle.rs_wire.specs.declared.settings.Settings.{Settings}
 use Rattle.rs_wire.specs.declared.settings.SettingFault.{SettingFault}
-use Rattle.rs_wire.specs.Settings.{IsChecked, IsIn, fault_of, usual}
+use Rattle.rs_wire.specs.Settings.{IsIn, fault_of, usual}
 use Rattle.session_model.specs.Legal.{IsPlain}
 use Rattle.cable.specs.declared.script.setting.Setting.{Setting}
-use Rattle.cable.specs.declared.script.setting.Setting.TheVariants as setting
 use Rattle.cable.specs.declared.script.setting.SettingLine.{SettingLine}
 use Rattle.cable.specs.Setting.{IsSetting, IsSettingLine, is_for, put, set_by, set_by_all, settings_by}
 

@@ -1,6 +1,5 @@
 use Rattle.std.proofs.Common.{sym, ◌∙◌}
 use Rattle.session_laws.specs.Ends.{AreEnds}
-use Rattle.cable.specs.Played.{Sides}
 use Rattle.cable.proofs.Playing.{fair_as, legal_as, ok_holds, plain_ends, run_client, run_played, run_server}
 use Rattle.cable.proofs.run.scheduled.Given.{Over}
 use Rattle.cable.proofs.run.scheduled.Goals as goal

@@ -1,6 +1,6 @@
-use Rattle.std.proofs.Common.{refl, sym, ◌∙◌}
+use Rattle.std.proofs.Common.{sym, ◌∙◌}
 use Rattle.cable.proofs.Texts.{line_of_words}
-use Rattle.cable.proofs.Reading.{line_read, passed, setting_read, wrong_after, wrong_both}
+use Rattle.cable.proofs.Reading.{line_read, setting_read, wrong_after, wrong_both}
 use Rattle.cable.proofs.script.with_text.Goals as goal
 
 pub returns-in-Some-clause-read : goal.returns-in-Some-clause-read
