@@ -1,13 +1,15 @@
 -- A script that was played over tapes of a shelf.
-use Rattle.std.proofs.Common.{◌≡◌, ℕ, ◌≤◌, ◌+◌, List, [], ◌∷◌, ◌++◌, length, Option, Some, is_some, refl, sym, ap, subst, ◌∙◌, append_assoc, arith, Result, Ok, Err, IfOk, OnOk}
+use Rattle.std.proofs.Common.{◌≡◌, ℕ, List, [], ◌∷◌, ◌++◌, Option, is_some, refl, ap, subst, ◌∙◌, append_assoc, arith, Result, Ok, Err, IfOk, OnOk}
 use Rattle.rs_wire.specs.declared.words.Side.{Side}
-use Rattle.rs_wire.specs.declared.words.Side.TheVariants.{Client, Server}
 use Rattle.tape.specs.declared.entry.Entry.{Entry}
 use Rattle.session_core.specs.Seen.{Seen, told_by}
+use Rattle.cable.specs.Played.{Sides}
 use Rattle.cable.specs.Report.{report_of}
 use Rattle.rs_wire.specs.declared.settings.Settings.{Settings}
-use Rattle.rs_wire.specs.Settings.{usual}
-use Rattle.cable.specs.Shelves.{GotTapes, end_of, usual_sides}
+use Rattle.cable.specs.declared.script.setting.SettingLine.{SettingLine}
+use Rattle.cable.specs.Setting.{settings_by}
+use Rattle.cable.specs.Shelves.{GotTapes, IsEnd, end_of}
+use Rattle.cable.proofs.Settings.{settings_side}
 
 both_back : (b b' b'' : List (Option (List Entry))) (c s : Option (List Entry)) → b' ≡ b ++ c ∷ [] → b'' ≡ b' ++ s ∷ [] → b'' ≡ b ++ c ∷ s ∷ []
 both_back b b' b'' c s p q = q ∙ ap (λ (x : List (Option (List Entry))). x ++ s ∷ []) p ∙ append_assoc b (c ∷ []) (s ∷ [])
@@ -17,29 +19,32 @@ pub two_tapes : (b b' b'' b''' : List (Option (List Entry))) (t u : Option (List
 two_tapes b b' b'' b''' t u same one two =
     record { tapes = t ∷ u ∷ []; few = omega arith; back = both_back b b'' b''' t u (one ∙ ap (λ (x : List (Option (List Entry))). x ++ t ∷ []) same) two }
 
--- an end of these entries, whatever its spare
-abbrev pub IsEndOf : Side → Option (List Entry) → List Entry → Seen → Type 0
-IsEndOf side fresh entries v = v ≡ record (end_of side fresh entries) { spare = v.spare }
-
 -- an end that went on is one of its entries
-pub went_on : (side : Side) (fresh : Option (List Entry)) (old new : Seen) → IsEndOf side fresh [] old → new ≡ record old { entries = new.entries; spare = new.spare } → IsEndOf side fresh new.entries new
-went_on side fresh old new begun grew = grew ∙ ap (λ (s : Seen). record s { entries = new.entries; spare = new.spare }) begun
+pub went_on : (g : Settings) (fresh : Option (List Entry)) (old new : Seen) → IsEnd g fresh [] old → new ≡ record old { entries = new.entries; spare = new.spare } → IsEnd g fresh new.entries new
+went_on g fresh old new begun grew = grew ∙ ap (λ (s : Seen). record s { entries = new.entries; spare = new.spare }) begun
 
 -- what is told of its tape
-pub told_of : (side : Side) (fresh : Option (List Entry)) (old new : Seen) (told : Option (List Entry)) → IsEndOf side fresh [] old → new ≡ record old { entries = new.entries; spare = new.spare } → told ≡ told_by new.tells new.entries
+pub told_of : (g : Settings) (fresh : Option (List Entry)) (old new : Seen) (told : Option (List Entry)) → IsEnd g fresh [] old → new ≡ record old { entries = new.entries; spare = new.spare } → told ≡ told_by new.tells new.entries
     → told ≡ told_by (is_some fresh) new.entries
-told_of side fresh old new told begun grew is = is ∙ ap (λ (s : Seen). told_by s.tells new.entries) (went_on side fresh old new begun grew)
+told_of g fresh old new told begun grew is = is ∙ ap (λ (s : Seen). told_by s.tells new.entries) (went_on g fresh old new begun grew)
 
 -- the settings of both
-pub sides_are : (fresh : Option (List Entry)) (client server : Seen) → IsEndOf Client fresh [] client → IsEndOf Server fresh [] server → record { client = client.settings; server = server.settings } ≡ usual_sides
-sides_are fresh client server c s =
-    ap (λ (g : Settings). record { client = g; server = server.settings }) (ap (λ (v : Seen). v.settings) c) ∙ ap (λ (h : Settings). record { client = usual Client; server = h }) (ap (λ (v : Seen). v.settings) s)
+abbrev pub sides : Settings → Settings → Sides
+sides g h = record { client = g; server = h }
+
+pub sides_are : (g h : Settings) (fresh : Option (List Entry)) (client server : Seen) → IsEnd g fresh [] client → IsEnd h fresh [] server → sides client.settings server.settings ≡ sides g h
+sides_are g h fresh client server c s =
+    ap (λ (k : Settings). sides k server.settings) (ap (λ (v : Seen). v.settings) c) ∙ ap (λ (k : Settings). sides g k) (ap (λ (v : Seen). v.settings) s)
+
+-- the side of an end under setting lines
+pub side_is : (side : Side) (lines : List SettingLine) (fresh : Option (List Entry)) (v : Seen) → IsEnd (settings_by side lines) fresh [] v → v.settings.side ≡ side
+side_is side lines fresh v is = ap (λ (s : Seen). s.settings.side) is ∙ settings_side side lines
 
 -- the report of two ends is that of their entries
-pub report_is : (fresh : Option (List Entry)) (client server : Seen) (text : List ℕ) → IsEndOf Client fresh client.entries client → IsEndOf Server fresh server.entries server → text ≡ report_of client server
-    → text ≡ report_of (end_of Client fresh client.entries) (end_of Server fresh server.entries)
-report_is fresh client server text c s is =
-    is ∙ (ap (λ (v : Seen). report_of v server) c ∙ ap (λ (v : Seen). report_of (record (end_of Client fresh client.entries) { spare = client.spare }) v) s)
+pub report_is : (g h : Settings) (fresh : Option (List Entry)) (client server : Seen) (text : List ℕ) → IsEnd g fresh client.entries client → IsEnd h fresh server.entries server → text ≡ report_of client server
+    → text ≡ report_of (end_of g fresh client.entries) (end_of h fresh server.entries)
+report_is g h fresh client server text c s is =
+    is ∙ (ap (λ (v : Seen). report_of v server) c ∙ ap (λ (v : Seen). report_of (record (end_of g fresh client.entries) { spare = client.spare }) v) s)
 
 -- the shelf got both tapes back
 pub got_both : (b b' b'' b3 : List (Option (List Entry))) (t u t' u' : Option (List Entry)) → b' ≡ b → b'' ≡ b' ++ t ∷ [] → b3 ≡ b'' ++ u ∷ [] → t ≡ t' → u ≡ u' → b3 ≡ b ++ t' ∷ u' ∷ []

@@ -4,6 +4,8 @@ pub mod Played
 pub mod Hearing
 pub mod Wires
 pub mod Report
+pub mod Setting
+pub mod Scripted
 pub mod Shelves
 pub mod Script
 pub mod Words

@@ -1,7 +1,6 @@
 -- A script that is played over a shelf of tapes.
-use Rattle.std.specs.Prelude.{◌≡◌, ℕ, ◌≤◌, List, [], ◌∷◌, ◌++◌, length, Option, Some, is_some}
-use Rattle.rs_wire.specs.Settings.{usual}
-use Rattle.rs_wire.specs.declared.words.Side.{Side}
+use Rattle.std.specs.Prelude.{◌≡◌, ℕ, ◌≤◌, List, [], ◌∷◌, ◌++◌, length, Option, is_some}
+use Rattle.rs_wire.specs.declared.settings.Settings.{Settings}
 use Rattle.rs_wire.specs.declared.words.Side.TheVariants.{Client, Server}
 use Rattle.tape.specs.declared.entry.Entry.{Entry}
 use Rattle.session_core.specs.Seen.{Seen, told_by}
@@ -11,21 +10,22 @@ use Rattle.session_model.specs.Legal.{Fair, Legal}
 use Rattle.session_model.specs.Joined.{Joined}
 use Rattle.cable.specs.declared.script.line.Line.{Line}
 use Rattle.cable.specs.Played.{Played, Sides, pair_of}
+use Rattle.cable.specs.Setting.{settings_by, sides_by}
+use Rattle.cable.specs.Scripted.{Scripted}
 use Rattle.cable.specs.Report.{report_of}
 
--- an end with the usual settings and these entries, the newest first, over a tape that tells them where a fresh one tells; its spare
+-- an end with these settings and these entries, the newest first, over a tape that tells them where a fresh one tells; its spare
 -- is left out
-abbrev pub end_of : Side → Option (List Entry) → List Entry → Seen
-end_of side fresh entries = record { settings = usual side; entries = entries; tells = is_some fresh; spare = 0 }
+abbrev pub end_of : Settings → Option (List Entry) → List Entry → Seen
+end_of g fresh entries = record { settings = g; entries = entries; tells = is_some fresh; spare = 0 }
 
--- the defaults of both
-abbrev pub usual_sides : Sides
-usual_sides = record { client = usual Client; server = usual Server }
+abbrev pub IsEnd : Settings → Option (List Entry) → List Entry → Seen → Type 0
+IsEnd g fresh entries v = v ≡ record (end_of g fresh entries) { spare = v.spare }
 
--- the two ends of a run of this script under these settings, their entries the newest first: each list is a session's, the bytes of
+-- the two ends of a run of these lines under these settings, their entries the newest first: each list is a session's, the bytes of
 -- the two crossed, and what each end has handled is a prefix of what the other made
-pub record EndsOf (s : Sides) (script : List Line) (client server : List Entry) : Type 0 where
-  pub played : Played s script client server
+pub record EndsOf (s : Sides) (lines : List Line) (client server : List Entry) : Type 0 where
+  pub played : Played s lines client server
   pub client_legal : Legal s.client client
   pub server_legal : Legal s.server server
   pub client_fair : Fair s.client client
@@ -37,12 +37,12 @@ pub record EndsOf (s : Sides) (script : List Line) (client server : List Entry) 
 
 -- the text is the report of a run of this script, and the shelf has got back the tapes of just this client and this
 -- server: of tapes that tell nothing there are the two lines of counts
-pub record Reports (script : List Line) (fresh : Option (List Entry)) (shelf shelf' : List (Option (List Entry))) (text : List ℕ) : Type 0 where
+pub record Reports (script : Scripted) (fresh : Option (List Entry)) (shelf shelf' : List (Option (List Entry))) (text : List ℕ) : Type 0 where
   pub client : List Entry
   pub server : List Entry
-  pub ends : EndsOf usual_sides script client server
+  pub ends : EndsOf (sides_by script.settings) script.lines client server
   pub put_back : shelf' ≡ shelf ++ told_by (is_some fresh) client ∷ told_by (is_some fresh) server ∷ []
-  pub reported : text ≡ report_of (end_of Client fresh client) (end_of Server fresh server)
+  pub reported : text ≡ report_of (end_of (settings_by Client script.settings) fresh client) (end_of (settings_by Server script.settings) fresh server)
 
 -- a shelf got at most that many tapes back
 pub record GotTapes (most : ℕ) (shelf shelf' : List (Option (List Entry))) : Type 0 where

@@ -44,7 +44,7 @@ pub fn scheduled<T: Tape>(
     requires client_fresh { client.entries ≡ [] }
     requires server_fresh { server.entries ≡ [] }
     ensures played { result.want ≡ false →
-        Played (record { client = client.settings; server = server.settings }) script.now
+        Played (record { client = client.settings; server = server.settings }) script.now.lines
         result.client.entries result.server.entries }
 
     // The bytes of the two ends crossed, and what each handled is a prefix of what the other made.

@@ -33,7 +33,7 @@ pub fn play<H: Shelf>(alloc: Global, script: &Script, shelf: &mut H) -> Result<V
     ensures lent { H.lent shelf.new ≡ H.lent shelf.old }
     ensures got { GotTapes 2 (H.back shelf.old) (H.back shelf.new) }
 {
-    let (client, server) = both_ends(alloc, shelf)?;
+    let (client, server) = both_ends(alloc, script, shelf)?;
     let ran = scheduled(alloc, script, client, server);
     let text = report_of(alloc, &ran);
     let Ran { client, server, .. } = ran;

@@ -1,7 +1,7 @@
 -- What was read is all of the input.
 use Rattle.std.proofs.Common.{◌≡◌, ℕ, ◌≤◌, ◌+◌, List, [], ◌++◌, length, Option, Some, sym, ap, subst, ◌∙◌, append-nil, ⊎_elim, arith}
 use Rattle.outside.specs.Streams.{ByteStream}
-use Rattle.cable.specs.declared.script.line.Line.{Line}
+use Rattle.cable.specs.Scripted.{Scripted}
 use Rattle.cable.specs.Script.{IsScript}
 use Rattle.rsocket_run.specs.Run.{WasScript}
 use Rattle.rsocket_run.specs.Streams.{IsReadTo}
@@ -13,13 +13,13 @@ whole_text most text bytes left r short = ⊎_elim
     (λ full. absurd (omega (arith, full, short)))
     r.to_the_end
 
-pub script_read : (text bytes given : List ℕ) (left : Option (List ℕ)) (script : List Line) → IsReadTo 16777217 text bytes left → given ≡ bytes → IsScript given script → (IsScript text script) × (left ≡ Some [])
+pub script_read : (text bytes given : List ℕ) (left : Option (List ℕ)) (script : Scripted) → IsReadTo 16777217 text bytes left → given ≡ bytes → IsScript given script → (IsScript text script) × (left ≡ Some [])
 script_read text bytes given left script r same is =
     let here : IsScript bytes script = subst (λ (t : List ℕ). IsScript t script) same is in
     let whole = whole_text 16777217 text bytes left r (omega (arith, here.short)) in
     (subst (λ (t : List ℕ). IsScript t script) (sym whole.0) here, whole.1)
 
-pub was_script : (input : ByteStream) (bytes given : List ℕ) (left : Option (List ℕ)) (script : List Line) → ((text : List ℕ) → input.told ≡ Some text → IsReadTo 16777217 text bytes left) → given ≡ bytes → IsScript given script → WasScript input left
+pub was_script : (input : ByteStream) (bytes given : List ℕ) (left : Option (List ℕ)) (script : Scripted) → ((text : List ℕ) → input.told ≡ Some text → IsReadTo 16777217 text bytes left) → given ≡ bytes → IsScript given script → WasScript input left
 was_script input bytes given left script whole same is = λ text told.
     let read = script_read text bytes given left script (whole text told) same is in
     (read.1, (script, read.0))

@@ -5,7 +5,7 @@ use Rattle.outside.specs.Streams.{ByteStream}
 use Rattle.rs_frame.specs.declared.frame.Frame.{Frame}
 use Rattle.rs_frame.specs.Framed.{framed_all}
 use Rattle.tape.specs.declared.entry.Entry.{Entry}
-use Rattle.cable.specs.declared.script.line.Line.{Line}
+use Rattle.cable.specs.Scripted.{Scripted}
 use Rattle.cable.specs.Script.{IsScript, IsFault}
 use Rattle.cable.specs.declared.script.ScriptFault.TheVariants.{Line as WrongLine}
 use Rattle.cable.specs.Shelves.{GotTapes, Reports}
@@ -47,7 +47,7 @@ memory_line = codes "rsocket: out of memory" ++ 10 ∷ []
 -- `cable`: the input was read to its end and is a script, and this is the report of a run of it
 pub record RanCable (input : List ℕ) (left : Option (List ℕ)) (fresh : Option (List Entry)) (shelf shelf' : List (Option (List Entry))) (out : List ℕ) : Type 0 where
   pub to_its_end : left ≡ Some []
-  pub script : List Line
+  pub script : Scripted
   pub is_script : IsScript input script
   pub reports : Reports script fresh shelf shelf' out
 
@@ -105,7 +105,7 @@ HasBadFrame (tasks.Frames true) input left place bad lines = ⊥
 
 -- nothing is wrong with the input
 abbrev pub IsRightInput : Task → List ℕ → Type 0
-IsRightInput tasks.Cable input = (script : List Line) × IsScript input script
+IsRightInput tasks.Cable input = (script : Scripted) × IsScript input script
 IsRightInput (tasks.Frames false) input = (frames : List Frame) × IsCapture input frames
 IsRightInput (tasks.Frames true) input = (frames : List Frame) × IsTextOf input frames
 
@@ -146,7 +146,7 @@ OfTask words input P = (task : Task) (text : List ℕ) → Asks words task → i
 
 -- the input, where it is told, was read to its end and is a script
 abbrev pub WasScript : ByteStream → Option (List ℕ) → Type 0
-WasScript input left = (text : List ℕ) → input.told ≡ Some text → (left ≡ Some []) × ((script : List Line) × IsScript text script)
+WasScript input left = (text : List ℕ) → input.told ≡ Some text → (left ≡ Some []) × ((script : Scripted) × IsScript text script)
 
 -- the words ask for `cable`, its script was read, and the shelf got at most the tapes of the two ends
 pub record GotEnds (words : List (List ℕ)) (input : ByteStream) (left : Option (List ℕ)) (shelf shelf' : List (Option (List Entry))) : Type 0 where

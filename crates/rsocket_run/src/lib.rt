@@ -25,6 +25,8 @@ mod order_tests;
 #[cfg(test)]
 mod script_tests;
 #[cfg(test)]
+mod settings_tests;
+#[cfg(test)]
 mod stream_tests;
 #[cfg(test)]
 mod tests;

@@ -1,6 +1,5 @@
 use Rattle.std.proofs.Common.{sym, ◌∙◌}
 use Rattle.session_laws.specs.Ends.{AreEnds}
-use Rattle.cable.specs.Played.{Sides}
 use Rattle.cable.proofs.Playing.{fair_as, legal_as, ok_holds, plain_ends, run_client, run_played, run_server}
 use Rattle.cable.proofs.run.scheduled.Given.{Over}
 use Rattle.cable.proofs.run.scheduled.Goals as goal
@@ -8,7 +7,7 @@ use Rattle.cable.proofs.run.scheduled.Goals as goal
 played : goal.returns-clause-played
 played g c = λ fine.
     let ends = c.into_ends-client.ensures in
-    run_played c.args.client c.args.server c.new-cable.result c.play.new.self c.into_ends-client.result.0 c.into_ends-client.result.1 c.args.script.now c.lines.result.now c.new-cable.ensures ends.client ends.server c.lines.ensures.value
+    run_played c.args.client c.args.server c.new-cable.result c.play.new.self c.into_ends-client.result.0 c.into_ends-client.result.1 c.args.script.now.lines c.lines.result.now c.new-cable.ensures ends.client ends.server c.lines.ensures.value
     (ok_holds _ c.play.result (sym c.is_err-want.ensures.value ∙ fine) c.play.ensures.played)
 
 ends_of : (g : Over) (c : goal.After-played_laws g) → AreEnds c.args.client.settings c.args.server.settings c.into_ends-client.result.0.entries c.into_ends-client.result.1.entries

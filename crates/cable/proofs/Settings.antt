@@ -1,0 +1,113 @@
+-- Nothing is wrong in settings that setting lines changed.
+use Rattle.std.proofs.lemmas.Grind.{common_steps}
+use Rattle.std.proofs.Common.{◌≡◌, ℕ, ◌<◌, ◌≤◌, ◌+◌, Bool, true, false, if◌then◌else◌, List, [], ◌∷◌, length, drop, get_or, Some, None, refl, sym, ap, subst, ◌∙◌, arith}
+use Rattle.std.proofs.lemmas.List.{drop_all}
+use Rattle.std.specs.List.{AllByRecursion}
+use Rattle.rs_wire.specs.declared.words.Side.{Side}
+use Rattle.rs_wire.specs.declared.settings.Settings.{Settings}
+use Rattle.rs_wire.specs.declared.settings.SettingFault.{SettingFault}
+use Rattle.rs_wire.specs.Settings.{IsIn, fault_of, usual}
+use Rattle.session_model.specs.Legal.{IsPlain}
+use Rattle.cable.specs.declared.script.setting.Setting.{Setting}
+use Rattle.cable.specs.declared.script.setting.SettingLine.{SettingLine}
+use Rattle.cable.specs.Setting.{IsSetting, IsSettingLine, is_for, put, set_by, set_by_all, settings_by}
+
+-- each is in its range, of an end without resumption, leases and fragments
+record IsSound (s : Settings) : Type 0 where
+  pub no_resumption : s.resume ≡ false
+  pub no_leases : s.lease ≡ false
+  pub no_fragments : s.mtu ≡ 0
+  pub no_token : length s.token ≡ 0
+  pub keepalive : IsIn 1 s.keepalive_ms 2147483647
+  pub lifetime : IsIn 1 s.lifetime_ms 2147483647
+  pub hold : s.hold ≤ 1073741824
+  pub slack : s.slack ≤ 2147483647
+  pub max_in : IsIn 64 s.max_in 16777215
+  pub max_payload : IsIn 1 s.max_payload 16000000
+  pub max_streams : IsIn 1 s.max_streams 65536
+  pub last_id : IsIn 1 s.last_id 2147483647
+  pub top_position : s.top_position ≤ 9223372036854775807
+  pub session_hold : s.session_hold_ms ≤ 4294967295
+  pub metadata_mime : length s.metadata_mime ≤ 255
+  pub content_mime : length s.content_mime ≤ 255
+
+no_fault : (s : Settings) → IsSound s → fault_of s ≡ None
+no_fault s h1 = grind (arith, common_steps)
+
+plain : (s : Settings) → IsSound s → IsPlain s
+plain s h = record {
+  checked = record {
+    no_fault = no_fault s h;
+    keepalive = h.keepalive;
+    lifetime = h.lifetime;
+    mtu = omega (arith, h.no_fragments);
+    hold = h.hold;
+    slack = h.slack;
+    max_in = h.max_in;
+    max_payload = h.max_payload;
+    max_streams = h.max_streams;
+    last_id = h.last_id;
+    top_position = h.top_position;
+    session_hold = h.session_hold;
+    token = omega (arith, h.no_token);
+    metadata_mime = h.metadata_mime;
+    content_mime = h.content_mime;
+  };
+  no_resumption = h.no_resumption;
+  no_leases = h.no_leases;
+  no_fragments = h.no_fragments;
+}
+
+usual_sound : (side : Side) → IsSound (usual side)
+usual_sound side = grind (arith, common_steps)
+
+put_sound : (x : Setting) (s : Settings) → IsSetting x → IsSound s → IsSound (put x s)
+put_sound x s h1 h2 = grind (arith, common_steps)
+
+set_if : (b : Bool) (x : Setting) (s : Settings) → IsSetting x → IsSound s → IsSound (if b then put x s else s)
+set_if true x s ok h = put_sound x s ok h
+set_if false x s ok h = h
+
+set_all : (side : Side) (lines : List SettingLine) (s : Settings) → AllByRecursion IsSettingLine lines → IsSound s → IsSound (set_by_all side lines s)
+unfolding set_by_all
+set_all side [] s ok h = h
+set_all side (l ∷ lines) s ok h = set_all side lines (set_by side l s) ok.1 (set_if (is_for l.side side) l.setting s ok.0 h)
+
+-- the settings of an end under setting lines are in their ranges
+pub settings_plain : (side : Side) (lines : List SettingLine) → AllByRecursion IsSettingLine lines → IsPlain (settings_by side lines)
+settings_plain side lines ok = plain (settings_by side lines) (set_all side lines (usual side) ok (usual_sound side))
+
+-- ---- their side
+
+put_side : (b : Bool) (x : Setting) (s : Settings) → (if b then put x s else s).side ≡ s.side
+put_side b x s = grind (arith, common_steps)
+
+all_side : (side : Side) (lines : List SettingLine) (s : Settings) → (set_by_all side lines s).side ≡ s.side
+unfolding set_by_all
+all_side side [] s = refl
+all_side side (l ∷ lines) s = all_side side lines (set_by side l s) ∙ put_side (is_for l.side side) l.setting s
+
+pub settings_side : (side : Side) (lines : List SettingLine) → (settings_by side lines).side ≡ side
+settings_side side lines = all_side side lines (usual side)
+
+-- ---- one line after the other
+
+pub one_set : (side : Side) (lines : List SettingLine) (i : ℕ) (d : SettingLine) (s s' : Settings) → i < length lines → s' ≡ set_by side (get_or lines i d) s → set_by_all side (drop (i + 1) lines) s' ≡ set_by_all side (drop i lines) s
+unfolding set_by_all
+one_set side lines i d s s' h1 h2 = grind (arith, common_steps)
+
+none_left : (side : Side) (lines : List SettingLine) (s : Settings) → lines ≡ [] → set_by_all side lines s ≡ s
+unfolding set_by_all
+none_left side lines s none = subst (λ (ls : List SettingLine). set_by_all side ls s ≡ s) (sym none) refl
+
+-- at the end of the lines the settings are those that they make
+pub all_set : (side : Side) (lines given : List SettingLine) (i : ℕ) (s : Settings) → length given ≤ i → given ≡ lines → set_by_all side (drop i given) s ≡ settings_by side given → s ≡ settings_by side lines
+all_set side lines given i s past same left =
+    sym (none_left side (drop i given) s (drop_all i given past)) ∙ (left ∙ ap (λ (ls : List SettingLine). settings_by side ls) same)
+
+-- so nothing is wrong in them
+pub plain_as : (side : Side) (lines : List SettingLine) (s : Settings) → AllByRecursion IsSettingLine lines → s ≡ settings_by side lines → IsPlain s
+plain_as side lines s ok is = subst (λ (g : Settings). IsPlain g) (sym is) (settings_plain side lines ok)
+
+pub not_wrong : (s : Settings) (fault : SettingFault) → IsPlain s → fault_of s ≡ Some fault → ⊥
+not_wrong s fault h wrong = let none = h.checked.no_fault in cc

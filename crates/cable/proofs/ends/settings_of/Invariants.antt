@@ -1,0 +1,8 @@
+use Rattle.std.proofs.Common.{◌≡◌, drop}
+use Rattle.cable.specs.Setting.{set_by_all, settings_by}
+use Rattle.cable.proofs.ends.settings_of.Given as goal
+
+abbrev pub invariant-loop-line : goal.invariant-loop-line
+invariant-loop-line l = record {
+  left : set_by_all l.side (drop l.line-index l.line-items) l.settings ≡ settings_by l.side l.line-items;
+}
