@@ -1,6 +1,6 @@
 -- The ends that a cable follows, line by line.
 use Rattle.std.proofs.lemmas.Grind.{common_steps}
-use Rattle.std.proofs.Common.{◌≡◌, ◌≤◌, ◌<◌, ◌+◌, ◌-◌, ◌||◌, inl, inr, ℕ, zero, suc, Bool, true, false, cond, List, [], ◌∷◌, ◌++◌, length, take, Option, Some, None, refl, ap, subst, sym, ◌∙◌, arith, append-nil}
+use Rattle.std.proofs.Common.{◌≡◌, ◌≤◌, ◌<◌, ◌+◌, ◌-◌, ◌||◌, inl, inr, ℕ, suc, Bool, true, false, cond, List, [], ◌∷◌, ◌++◌, length, take, Option, Some, None, refl, ap, subst, sym, ◌∙◌, arith, append-nil}
 use Rattle.rs_wire.specs.declared.words.Side.{Side}
 use Rattle.rs_wire.specs.declared.words.Side.TheVariants.{Client, Server}
 use Rattle.rs_wire.specs.declared.settings.Settings.{Settings}
@@ -8,7 +8,6 @@ use Rattle.rs_wire.specs.Settings.{IsChecked}
 use Rattle.rs_wire.specs.declared.call.Call.{Call}
 use Rattle.rs_wire.specs.declared.call.Call.TheVariants as call
 use Rattle.rs_wire.specs.Calls.{CanBeAsked}
-use Rattle.rs_frame.specs.declared.frame.Frame.{Frame}
 use Rattle.rs_frame.specs.Framed.{framed_all}
 use Rattle.rs_chunk.specs.Rest.{Rest}
 use Rattle.tape.specs.declared.event.Event.{Event}
@@ -24,23 +23,20 @@ use Rattle.session_model.specs.Joined.{refused}
 use Rattle.session_model.specs.Answers.{answer_to, facts}
 use Rattle.session_core.specs.Seen.{Seen}
 use Rattle.session_model.proofs.Queue.{drawn_le}
-use Rattle.session_laws.proofs.Framing.{AreSpellable}
 use Rattle.session_laws.proofs.Spelled.{due_spelled}
 use Rattle.cable.specs.declared.TheConstants.{MOST_ROUNDS}
 use Rattle.cable.specs.declared.cable.Wire.{Wire}
-use Rattle.cable.specs.declared.carrying.Left.{Left}
 use Rattle.cable.specs.declared.carrying.Most.{Most}
 use Rattle.cable.specs.declared.carrying.Most.TheVariants as most
 use Rattle.cable.specs.declared.hearing.Crossing.{Crossing}
-use Rattle.cable.specs.declared.hearing.Known.{Known}
 use Rattle.cable.specs.declared.hearing.Known.TheVariants as known
 use Rattle.cable.specs.Played.{CarriesDown, CarriesUp, Downs, Drains, Draws, Ends, Link, OnLink, Round, Sides, There, Ups, adds, answered, arrivals, arrives_up, asks, asks_often, at_most, bytes_down, crossed, cuts, cuts_on, cuts_there, frames_down, gave, hears, hears_down, moved, nothing, opens, with_client, with_server}
 use Rattle.cable.specs.Played.{Gives as GivesDown}
-use Rattle.cable.specs.Hearing.{Carried, CrossedTo, Crosses, Grew, IsHearer, Offered}
+use Rattle.cable.specs.Hearing.{Carried, CrossedTo, Crosses, IsHearer}
 use Rattle.cable.specs.Line.{IsSayable}
-use Rattle.cable.specs.Wires.{Arrives, At, ClientAt, Gave, IsAt, IsMoved, IsPlainEnd, Keeps, Knows, LinkAt, Reaches, ServerAt, WireAt, Wires, sides_of, wire_of}
+use Rattle.cable.specs.Wires.{Arrives, At, ClientAt, Gave, IsAt, IsMoved, IsPlainEnd, Keeps, LinkAt, Reaches, ServerAt, WireAt, Wires, sides_of, wire_of}
 use Rattle.cable.proofs.Drawing.{same_trans}
-use Rattle.cable.proofs.Grows.{Goes, Quiet, added_quiet, cut_quiet, drew_where, goes_not, hears_on, quiet_not}
+use Rattle.cable.proofs.Grows.{Goes, Quiet, added_quiet, drew_where, hears_on}
 use Rattle.cable.proofs.Moving.{Gives, Keeps as KeepsDown, arrives_keeps, gives_crosses, grew_or, grew_twice, kept_on, moved_on_link, nothing_fed}
 use Rattle.cable.proofs.Sending.{crosses_quiet, drew_arrivals, hears_drawn, still_given}
 use Rattle.cable.proofs.Wiring.{Sent, fed, knows_quiet, server_more, settings_of}

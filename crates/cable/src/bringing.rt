@@ -6,10 +6,11 @@ ghost use Rattle.rs_wire.specs.Calls.{CanBeAsked};
 ghost use Rattle.session_model.specs.Legal.{CanBring};
 ghost use Rattle.session_model.specs.Answers.{answer_to};
 ghost use Rattle.session_core.specs.Seen.{IsNoDrawEvent};
-ghost use Rattle.cable.specs.Played.{adds};
+ghost use Rattle.cable.specs.Played.{adds, an_item};
 ghost use Rattle.cable.specs.Hearing.{IsNoWant};
 
-use rs_wire::{Call, OutOfMemory};
+use crate::ITEM_BYTE;
+use rs_wire::{Blob, Call, Message, OutOfMemory};
 use session_core::Session;
 use std::alloc::Global;
 use tape::{Answer, Event, Tape};
@@ -71,6 +72,21 @@ pub(crate) fn ask<T: Tape>(
         adds end.old.settings end.old.entries (Event.Asked call.now)) }
 {
     tell(end, &asked(call.copy(alloc)?))
+}
+
+/// The call that a line `many` makes often.
+pub(crate) fn item(alloc: Global, stream: u32, size: u32) -> Result<Call, OutOfMemory>
+    ensures { IfOk result (λ call. call ≡ an_item stream size) }
+{
+    let content = Blob::from_vec(vec![in alloc; ITEM_BYTE; size as usize]?);
+    Ok(Call::Next {
+        stream,
+        message: Message {
+            metadata: None,
+            content,
+        },
+        complete: false,
+    })
 }
 
 /// A connection is gone at an end.

@@ -6,16 +6,16 @@ ghost use Rattle.rs_wire.specs.declared.words.Side.TheVariants.{Server};
 ghost use Rattle.rs_wire.specs.declared.settings.Settings.{Settings as Limits};
 ghost use Rattle.rs_wire.specs.Calls.{CanBeAsked};
 ghost use Rattle.cable.specs.Line.{IsLine};
-ghost use Rattle.cable.specs.Played.{Downs, Drains, Ends, PlaysLine, PlaysLines, Round, There, Ups, an_item, asks, asks_often, begins, cuts, cuts_there, nothing, opens};
+ghost use Rattle.cable.specs.Played.{Downs, Drains, Ends, PlaysLine, PlaysLines, Round, There, Ups, asks, asks_often, begins, cuts, cuts_there, nothing, opens};
 ghost use Rattle.cable.specs.Wires.{Arrives, At, Gave, IsAt, IsMoved, IsServerAt, Keeps, Reaches, ServerAt, sides_of, wire_of};
 
-use crate::bringing::{ask, connect, cut};
+use crate::MOST_ROUNDS;
+use crate::bringing::{ask, connect, cut, item};
 use crate::carrying::{Most, carry, offer};
 use crate::hearing::{Crossing, Known, hear, meet};
 use crate::script::line::Line;
-use crate::{ITEM_BYTE, MOST_ROUNDS};
 use rs_chunk::Reader;
-use rs_wire::{Blob, Call, Message, OutOfMemory, Side};
+use rs_wire::{Call, OutOfMemory, Side};
 use session_core::Session;
 use std::alloc::Global;
 use std::marker::Model;
@@ -167,21 +167,6 @@ fn cut_there<T: Tape>(server: &mut Session<T>, wire: &Wire) -> Result<(), OutOfM
         Known::Accepted(conn) if server.live() == conn => cut(server, conn),
         _ => Ok(()),
     }
-}
-
-// An item of a line `many`.
-fn item(alloc: Global, stream: u32, size: u32) -> Result<Call, OutOfMemory>
-    ensures { IfOk result (λ call. call ≡ an_item stream size) }
-{
-    let content = Blob::from_vec(vec![in alloc; ITEM_BYTE; size as usize]?);
-    Ok(Call::Next {
-        stream,
-        message: Message {
-            metadata: None,
-            content,
-        },
-        complete: false,
-    })
 }
 
 impl<T: Tape> Cable<T> {

@@ -41,53 +41,33 @@ fn each_line_has_one_text(rt: HostRuntime) -> Result<(), Fail> {
     Ok(())
 }
 
+// Whether the line asks for this.
+fn is_request(line: &Line, wanted: Kind, items: Option<Amount>, last: bool) -> bool {
+    match line {
+        Line::Ask {
+            call: Call::Request {
+                kind,
+                initial,
+                complete,
+                ..
+            },
+            ..
+        } => *kind == wanted && *initial == items && *complete == last,
+        _ => false,
+    }
+}
+
 #[test]
 fn each_request_has_one_text(rt: HostRuntime) -> Result<(), Fail> {
     let text =
-        b"client response 61\nserver stream 1 -\nclient channel 2 61\nclient channel 2147483647 61:62 last";
+        b"client response 61\nserver stream 1 -\nclient channel 2 61:62\nclient channel 3 61 last";
     let script = Script::read(rt.alloc(), text).map_err(|_| Fail::from("the script is right"))?;
     match script.lines() {
-        [
-            Line::Ask {
-                side: Side::Client,
-                call: Call::Request {
-                    kind: Kind::Response,
-                    initial: None,
-                    complete: false,
-                    ..
-                },
-            },
-            Line::Ask {
-                side: Side::Server,
-                call: Call::Request {
-                    kind: Kind::Stream,
-                    initial: Some(one),
-                    complete: false,
-                    ..
-                },
-            },
-            Line::Ask {
-                call: Call::Request {
-                    kind: Kind::Channel,
-                    initial: Some(two),
-                    complete: false,
-                    ..
-                },
-                ..
-            },
-            Line::Ask {
-                call: Call::Request {
-                    kind: Kind::Channel,
-                    initial: Some(most),
-                    message,
-                    complete: true,
-                },
-                ..
-            },
-        ] => {
-            assert!(rt; one.get() == 1 && two.get() == 2 && most.get() == 2_147_483_647);
-            assert!(rt; message.content.as_slice() == b"b".as_slice());
-            assert!(rt; message.metadata.is_some());
+        [response, stream, channel, last] => {
+            assert!(rt; is_request(response, Kind::Response, None, false));
+            assert!(rt; is_request(stream, Kind::Stream, Amount::of(1), false));
+            assert!(rt; is_request(channel, Kind::Channel, Amount::of(2), false));
+            assert!(rt; is_request(last, Kind::Channel, Amount::of(3), true));
         }
         _ => return Err(Fail::from("there are four requests")),
     }
@@ -95,9 +75,8 @@ fn each_request_has_one_text(rt: HostRuntime) -> Result<(), Fail> {
 }
 
 #[test]
-fn each_call_on_a_stream_has_one_text(rt: HostRuntime) -> Result<(), Fail> {
-    let text =
-        b"client next 1 61\nserver last 2 -\nclient done 3\nclient grant 4 5\nclient cancel 6\nclient fail 7 4294967294 6f\nclient take 8\nserver job\nserver many 2147483647 9 16000000";
+fn a_payload_and_an_error_have_one_text(rt: HostRuntime) -> Result<(), Fail> {
+    let text = b"client next 1 61\nserver last 2 -\nclient fail 7 4294967294 6f";
     let script = Script::read(rt.alloc(), text).map_err(|_| Fail::from("the script is right"))?;
     match script.lines() {
         [
@@ -118,6 +97,26 @@ fn each_call_on_a_stream_has_one_text(rt: HostRuntime) -> Result<(), Fail> {
                 },
             },
             Line::Ask {
+                call: Call::Fail {
+                    stream: 7,
+                    code: 4_294_967_294,
+                    content,
+                },
+                ..
+            },
+        ] => assert!(rt; content.as_slice() == b"o".as_slice()),
+        _ => return Err(Fail::from("there are three calls")),
+    }
+    Ok(())
+}
+
+#[test]
+fn calls_that_carry_nothing_have_one_text(rt: HostRuntime) -> Result<(), Fail> {
+    let text = b"client done 3\nclient grant 4 5\nclient cancel 6\nclient take 8";
+    let script = Script::read(rt.alloc(), text).map_err(|_| Fail::from("the script is right"))?;
+    match script.lines() {
+        [
+            Line::Ask {
                 call: Call::Done { stream: 3 },
                 ..
             },
@@ -130,17 +129,21 @@ fn each_call_on_a_stream_has_one_text(rt: HostRuntime) -> Result<(), Fail> {
                 ..
             },
             Line::Ask {
-                call: Call::Fail {
-                    stream: 7,
-                    code: 4_294_967_294,
-                    content,
-                },
-                ..
-            },
-            Line::Ask {
                 call: Call::Take { stream: 8 },
                 ..
             },
+        ] => assert!(rt; five.get() == 5),
+        _ => return Err(Fail::from("there are four calls")),
+    }
+    Ok(())
+}
+
+#[test]
+fn a_job_and_many_items_have_one_text(rt: HostRuntime) -> Result<(), Fail> {
+    let text = b"server job\nserver many 2147483647 9 16000000";
+    let script = Script::read(rt.alloc(), text).map_err(|_| Fail::from("the script is right"))?;
+    match script.lines() {
+        [
             Line::Ask {
                 call: Call::TakeJob,
                 ..
@@ -151,11 +154,8 @@ fn each_call_on_a_stream_has_one_text(rt: HostRuntime) -> Result<(), Fail> {
                 count: nine,
                 size: 16_000_000,
             },
-        ] => {
-            assert!(rt; five.get() == 5 && nine.get() == 9);
-            assert!(rt; content.as_slice() == b"o".as_slice());
-        }
-        _ => return Err(Fail::from("there are nine lines")),
+        ] => assert!(rt; nine.get() == 9),
+        _ => return Err(Fail::from("there are two lines")),
     }
     Ok(())
 }
@@ -195,7 +195,19 @@ fn the_first_wrong_line_is_told(rt: HostRuntime) {
         b"drain 1",
         b"cut 1",
         b" # up 1",
-        b"client",
+    ] {
+        assert_eq!(rt; fault(&rt, text), Some(ScriptFault::Line(1)));
+    }
+    assert_eq!(rt;
+        fault(&rt, b"up 1\nup 2\n\n# up 3\nup 0\nup 0"),
+        Some(ScriptFault::Line(5))
+    );
+}
+
+#[test]
+fn a_call_out_of_the_grammar_is_told(rt: HostRuntime) {
+    for text in [
+        b"client".as_slice(),
         b"client response",
         b"client stream 61",
         b"client stream 0 61",
@@ -233,10 +245,6 @@ fn the_first_wrong_line_is_told(rt: HostRuntime) {
     ] {
         assert_eq!(rt; fault(&rt, text), Some(ScriptFault::Line(1)));
     }
-    assert_eq!(rt;
-        fault(&rt, b"up 1\nup 2\n\n# up 3\nup 0\nup 0"),
-        Some(ScriptFault::Line(5))
-    );
 }
 
 #[test]

@@ -1,4 +1,3 @@
-use Rattle.std.proofs.Common.{List, ℕ, ◌≡◌, ◌++◌, sym, subst}
 use Rattle.std.proofs.lemmas.Bool.Decides.{Decides-eqb}
 use Rattle.std.proofs.lemmas.Slice.Eq.{strip_suffix_is}
 use Rattle.cable.proofs.Spaced.{found, missed}
