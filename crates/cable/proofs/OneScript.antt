@@ -1,6 +1,7 @@
 -- A text is that of one script, and no line of a script is wrong.
 use Rattle.std.proofs.lemmas.Grind.{common_steps}
-use Rattle.std.proofs.Common.{◌≡◌, ℕ, List, [], ◌∷◌, ◌++◌, map, not, Option, Some, None, refl, ap, sym, ◌∙◌, append_assoc, arith}
+use Rattle.std.proofs.Common.{◌<◌, ◌+◌, length, ⊎_elim, ◌≡◌, ℕ, List, [], ◌∷◌, ◌++◌, map, not, Option, Some, None, refl, ap, sym, ◌∙◌, append_assoc, arith}
+use Rattle.std.proofs.lemmas.Bool.{cases_lt}
 use Rattle.std.specs.List.{AllByRecursion}
 use Rattle.std.proofs.lemmas.List.Elements.{filter-append}
 use Rattle.plain_text.proofs.Numbers.{decimal_same}
@@ -114,3 +115,23 @@ right_up_to script lines before after line parts a =
 
 pub none_wrong : (script : Scripted) (lines : List (List ℕ)) (number : ℕ) → AreScript script lines → ¬ (IsFirstWrong lines number)
 none_wrong script lines number a wrong = wrong.wrong (right_up_to script lines wrong.before wrong.after wrong.line wrong.parts a)
+
+longer : (before before' after after' : List (List ℕ)) (line line' : List ℕ) → before ++ line ∷ after ≡ before' ++ line' ∷ after' → length before < length before' → (more : List (List ℕ)) × (before' ≡ before ++ line ∷ more)
+longer [] [] after after' line line' same less = absurd (omega (arith, less))
+longer [] (b ∷ before') after after' line line' same less = let first : line ≡ b = cc in (before', ap (λ (t : List ℕ). t ∷ before') (sym first))
+longer (b ∷ before) [] after after' line line' same less = absurd (omega (arith, less))
+longer (b ∷ before) (c ∷ before') after after' line line' same less =
+    let first : b ≡ c = cc in
+    let rest : before ++ line ∷ after ≡ before' ++ line' ∷ after' = cc in
+    let more = longer before before' after after' line line' rest (omega (arith, less)) in
+    (more.0, cons_is c before' b (before ++ line ∷ more.0) (sym first) more.1)
+
+earlier : (lines : List (List ℕ)) (m n : ℕ) → IsFirstWrong lines m → IsFirstWrong lines n → m < n → ⊥
+earlier lines m n v w less =
+    let more = longer v.before w.before v.after w.after v.line w.line (sym v.parts ∙ w.parts) (omega (arith, less, v.number_is, w.number_is)) in
+    v.wrong (right_up_to w.right.0 w.before v.before more.0 v.line more.1 w.right.1)
+
+-- the first wrong line has one number
+pub one_number : (lines : List (List ℕ)) (m n : ℕ) → IsFirstWrong lines m → IsFirstWrong lines n → m ≡ n
+one_number lines m n v w =
+    ⊎_elim (λ less. absurd (earlier lines m n v w less)) (λ most. ⊎_elim (λ less. absurd (earlier lines n m w v less)) (λ least. omega (arith, most, least)) (cases_lt n m)) (cases_lt m n)

@@ -8,7 +8,9 @@ use Rattle.cable.specs.Line.{IsLine, text_of}
 use Rattle.cable.specs.declared.script.setting.SettingLine.{SettingLine}
 use Rattle.cable.specs.Setting.{IsSettingLine, setting_text}
 use Rattle.cable.specs.Scripted.{Scripted}
-use Rattle.cable.specs.Script.{AreRight, AreScript, IsFault, IsScript, is_passed, kept}
+use Rattle.cable.specs.Script.{IsFault, IsScript}
+use Rattle.cable.proofs.OneScript.{none_wrong}
+use Rattle.plain_text.specs.Lines.{lines_of}
 use Rattle.std.proofs.lemmas.List.Elements.{filter-append}
 use Rattle.capture.specs.declared.lines.BadFrame.{BadFrame}
 use Rattle.capture.specs.Captured.{IsBadAt}
