@@ -81,8 +81,14 @@ fn a_frame_on_a_way_that_is_not_there_changes_nothing(rt: HostRuntime) -> Result
                 Step::Does(Act::Request(Kind::Response, 0, false)),
                 Answer::Did(3),
             ),
+            (
+                Client,
+                Step::Does(Act::Request(Kind::Fnf, 0, false)),
+                Answer::Did(5),
+            ),
             (Client, Step::Comes(Said::Cancel(1)), USED),
             (Client, Step::Comes(Said::Cancel(3)), USED),
+            (Client, Step::Comes(Said::Cancel(5)), IGNORED),
             (Client, Step::Comes(Said::Grant(3, 1)), USED),
             (
                 Client,
@@ -101,7 +107,7 @@ fn a_frame_on_a_way_that_is_not_there_changes_nothing(rt: HostRuntime) -> Result
             (Client, Step::Hears, USED),
             (Client, Step::Takes(1), Answer::Item(1)),
             (Client, Step::Comes(Said::Message(1, false, true)), IGNORED),
-            (Client, Step::Comes(Said::Cancel(5)), IGNORED),
+            (Client, Step::Comes(Said::Cancel(7)), IGNORED),
         ],
     )
 }

@@ -52,7 +52,7 @@ fn another_connection_is_stale(rt: HostRuntime) -> Result<(), Fail> {
         CLIENT,
         &[
             (Step::Draw(1, 9), Answer::Stale(0)),
-            (Step::Odd(1, Strange::Cancel), Answer::Stale(0)),
+            (Step::Odd(1, Strange::Cancel(4)), Answer::Stale(0)),
             (Step::Bad(0, 3), Answer::Stale(0)),
         ],
         &[],
@@ -65,7 +65,7 @@ fn another_connection_is_stale(rt: HostRuntime) -> Result<(), Fail> {
         &[
             (Step::Open, Answer::Opened(1)),
             (Step::Draw(2, 9), Answer::Stale(1)),
-            (Step::Odd(2, Strange::Cancel), Answer::Stale(1)),
+            (Step::Odd(2, Strange::Cancel(4)), Answer::Stale(1)),
             (Step::Bad(0, 3), Answer::Stale(1)),
         ],
         &[],
@@ -161,7 +161,7 @@ fn a_closed_session_refuses_for_its_first_cause(rt: HostRuntime) -> Result<(), F
             (Step::Open, Answer::Opened(1)),
             (Step::Bad(1, 3), Answer::Violation(Rule::BadFrame(3))),
             (Step::Bad(1, 4), Answer::Closed(third)),
-            (Step::Odd(1, Strange::Cancel), Answer::Closed(third)),
+            (Step::Odd(1, Strange::Cancel(4)), Answer::Closed(third)),
             (Step::Open, Answer::Closed(third)),
             (Step::Ask(101), refused_as_closed(third)),
             (Step::Draw(1, 99), Answer::Drawn(93)),

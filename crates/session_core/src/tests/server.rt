@@ -86,7 +86,7 @@ fn play_broken(rt: &impl Abort, alloc: Global, second: Step, rule: Rule) -> Resu
             (Step::Came(3, 2), Answer::Handled),
             (second, Answer::Violation(rule)),
             (Step::Came(5, 0), Answer::Closed(cause)),
-            (Step::Odd(2, Strange::Cancel), Answer::Stale(1)),
+            (Step::Odd(2, Strange::Cancel(4)), Answer::Stale(1)),
         ],
         &[],
         OPENED.after(5, waits).handled(1, 8).closed(cause),
@@ -97,12 +97,13 @@ fn play_broken(rt: &impl Abort, alloc: Global, second: Step, rule: Rule) -> Resu
 fn a_frame_breaks_the_least_rule(rt: HostRuntime) -> Result<(), Fail> {
     for (second, rule) in [
         (Step::Odd(1, Strange::StreamError), Rule::PositionSpent),
-        (Step::Odd(1, Strange::Unknown(0x1FF)), Rule::UnknownType(48)),
+        (Step::Odd(1, Strange::Unknown(48, 0x1FF)), Rule::UnknownType(48)),
         (Step::Odd(1, Strange::Extension(0)), Rule::UnknownType(63)),
         (Step::Odd(1, Strange::Setup), Rule::NotNow),
         (Step::Odd(1, Strange::Response), Rule::StreamId(4)),
         (Step::Odd(1, Strange::Fragment), Rule::NotNow),
         (Step::Came(4, 5), Rule::StreamId(4)),
+        (Step::Came(2, 0), Rule::StreamId(2)),
         (Step::Came(3, 5), Rule::StreamId(3)),
         (Step::Came(1, 5), Rule::StreamId(1)),
         (Step::Came(5, 5), Rule::TooLarge(5)),
@@ -140,7 +141,7 @@ fn a_frame_that_may_be_ignored_is_not_counted(rt: HostRuntime) -> Result<(), Fai
         SERVER,
         &[
             (Step::Opened(First::Good, false), Answer::Opened(1)),
-            (Step::Odd(1, Strange::Unknown(0x200)), Answer::Handled),
+            (Step::Odd(1, Strange::Unknown(48, 0x200)), Answer::Handled),
             (Step::Odd(1, Strange::Extension(0x3FF)), Answer::Handled),
             (Step::Came(1, 2), Answer::Handled),
         ],

@@ -21,15 +21,20 @@ pub enum First {
     Other,
 }
 
-/// A frame that is no request that an end takes. Those of a stream name stream 4.
+/// A frame that is no request that an end takes. Those that name no stream of their own are on stream
+/// 4.
 #[derive(Clone, Copy, Debug)]
 pub enum Strange {
-    /// CANCEL.
-    Cancel,
+    /// CANCEL on a stream.
+    Cancel(u32),
+    /// REQUEST_N of 1 on a stream.
+    Grant(u32),
+    /// PAYLOAD with N on a stream, without bytes.
+    Item(u32),
     /// An ERROR on a stream.
     StreamError,
-    /// A frame of type 0x30, which the standard does not have, with these flags.
-    Unknown(u16),
+    /// A frame of a type that the standard does not have, with these flags.
+    Unknown(u8, u16),
     /// An extension, with these flags.
     Extension(u16),
     /// A SETUP after the first frame.
@@ -63,6 +68,10 @@ pub enum Step {
     CameWith(u32, usize, usize),
     /// A fire-and-forget of this many bytes is asked for.
     Ask(usize),
+    /// A response is asked for, without bytes.
+    AskResponse,
+    /// A stream with this initial n is asked for, without bytes.
+    AskStream(u32),
     /// The same with metadata of so many bytes more.
     AskWith(usize, usize),
     /// The session is to be closed.
@@ -132,15 +141,26 @@ fn request(stream: u32, kind: Kind, follows: bool, message: Message) -> Frame {
 
 fn strange_frame(alloc: Global, strange: Strange) -> Result<Frame, Fail> {
     match strange {
-        Strange::Cancel => Ok(Frame::Cancel { stream: 4 }),
+        Strange::Cancel(stream) => Ok(Frame::Cancel { stream }),
+        Strange::Grant(stream) => Ok(Frame::RequestN {
+            stream,
+            n: Amount::of(1).ok_or("an amount")?,
+        }),
+        Strange::Item(stream) => Ok(Frame::Payload {
+            stream,
+            follows: false,
+            complete: false,
+            next: true,
+            message: message(alloc, 0)?,
+        }),
         Strange::StreamError => Ok(Frame::Error {
             stream: 4,
             code: 0x201,
             content: empty(alloc),
         }),
-        Strange::Unknown(flags) => Ok(Frame::Unknown {
+        Strange::Unknown(number, flags) => Ok(Frame::Unknown {
             stream: 4,
-            number: 0x30,
+            number,
             flags,
             rest: empty(alloc),
         }),
@@ -156,10 +176,10 @@ fn strange_frame(alloc: Global, strange: Strange) -> Result<Frame, Fail> {
     }
 }
 
-fn ask(message: Message) -> Event {
+fn ask(kind: Kind, n: u32, message: Message) -> Event {
     Event::Asked(Call::Request {
-        kind: Kind::Fnf,
-        initial: None,
+        kind,
+        initial: Amount::of(n),
         message,
         complete: false,
     })
@@ -202,8 +222,12 @@ impl Step {
                 let message = with_metadata(alloc, len, metadata)?;
                 Ok(came(1, request(stream, Kind::Fnf, false, message)))
             }
-            Step::Ask(len) => Ok(ask(message(alloc, len)?)),
-            Step::AskWith(len, metadata) => Ok(ask(with_metadata(alloc, len, metadata)?)),
+            Step::Ask(len) => Ok(ask(Kind::Fnf, 0, message(alloc, len)?)),
+            Step::AskWith(len, metadata) => {
+                Ok(ask(Kind::Fnf, 0, with_metadata(alloc, len, metadata)?))
+            }
+            Step::AskResponse => Ok(ask(Kind::Response, 0, message(alloc, 0)?)),
+            Step::AskStream(n) => Ok(ask(Kind::Stream, n, message(alloc, 0)?)),
             Step::Close => Ok(Event::Asked(Call::Close)),
         }
     }
