@@ -10,7 +10,7 @@ use super::step::Answer;
 use crate::Streams;
 use rs_wire::{Call, Kind, Settings, Side, check, is_stream_code};
 use std::alloc::Global;
-use std::test::Fail;
+use std::process::Abort;
 use stream_model::{Arrival, Effect};
 
 /// The streams of an end, and how many steps were done on them at most.
@@ -91,73 +91,71 @@ fn stream_of(what: &Arrival) -> u32
 
 impl End {
     /// An end on which nothing happened.
-    pub fn new(alloc: Global, side: Side, max_streams: u32, last_id: u32) -> Result<End, Fail> {
-        let mut settings = Settings::usual(alloc, side)?;
+    pub fn new(rt: &impl Abort, alloc: Global, side: Side, max_streams: u32, last_id: u32) -> End {
+        let mut settings = Settings::usual(alloc, side).expect(rt, "there is memory");
         settings.max_streams = max_streams;
         settings.last_id = last_id;
-        let Ok(checked) = check(settings) else {
-            return Err(Fail::from("the settings are right"));
-        };
-        Ok(End {
-            streams: Streams::new(alloc, &checked)?,
+        let checked = check(settings).expect(rt, "the settings are right");
+        End {
+            streams: Streams::new(alloc, &checked).expect(rt, "there is memory"),
             steps: 0,
-        })
+        }
     }
 
     // One step more. There are few, so what was granted leaves room for more.
-    fn count(&mut self) -> Result<(), Fail>
+    fn count(&mut self)
+        requires { self.old.steps < 2 ^ 60 }
         ensures streams { self.new.streams ≡ self.old.streams }
-        ensures few { OnOk result (length self.new.streams.marks < self.new.steps) }
-        ensures grants { OnOk result ((s : ℕ) → MayGrant ((known_to self.new.streams).kept s)) }
+        ensures few { length self.new.streams.marks < self.new.steps }
+        ensures grants { (s : ℕ) → MayGrant ((known_to self.new.streams).kept s) }
     {
         self.streams.fair();
-        if self.steps >= 1 << 60 {
-            return Err(Fail::from("there are few steps"));
-        }
         self.steps += 1;
-        Ok(())
+    }
+
+    // One step more, of few.
+    fn step(&mut self, rt: &impl Abort)
+        ensures streams { self.new.streams ≡ self.old.streams }
+        ensures few { length self.new.streams.marks < self.new.steps }
+        ensures grants { (s : ℕ) → MayGrant ((known_to self.new.streams).kept s) }
+    {
+        assert!(rt; self.steps < 1 << 60, "there are few steps");
+        self.count();
     }
 
     /// A call acts, or is refused.
-    pub fn act(&mut self, call: &Call) -> Result<Answer, Fail> {
+    pub fn act(&mut self, rt: &impl Abort, call: &Call) -> Answer {
         if let Err(refusal) = self.streams.judge(call) {
-            return Ok(Answer::Refused(refusal));
+            return Answer::Refused(refusal);
         }
-        if !is_act(call) {
-            return Err(Fail::from("the call can act"));
-        }
-        self.count()?;
-        Ok(Answer::Did(self.streams.act(call)?))
+        assert!(rt; is_act(call), "the call can act");
+        self.step(rt);
+        Answer::Did(self.streams.act(call).expect(rt, "there is memory"))
     }
 
     /// What the peer says has its effect.
-    pub fn hear(&mut self, what: Arrival) -> Result<Effect, Fail> {
-        if !can_arrive(&what) {
-            return Err(Fail::from("the arrival can come"));
-        }
-        self.count()?;
-        self.streams.reserve(stream_of(&what))?;
-        Ok(self.streams.arrive(what))
+    pub fn hear(&mut self, rt: &impl Abort, what: Arrival) -> Effect {
+        assert!(rt; can_arrive(&what), "the arrival can come");
+        self.step(rt);
+        self.streams
+            .reserve(stream_of(&what))
+            .expect(rt, "there is memory");
+        self.streams.arrive(what)
     }
 
-    /// Takes what waits on a stream, or tells why nothing is to come.
-    pub fn take(&mut self, stream: u32) -> Result<Answer, Fail> {
-        if let Err(refusal) = self.streams.judge(&Call::Take { stream }) {
-            return Ok(Answer::Refused(refusal));
+    /// Takes what waits on a stream, or says why nothing is to come.
+    pub fn take(&mut self, rt: &impl Abort, stream: u32) -> Answer {
+        let judged = self.streams.judge(&Call::Take { stream });
+        if let Err(refusal) = judged {
+            return Answer::Refused(refusal);
         }
-        self.count()?;
-        match self.streams.take(stream) {
-            None => Ok(Answer::Nothing),
-            Some(delivery) => Ok(Answer::taken(&delivery)),
-        }
+        self.step(rt);
+        Answer::taken(&self.streams.take(stream))
     }
 
     /// Takes the job that waits first.
-    pub fn take_job(&mut self) -> Result<Answer, Fail> {
-        self.count()?;
-        match self.streams.take_job() {
-            None => Ok(Answer::Nothing),
-            Some(job) => Ok(Answer::job(&job)),
-        }
+    pub fn take_job(&mut self, rt: &impl Abort) -> Answer {
+        self.step(rt);
+        Answer::job(&self.streams.take_job())
     }
 }

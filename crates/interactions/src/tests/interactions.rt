@@ -4,13 +4,12 @@ use super::play::play;
 use super::step::{Act, Answer, Step};
 use rs_wire::Side::{Client, Server};
 use rs_wire::{Kind, Refusal, Way};
-use std::test::Fail;
 use stream_model::Effect;
 
 const USED: Answer = Answer::Had(Effect::Used);
 
 #[test]
-fn a_third_item_of_two_has_no_credit(rt: HostRuntime) -> Result<(), Fail> {
+fn a_third_item_of_two_has_no_credit(rt: HostRuntime) {
     play(
         &rt,
         rt.alloc(),
@@ -51,11 +50,11 @@ fn a_third_item_of_two_has_no_credit(rt: HostRuntime) -> Result<(), Fail> {
                 Answer::Credit(Some((3, 0))),
             ),
         ],
-    )
+    );
 }
 
 #[test]
-fn a_channel_ends_with_both_of_its_ways(rt: HostRuntime) -> Result<(), Fail> {
+fn a_channel_ends_with_both_of_its_ways(rt: HostRuntime) {
     play(
         &rt,
         rt.alloc(),
@@ -81,11 +80,11 @@ fn a_channel_ends_with_both_of_its_ways(rt: HostRuntime) -> Result<(), Fail> {
             (Client, Step::Takes(1), Answer::Complete),
             (Client, Step::Takes(1), Answer::Refused(Refusal::Ended)),
         ],
-    )
+    );
 }
 
 #[test]
-fn cancel_drops_waiting_items(rt: HostRuntime) -> Result<(), Fail> {
+fn cancel_drops_waiting_items(rt: HostRuntime) {
     play(
         &rt,
         rt.alloc(),
@@ -111,11 +110,11 @@ fn cancel_drops_waiting_items(rt: HostRuntime) -> Result<(), Fail> {
                 Answer::Refused(Refusal::Ended),
             ),
         ],
-    )
+    );
 }
 
 #[test]
-fn one_payload_answers_a_response(rt: HostRuntime) -> Result<(), Fail> {
+fn one_payload_answers_a_response(rt: HostRuntime) {
     play(
         &rt,
         rt.alloc(),
@@ -154,11 +153,11 @@ fn one_payload_answers_a_response(rt: HostRuntime) -> Result<(), Fail> {
             (Client, Step::Takes(1), Answer::Complete),
             (Client, Step::Takes(1), Answer::Refused(Refusal::Ended)),
         ],
-    )
+    );
 }
 
 #[test]
-fn an_error_ends_a_response(rt: HostRuntime) -> Result<(), Fail> {
+fn an_error_ends_a_response(rt: HostRuntime) {
     play(
         &rt,
         rt.alloc(),
@@ -174,11 +173,11 @@ fn an_error_ends_a_response(rt: HostRuntime) -> Result<(), Fail> {
             (Client, Step::Takes(1), Answer::Error(513, 2)),
             (Client, Step::Takes(1), Answer::Refused(Refusal::Ended)),
         ],
-    )
+    );
 }
 
 #[test]
-fn a_responder_cancels_the_request_way_alone(rt: HostRuntime) -> Result<(), Fail> {
+fn a_responder_cancels_the_request_way_alone(rt: HostRuntime) {
     play(
         &rt,
         rt.alloc(),
@@ -200,11 +199,11 @@ fn a_responder_cancels_the_request_way_alone(rt: HostRuntime) -> Result<(), Fail
             (Server, Step::Takes(1), Answer::Refused(Refusal::Ended)),
             (Server, Step::Does(Act::Next(1, false)), Answer::Did(1)),
         ],
-    )
+    );
 }
 
 #[test]
-fn a_responder_grants_on_a_channel_alone(rt: HostRuntime) -> Result<(), Fail> {
+fn a_responder_grants_on_a_channel_alone(rt: HostRuntime) {
     play(
         &rt,
         rt.alloc(),
@@ -245,5 +244,5 @@ fn a_responder_grants_on_a_channel_alone(rt: HostRuntime) -> Result<(), Fail> {
                 Answer::Credit(None),
             ),
         ],
-    )
+    );
 }

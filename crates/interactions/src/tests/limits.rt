@@ -7,13 +7,12 @@ use rs_wire::Side::{Client, Server};
 use rs_wire::{Kind, Refusal, Rule, Way};
 use std::alloc::Global;
 use std::process::Abort;
-use std::test::Fail;
 use stream_model::Effect;
 
 const USED: Answer = Answer::Had(Effect::Used);
 
 #[test]
-fn a_refused_request_uses_no_id(rt: HostRuntime) -> Result<(), Fail> {
+fn a_refused_request_uses_no_id(rt: HostRuntime) {
     let stream = Step::Does(Act::Request(Kind::Stream, 1, false));
     play_within(
         &rt,
@@ -37,11 +36,11 @@ fn a_refused_request_uses_no_id(rt: HostRuntime) -> Result<(), Fail> {
             (Server, Step::Does(Act::Cancel(4)), Answer::Did(4)),
             (Server, stream, Answer::Refused(Refusal::IdsGone)),
         ],
-    )
+    );
 }
 
 #[test]
-fn a_whole_fire_and_forget_finds_its_place(rt: HostRuntime) -> Result<(), Fail> {
+fn a_whole_fire_and_forget_finds_its_place(rt: HostRuntime) {
     play_within(
         &rt,
         rt.alloc(),
@@ -76,11 +75,11 @@ fn a_whole_fire_and_forget_finds_its_place(rt: HostRuntime) -> Result<(), Fail> 
             (Server, Step::TakesJob, Answer::Job(7, Kind::Fnf, 0, false)),
             (Server, Step::TakesJob, Answer::Nothing),
         ],
-    )
+    );
 }
 
 #[test]
-fn an_item_that_was_not_granted_changes_nothing(rt: HostRuntime) -> Result<(), Fail> {
+fn an_item_that_was_not_granted_changes_nothing(rt: HostRuntime) {
     play_within(
         &rt,
         rt.alloc(),
@@ -104,40 +103,48 @@ fn an_item_that_was_not_granted_changes_nothing(rt: HostRuntime) -> Result<(), F
             (Client, Step::Comes(Said::Message(1, true, false)), USED),
             (Client, Step::Takes(1), Answer::Complete),
         ],
-    )
+    );
+}
+
+// A call acts at an end, or is refused.
+fn does(rt: &impl Abort, alloc: Global, end: &mut End, act: Act) -> Answer {
+    end.act(rt, &act.call(rt, alloc))
 }
 
 #[test]
-fn the_largest_grants_add_up(rt: HostRuntime) -> Result<(), Fail> {
+fn the_largest_grants_add_up(rt: HostRuntime) {
+    let alloc = rt.alloc();
     let most = 2_147_483_647;
-    let mut end = End::new(rt.alloc(), Client, 1, 9)?;
-    end.act(&Act::Request(Kind::Stream, most, false).call(rt.alloc())?)?;
+    let mut end = End::new(&rt, alloc, Client, 1, 9);
+    does(
+        &rt,
+        alloc,
+        &mut end,
+        Act::Request(Kind::Stream, most, false),
+    );
     for _ in 0..1_000 {
-        end.act(&Act::Grant(1, most).call(rt.alloc())?)?;
+        does(&rt, alloc, &mut end, Act::Grant(1, most));
     }
     let granted = 2_149_631_130_647;
-    assert_eq!(rt; end.streams.credit(1, Way::Reply), Some((granted, granted)));
-    Ok(())
+    assert!(rt; end.streams.credit(1, Way::Reply) == Some((granted, granted)));
 }
 
 // A response from its request to its last delivery.
-fn respond(rt: &impl Abort, alloc: Global, end: &mut End, stream: u32) -> Result<(), Fail> {
-    let did = end.act(&Act::Request(Kind::Response, 0, false).call(alloc)?)?;
-    assert_eq!(rt; did, Answer::Did(stream));
-    end.hear(Said::Message(stream, true, true).arrival(alloc)?)?;
-    assert_eq!(rt; end.take(stream)?, Answer::Item(1));
-    assert_eq!(rt; end.take(stream)?, Answer::Complete);
-    Ok(())
+fn respond(rt: &impl Abort, alloc: Global, end: &mut End, stream: u32) {
+    let did = does(rt, alloc, end, Act::Request(Kind::Response, 0, false));
+    assert!(rt; did == Answer::Did(stream));
+    end.hear(rt, Said::Message(stream, true, true).arrival(rt, alloc));
+    assert!(rt; end.take(rt, stream) == Answer::Item(1));
+    assert!(rt; end.take(rt, stream) == Answer::Complete);
 }
 
 #[test]
-fn many_short_streams_leave_nothing(rt: HostRuntime) -> Result<(), Fail> {
-    let mut end = End::new(rt.alloc(), Client, 1, 2_147_483_647)?;
+fn many_short_streams_leave_nothing(rt: HostRuntime) {
+    let mut end = End::new(&rt, rt.alloc(), Client, 1, 2_147_483_647);
     for n in 0..100_000_u32 {
-        respond(&rt, rt.alloc(), &mut end, 2 * n + 1)?;
+        respond(&rt, rt.alloc(), &mut end, 2 * n + 1);
     }
-    assert_eq!(rt; end.streams.live(), 0);
-    assert_eq!(rt; end.streams.highest(Client), 199_999);
-    assert_eq!(rt; end.streams.next_id(), Some(200_001));
-    Ok(())
+    assert!(rt; end.streams.live() == 0);
+    assert!(rt; end.streams.highest(Client) == 199_999);
+    assert!(rt; end.streams.next_id() == Some(200_001));
 }

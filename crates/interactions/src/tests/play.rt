@@ -1,39 +1,58 @@
 //! Plays a list of steps on the streams of two ends, and compares each answer.
 
 use super::end::End;
-use super::step::{Answer, Said, Step};
+use super::step::{Act, Answer, Said, Step};
 use rs_wire::Side;
 use std::alloc::Global;
 use std::collections::VecDeque;
 use std::process::Abort;
-use std::test::Fail;
 
-/// The answer of an end to a step. What it says goes into `out`, and what it hears comes from
-/// `into`.
-fn answer(
-    alloc: Global,
-    end: &mut End,
-    out: &mut VecDeque<Said>,
-    into: &mut VecDeque<Said>,
-    step: Step,
-) -> Result<Answer, Fail> {
-    match step {
-        Step::Does(act) => {
-            let answer = end.act(&act.call(alloc)?)?;
-            if let Answer::Did(stream) = answer {
-                out.push_back(act.said(stream))?;
-            }
-            Ok(answer)
+/// An end, and what the other one said that did not come yet.
+#[derive(Drop)]
+struct Place {
+    end: End,
+    under_way: VecDeque<Said>,
+}
+
+impl Place {
+    fn new(rt: &impl Abort, alloc: Global, side: Side, max_streams: u32, last_id: u32) -> Place {
+        Place {
+            end: End::new(rt, alloc, side, max_streams, last_id),
+            under_way: VecDeque::new(alloc),
         }
-        Step::Hears => match into.pop_front() {
-            None => Err(Fail::from("something is under way")),
-            Some(said) => Ok(Answer::Had(end.hear(said.arrival(alloc)?)?)),
-        },
-        Step::Comes(said) => Ok(Answer::Had(end.hear(said.arrival(alloc)?)?)),
-        Step::Takes(stream) => end.take(stream),
-        Step::TakesJob => end.take_job(),
-        Step::TellsState(stream) => Ok(Answer::State(end.streams.state(stream))),
-        Step::TellsCredit(stream, way) => Ok(Answer::Credit(end.streams.credit(stream, way))),
+    }
+
+    // A call acts. What it says is under way to the other end then.
+    fn does(&mut self, rt: &impl Abort, alloc: Global, other: &mut Place, act: Act) -> Answer {
+        let answer = self.end.act(rt, &act.call(rt, alloc));
+        if let Answer::Did(stream) = answer {
+            let said = act.said(stream);
+            other
+                .under_way
+                .push_back(said)
+                .expect(rt, "there is memory");
+        }
+        answer
+    }
+
+    fn hears(&mut self, rt: &impl Abort, alloc: Global, said: Said) -> Answer {
+        Answer::Had(self.end.hear(rt, said.arrival(rt, alloc)))
+    }
+
+    // The answer to a step.
+    fn answer(&mut self, rt: &impl Abort, alloc: Global, other: &mut Place, step: Step) -> Answer {
+        match step {
+            Step::Does(act) => self.does(rt, alloc, other, act),
+            Step::Hears => {
+                let said = self.under_way.pop_front().expect(rt, "it was said");
+                self.hears(rt, alloc, said)
+            }
+            Step::Comes(said) => self.hears(rt, alloc, said),
+            Step::Takes(stream) => self.end.take(rt, stream),
+            Step::TakesJob => self.end.take_job(rt),
+            Step::TellsState(stream) => Answer::State(self.end.streams.state(stream)),
+            Step::TellsCredit(stream, way) => Answer::Credit(self.end.streams.credit(stream, way)),
+        }
     }
 }
 
@@ -46,22 +65,22 @@ pub fn play_within(
     max_streams: u32,
     last_id: u32,
     steps: &[(Side, Step, Answer)],
-) -> Result<(), Fail> {
-    let mut client = End::new(alloc, Side::Client, max_streams, last_id)?;
-    let mut server = End::new(alloc, Side::Server, max_streams, last_id)?;
-    let mut to_client = VecDeque::new(alloc);
-    let mut to_server = VecDeque::new(alloc);
-    for (side, step, expected) in steps {
+) {
+    let mut client = Place::new(rt, alloc, Side::Client, max_streams, last_id);
+    let mut server = Place::new(rt, alloc, Side::Server, max_streams, last_id);
+    for (number, (side, step, expected)) in steps.iter().enumerate() {
         let given = match side {
-            Side::Client => answer(alloc, &mut client, &mut to_server, &mut to_client, *step)?,
-            Side::Server => answer(alloc, &mut server, &mut to_client, &mut to_server, *step)?,
+            Side::Client => client.answer(rt, alloc, &mut server, *step),
+            Side::Server => server.answer(rt, alloc, &mut client, *step),
         };
-        assert_eq!(rt; given, *expected, "to {step:?} at the {side:?}");
+        assert!(rt;
+            given == *expected,
+            "step {number}, counted from 0, at the {side:?}"
+        );
     }
-    Ok(())
 }
 
 /// The same with room for 256 streams, and all ids.
-pub fn play(rt: &impl Abort, alloc: Global, steps: &[(Side, Step, Answer)]) -> Result<(), Fail> {
-    play_within(rt, alloc, 256, 2_147_483_647, steps)
+pub fn play(rt: &impl Abort, alloc: Global, steps: &[(Side, Step, Answer)]) {
+    play_within(rt, alloc, 256, 2_147_483_647, steps);
 }

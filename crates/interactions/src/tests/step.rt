@@ -2,11 +2,11 @@
 
 use rs_wire::{Amount, Blob, Call, Delivery, Job, Kind, Message, Refusal, Way};
 use std::alloc::Global;
-use std::test::Fail;
+use std::process::Abort;
 use stream_model::{Arrival, Effect, State};
 
 /// What a caller of an end does. A payload, also that of a request, has one byte.
-#[derive(Clone, Copy, Debug)]
+#[derive(Clone, Copy)]
 pub enum Act {
     /// Makes a request: its kind, its initial n, 0 for none, and whether nothing more follows.
     Request(Kind, u32, bool),
@@ -23,7 +23,7 @@ pub enum Act {
 }
 
 /// What an end says to the other one.
-#[derive(Clone, Copy, Debug)]
+#[derive(Clone, Copy)]
 pub enum Said {
     /// A request on a stream, its kind, its initial n, 0 for none, and whether nothing more
     /// follows, or none where fragments follow.
@@ -39,7 +39,7 @@ pub enum Said {
 }
 
 /// What is done at an end.
-#[derive(Clone, Copy, Debug)]
+#[derive(Clone, Copy)]
 pub enum Step {
     /// Its caller acts.
     Does(Act),
@@ -58,7 +58,7 @@ pub enum Step {
 }
 
 /// The answer to a step.
-#[derive(Clone, Copy, Debug, PartialEq, Eq)]
+#[derive(Clone, Copy, PartialEq, Eq)]
 pub enum Answer {
     /// The call acted on this stream.
     Did(u32),
@@ -84,15 +84,15 @@ pub enum Answer {
     Credit(Option<(u128, u128)>),
 }
 
-fn message(alloc: Global) -> Result<Message, Fail> {
-    Ok(Message {
-        metadata: None,
-        content: Blob::from_slice(alloc, b"b")?,
-    })
+fn bytes(rt: &impl Abort, alloc: Global, text: &str) -> Blob {
+    Blob::from_slice(alloc, text.as_bytes()).expect(rt, "there is memory")
 }
 
-fn amount(n: u32) -> Result<Amount, Fail> {
-    Ok(Amount::of(n).ok_or("an amount")?)
+fn message(rt: &impl Abort, alloc: Global) -> Message {
+    Message {
+        metadata: None,
+        content: bytes(rt, alloc, "b"),
+    }
 }
 
 fn number(initial: Option<Amount>) -> u32 {
@@ -104,31 +104,31 @@ fn number(initial: Option<Amount>) -> u32 {
 
 impl Act {
     /// The call.
-    pub fn call(self, alloc: Global) -> Result<Call, Fail> {
-        Ok(match self {
+    pub fn call(self, rt: &impl Abort, alloc: Global) -> Call {
+        match self {
             Act::Request(kind, n, complete) => Call::Request {
                 kind,
                 initial: Amount::of(n),
-                message: message(alloc)?,
+                message: message(rt, alloc),
                 complete,
             },
             Act::Next(stream, complete) => Call::Next {
                 stream,
-                message: message(alloc)?,
+                message: message(rt, alloc),
                 complete,
             },
             Act::Done(stream) => Call::Done { stream },
             Act::Grant(stream, n) => Call::Grant {
                 stream,
-                n: amount(n)?,
+                n: Amount::of(n).expect(rt, "an amount"),
             },
             Act::Cancel(stream) => Call::Cancel { stream },
             Act::Fail(stream) => Call::Fail {
                 stream,
                 code: 513,
-                content: Blob::from_slice(alloc, b"oo")?,
+                content: bytes(rt, alloc, "oo"),
             },
-        })
+        }
     }
 
     /// What the peer is said by it, on that stream.
@@ -146,57 +146,62 @@ impl Act {
 
 impl Said {
     /// The arrival at the other end.
-    pub fn arrival(self, alloc: Global) -> Result<Arrival, Fail> {
-        Ok(match self {
+    pub fn arrival(self, rt: &impl Abort, alloc: Global) -> Arrival {
+        match self {
             Said::Request(stream, kind, n, whole) => Arrival::Asked {
                 stream,
                 kind,
                 initial: Amount::of(n),
                 whole: match whole {
                     None => None,
-                    Some(complete) => Some((message(alloc)?, complete)),
+                    Some(complete) => Some((message(rt, alloc), complete)),
                 },
             },
             Said::Message(stream, complete, next) => Arrival::Whole {
                 stream,
-                message: message(alloc)?,
+                message: message(rt, alloc),
                 complete,
                 next,
             },
             Said::Grant(stream, n) => Arrival::Granted {
                 stream,
-                n: amount(n)?,
+                n: Amount::of(n).expect(rt, "an amount"),
             },
             Said::Cancel(stream) => Arrival::Canceled { stream },
             Said::Fail(stream) => Arrival::Failed {
                 stream,
                 code: 513,
-                content: Blob::from_slice(alloc, b"oo")?,
+                content: bytes(rt, alloc, "oo"),
             },
-        })
+        }
     }
 }
 
 impl Answer {
     /// What was taken of a stream.
-    pub fn taken(delivery: &Delivery) -> Answer {
+    pub fn taken(delivery: &Option<Delivery>) -> Answer {
         match delivery {
-            Delivery::Item(message) => Answer::Item(message.content.len()),
-            Delivery::Complete => Answer::Complete,
-            Delivery::Error { code, content } => Answer::Error(*code, content.len()),
-            Delivery::Canceled => Answer::Canceled,
+            None => Answer::Nothing,
+            Some(Delivery::Item(message)) => Answer::Item(message.content.len()),
+            Some(Delivery::Complete) => Answer::Complete,
+            Some(Delivery::Error { code, content }) => Answer::Error(*code, content.len()),
+            Some(Delivery::Canceled) => Answer::Canceled,
         }
     }
 
     /// The job that was taken.
-    pub fn job(job: &Job) -> Answer {
-        let Job::Asked {
-            stream,
-            kind,
-            initial,
-            complete,
-            ..
-        } = job;
-        Answer::Job(*stream, *kind, number(*initial), *complete)
+    pub fn job(job: &Option<Job>) -> Answer {
+        match job {
+            None => Answer::Nothing,
+            Some(
+                Job::Asked {
+                    stream,
+                    kind,
+                    initial,
+                    complete,
+                    ..
+                },
+            ) => Answer::Job(*stream, *kind, number(*initial), *complete),
+        }
     }
 }

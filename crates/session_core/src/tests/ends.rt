@@ -2,8 +2,7 @@
 
 use super::play::{Limits, Shown};
 use crate::Counts;
-use rs_wire::{Cause, Refusal, Side};
-use tape::Answer;
+use rs_wire::Side;
 
 /// A client whose messages have 100 bytes at most, up to stream 3 and position 16.
 pub const CLIENT: Limits = Limits {
@@ -83,8 +82,3 @@ pub const SETUP: &[u8] = b"\
 /// The ERROR that closes a session, without content, after its length of 10: stream 0, type 11, code
 /// 0x101.
 pub const CLOSING: &[u8] = b"\x00\x00\x0a\x00\x00\x00\x00\x2c\x00\x00\x00\x01\x01";
-
-/// A call is refused, since the session is closed for this cause.
-pub fn refused_as_closed(cause: Cause) -> Answer {
-    Answer::Refused(Refusal::Closed(cause))
-}

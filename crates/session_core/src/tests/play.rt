@@ -12,7 +12,6 @@ use rs_frame::spellable;
 use rs_wire::{Call, Cause, Kind, Settings, Side, check, is_stream_code};
 use std::alloc::Global;
 use std::process::Abort;
-use std::test::Fail;
 use tape::{Answer, Event, Kept, Tape};
 
 /// What an end is set to. It may queue 16,778,239 bytes.
@@ -102,22 +101,20 @@ impl Shown {
 }
 
 /// A session that is not begun.
-pub fn session(alloc: Global, limits: Limits) -> Result<Session<Kept>, Fail> {
-    let mut settings = Settings::usual(alloc, limits.side)?;
+pub fn session(rt: &impl Abort, alloc: Global, limits: Limits) -> Session<Kept> {
+    let mut settings = Settings::usual(alloc, limits.side).expect(rt, "there is memory");
     settings.hold = 0;
     settings.slack = 0;
     settings.max_payload = limits.max_payload;
     settings.max_streams = limits.max_streams;
     settings.last_id = limits.last_id;
     settings.top_position = limits.top_position;
-    let Ok(checked) = check(settings) else {
-        return Err(Fail::from("the settings are right"));
-    };
+    let checked = check(settings).expect(rt, "the settings are right");
     // The contract of this call says that the limits are in their ranges, as a session requires.
     let _limits = checked.settings();
     match Session::new(alloc, checked, Kept::new(alloc)) {
-        Ok(session) => Ok(session),
-        Err(_) => Err(Fail::from("there is memory")),
+        Ok(session) => session,
+        Err(_) => panic!(rt; "there is memory"),
     }
 }
 
@@ -160,44 +157,56 @@ fn is_act(settings: &Settings, event: &Event) -> bool
 }
 
 /// The answer to an event that can happen.
-pub fn act(session: &mut Session<Kept>, event: &Event) -> Result<Answer, Fail> {
-    if !is_act(session.settings().settings(), event) {
-        return Err(Fail::from("the event can happen"));
-    }
-    Ok(session.step(1, event))
+pub fn act(rt: &impl Abort, session: &mut Session<Kept>, event: &Event) -> Answer {
+    assert!(rt;
+        is_act(session.settings().settings(), event),
+        "the event can happen"
+    );
+    session.step(1, event)
 }
 
-/// The answer to a draw. The bytes drawn are appended to those sent.
-pub fn draw(
+// The answer to a draw. The bytes drawn are appended to those sent.
+fn draw(
+    rt: &impl Abort,
     alloc: Global,
     session: &mut Session<Kept>,
     conn: u64,
     room: u32,
     sent: &mut Vec<u8>,
-) -> Result<Answer, Fail> {
+) -> Answer {
     let mut buffer = Vec::new(alloc);
-    buffer.resize(room as usize, 0)?;
-    if buffer.is_empty() || buffer.len() >= 1 << 32 {
-        return Err(Fail::from("there is room for 1 byte to 4,294,967,295"));
-    }
+    buffer
+        .resize(room as usize, 0)
+        .expect(rt, "there is memory");
+    assert!(rt;
+        !buffer.is_empty() && buffer.len() < 1 << 32,
+        "a buffer has 1 byte to 4 GiB"
+    );
     let answer = session.draw(1, conn, buffer.as_mut_slice());
     if let Answer::Drawn(n) = &answer {
         buffer.truncate(*n as usize);
-        sent.extend_from_slice(buffer.as_slice())?;
+        sent.extend_from_slice(buffer.as_slice())
+            .expect(rt, "there is memory");
     }
-    Ok(answer)
+    answer
 }
 
 fn answer(
+    rt: &impl Abort,
     alloc: Global,
     session: &mut Session<Kept>,
     step: Step,
     sent: &mut Vec<u8>,
-) -> Result<Answer, Fail> {
+) -> Answer {
     match step {
-        Step::Draw(conn, room) => draw(alloc, session, conn, room, sent),
-        _ => act(session, &step.event(alloc)?),
+        Step::Draw(conn, room) => draw(rt, alloc, session, conn, room, sent),
+        _ => act(rt, session, &step.event(rt, alloc)),
     }
+}
+
+/// How an answer is written.
+pub fn text(rt: &impl Abort, alloc: Global, answer: &Answer) -> String {
+    format!(in alloc; "{answer:?}").expect(rt, "there is memory")
 }
 
 fn show(session: &Session<Kept>) -> Shown {
@@ -217,33 +226,37 @@ fn show(session: &Session<Kept>) -> Shown {
 }
 
 // The pieces, one after another.
-fn joined(alloc: Global, pieces: &[&[u8]]) -> Result<Vec<u8>, Fail> {
+fn joined(rt: &impl Abort, alloc: Global, pieces: &[&[u8]]) -> Vec<u8> {
     let mut bytes = Vec::new(alloc);
     for piece in pieces {
-        bytes.extend_from_slice(piece)?;
+        bytes.extend_from_slice(piece).expect(rt, "there is memory");
     }
-    Ok(bytes)
+    bytes
 }
 
-/// Plays the steps one after another on a new session of these limits. Each has the answer that
-/// stands beside it; at the end the bytes drawn are the pieces, and the session shows what is given.
+/// Plays the steps one after another on a new session of these limits. Each has the answer whose
+/// text stands beside it; at the end the bytes drawn are the pieces, and the session shows what is
+/// given.
 pub fn play(
     rt: &impl Abort,
     alloc: Global,
     limits: Limits,
-    steps: &[(Step, Answer)],
+    steps: &[(Step, &str)],
     pieces: &[&[u8]],
     at_end: Shown,
-) -> Result<(), Fail> {
-    let mut session = session(alloc, limits)?;
+) {
+    let mut session = session(rt, alloc, limits);
     let mut sent = Vec::new(alloc);
-    for (step, expected) in steps {
-        let given = answer(alloc, &mut session, *step, &mut sent)?;
-        assert_eq!(rt; given, *expected, "to {step:?}");
+    for (number, (step, expected)) in steps.iter().enumerate() {
+        let given = answer(rt, alloc, &mut session, *step, &mut sent);
+        let given = text(rt, alloc, &given);
+        assert_eq!(rt;
+            given.as_str(),
+            *expected,
+            "at step {number}, counted from 0"
+        );
     }
-    let joined = joined(alloc, pieces)?;
-    assert!(rt; sent.as_slice() == joined.as_slice());
+    assert!(rt; sent.as_slice() == joined(rt, alloc, pieces).as_slice());
     assert_eq!(rt; show(&session), at_end);
     assert_eq!(rt; session.into_tape().count(), at_end.entries);
-    Ok(())
 }

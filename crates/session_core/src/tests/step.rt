@@ -3,11 +3,11 @@
 use rs_frame::{Frame, Request, Setup};
 use rs_wire::{Amount, Blob, Call, Kind, Message};
 use std::alloc::Global;
-use std::test::Fail;
+use std::process::Abort;
 use tape::Event;
 
 /// The first frame of a connection.
-#[derive(Clone, Copy, Debug)]
+#[derive(Clone, Copy)]
 pub enum First {
     /// A SETUP of version 1.0.
     Good,
@@ -21,15 +21,20 @@ pub enum First {
     Other,
 }
 
-/// A frame that is no request that an end takes. Those of a stream name stream 4.
-#[derive(Clone, Copy, Debug)]
+/// A frame that is no request that an end takes. Those that name no stream of their own are on stream
+/// 4.
+#[derive(Clone, Copy)]
 pub enum Strange {
-    /// CANCEL.
-    Cancel,
+    /// CANCEL on a stream.
+    Cancel(u32),
+    /// REQUEST_N of 1 on a stream.
+    Grant(u32),
+    /// PAYLOAD with N on a stream, without bytes.
+    Item(u32),
     /// An ERROR on a stream.
     StreamError,
-    /// A frame of type 0x30, which the standard does not have, with these flags.
-    Unknown(u16),
+    /// A frame of a type that the standard does not have, with these flags.
+    Unknown(u8, u16),
     /// An extension, with these flags.
     Extension(u16),
     /// A SETUP after the first frame.
@@ -41,7 +46,7 @@ pub enum Strange {
 }
 
 /// An event in short. A message is given by how many bytes it has: each is 0x68.
-#[derive(Clone, Copy, Debug)]
+#[derive(Clone, Copy)]
 pub enum Step {
     /// A client opens.
     Open,
@@ -63,6 +68,10 @@ pub enum Step {
     CameWith(u32, usize, usize),
     /// A fire-and-forget of this many bytes is asked for.
     Ask(usize),
+    /// A response is asked for, without bytes.
+    AskResponse,
+    /// A stream with this initial n is asked for, without bytes.
+    AskStream(u32),
     /// The same with metadata of so many bytes more.
     AskWith(usize, usize),
     /// The session is to be closed.
@@ -73,49 +82,49 @@ fn empty(alloc: Global) -> Blob {
     Blob::from_vec(Vec::new(alloc))
 }
 
-/// This many bytes 0x68.
-pub fn repeated(alloc: Global, len: usize) -> Result<Blob, Fail> {
+// This many bytes 0x68.
+fn repeated(rt: &impl Abort, alloc: Global, len: usize) -> Blob {
     let mut bytes = Vec::new(alloc);
-    bytes.resize(len, 0x68)?;
-    Ok(Blob::from_vec(bytes))
+    bytes.resize(len, 0x68).expect(rt, "there is memory");
+    Blob::from_vec(bytes)
 }
 
-/// A message of this many bytes.
-pub fn message(alloc: Global, len: usize) -> Result<Message, Fail> {
-    Ok(Message {
+// A message of this many bytes.
+fn message(rt: &impl Abort, alloc: Global, len: usize) -> Message {
+    Message {
         metadata: None,
-        content: repeated(alloc, len)?,
-    })
+        content: repeated(rt, alloc, len),
+    }
 }
 
-fn with_metadata(alloc: Global, len: usize, metadata: usize) -> Result<Message, Fail> {
-    Ok(Message {
-        metadata: Some(repeated(alloc, metadata)?),
-        content: repeated(alloc, len)?,
-    })
+fn with_metadata(rt: &impl Abort, alloc: Global, len: usize, metadata: usize) -> Message {
+    Message {
+        metadata: Some(repeated(rt, alloc, metadata)),
+        content: repeated(rt, alloc, len),
+    }
 }
 
-fn setup(alloc: Global, major: u16, resume: Option<Blob>, lease: bool) -> Result<Frame, Fail> {
-    Ok(Frame::Setup(Setup {
+fn setup(rt: &impl Abort, alloc: Global, major: u16, resume: Option<Blob>, lease: bool) -> Frame {
+    Frame::Setup(Setup {
         resume,
         lease,
         major,
         minor: 0,
-        keepalive: Amount::of(20_000).ok_or("an amount")?,
-        lifetime: Amount::of(90_000).ok_or("an amount")?,
+        keepalive: Amount::of(20_000).expect(rt, "an amount"),
+        lifetime: Amount::of(90_000).expect(rt, "an amount"),
         metadata_mime: empty(alloc),
         content_mime: empty(alloc),
-        message: message(alloc, 0)?,
-    }))
+        message: message(rt, alloc, 0),
+    })
 }
 
-fn first_frame(alloc: Global, first: First) -> Result<Frame, Fail> {
+fn first_frame(rt: &impl Abort, alloc: Global, first: First) -> Frame {
     match first {
-        First::Good => setup(alloc, 1, None, false),
-        First::Newer => setup(alloc, 2, None, false),
-        First::Resuming => setup(alloc, 1, Some(empty(alloc)), false),
-        First::Leasing => setup(alloc, 1, None, true),
-        First::Other => Ok(Frame::Cancel { stream: 1 }),
+        First::Good => setup(rt, alloc, 1, None, false),
+        First::Newer => setup(rt, alloc, 2, None, false),
+        First::Resuming => setup(rt, alloc, 1, Some(empty(alloc)), false),
+        First::Leasing => setup(rt, alloc, 1, None, true),
+        First::Other => Frame::Cancel { stream: 1 },
     }
 }
 
@@ -130,36 +139,51 @@ fn request(stream: u32, kind: Kind, follows: bool, message: Message) -> Frame {
     })
 }
 
-fn strange_frame(alloc: Global, strange: Strange) -> Result<Frame, Fail> {
+fn error(alloc: Global, stream: u32, code: u32) -> Frame {
+    Frame::Error {
+        stream,
+        code,
+        content: empty(alloc),
+    }
+}
+
+fn strange_frame(rt: &impl Abort, alloc: Global, strange: Strange) -> Frame {
     match strange {
-        Strange::Cancel => Ok(Frame::Cancel { stream: 4 }),
-        Strange::StreamError => Ok(Frame::Error {
+        Strange::Cancel(stream) => Frame::Cancel { stream },
+        Strange::Grant(stream) => Frame::RequestN {
+            stream,
+            n: Amount::of(1).expect(rt, "an amount"),
+        },
+        Strange::Item(stream) => Frame::Payload {
+            stream,
+            follows: false,
+            complete: false,
+            next: true,
+            message: message(rt, alloc, 0),
+        },
+        Strange::StreamError => error(alloc, 4, 0x201),
+        Strange::Unknown(number, flags) => Frame::Unknown {
             stream: 4,
-            code: 0x201,
-            content: empty(alloc),
-        }),
-        Strange::Unknown(flags) => Ok(Frame::Unknown {
-            stream: 4,
-            number: 0x30,
+            number,
             flags,
             rest: empty(alloc),
-        }),
-        Strange::Extension(flags) => Ok(Frame::Ext {
+        },
+        Strange::Extension(flags) => Frame::Ext {
             stream: 4,
             flags,
             extended: 7,
             rest: empty(alloc),
-        }),
-        Strange::Setup => setup(alloc, 1, None, false),
-        Strange::Response => Ok(request(4, Kind::Response, false, message(alloc, 0)?)),
-        Strange::Fragment => Ok(request(4, Kind::Fnf, true, message(alloc, 0)?)),
+        },
+        Strange::Setup => setup(rt, alloc, 1, None, false),
+        Strange::Response => request(4, Kind::Response, false, message(rt, alloc, 0)),
+        Strange::Fragment => request(4, Kind::Fnf, true, message(rt, alloc, 0)),
     }
 }
 
-fn ask(message: Message) -> Event {
+fn ask(kind: Kind, n: u32, message: Message) -> Event {
     Event::Asked(Call::Request {
-        kind: Kind::Fnf,
-        initial: None,
+        kind,
+        initial: Amount::of(n),
         message,
         complete: false,
     })
@@ -169,42 +193,32 @@ fn came(conn: u64, frame: Frame) -> Event {
     Event::Came { conn, frame }
 }
 
+// A fire-and-forget comes.
+fn told(stream: u32, message: Message) -> Event {
+    came(1, request(stream, Kind::Fnf, false, message))
+}
+
 impl Step {
     /// The event.
-    pub fn event(self, alloc: Global) -> Result<Event, Fail> {
+    pub fn event(self, rt: &impl Abort, alloc: Global) -> Event {
         match self {
-            Step::Open => Ok(Event::Open {
-                first: None,
-                taken: false,
-            }),
-            Step::Opened(first, taken) => Ok(Event::Open {
-                first: Some(first_frame(alloc, first)?),
+            Step::Open => Event::opening(),
+            Step::Opened(first, taken) => Event::Open {
+                first: Some(first_frame(rt, alloc, first)),
                 taken,
-            }),
-            Step::Cut(conn) => Ok(Event::Cut { conn }),
-            Step::Draw(conn, room) => Ok(Event::Draw { conn, room }),
-            Step::Bad(conn, rule) => Ok(Event::Bad { conn, rule }),
-            Step::Odd(conn, strange) => Ok(came(conn, strange_frame(alloc, strange)?)),
-            Step::Error(code) => {
-                let content = empty(alloc);
-                let error = Frame::Error {
-                    stream: 0,
-                    code,
-                    content,
-                };
-                Ok(came(1, error))
-            }
-            Step::Came(stream, len) => {
-                let message = message(alloc, len)?;
-                Ok(came(1, request(stream, Kind::Fnf, false, message)))
-            }
-            Step::CameWith(stream, len, metadata) => {
-                let message = with_metadata(alloc, len, metadata)?;
-                Ok(came(1, request(stream, Kind::Fnf, false, message)))
-            }
-            Step::Ask(len) => Ok(ask(message(alloc, len)?)),
-            Step::AskWith(len, metadata) => Ok(ask(with_metadata(alloc, len, metadata)?)),
-            Step::Close => Ok(Event::Asked(Call::Close)),
+            },
+            Step::Cut(conn) => Event::Cut { conn },
+            Step::Draw(conn, room) => Event::Draw { conn, room },
+            Step::Bad(conn, rule) => Event::Bad { conn, rule },
+            Step::Odd(conn, strange) => came(conn, strange_frame(rt, alloc, strange)),
+            Step::Error(code) => came(1, error(alloc, 0, code)),
+            Step::Came(stream, len) => told(stream, message(rt, alloc, len)),
+            Step::CameWith(stream, len, more) => told(stream, with_metadata(rt, alloc, len, more)),
+            Step::Ask(len) => ask(Kind::Fnf, 0, message(rt, alloc, len)),
+            Step::AskWith(len, more) => ask(Kind::Fnf, 0, with_metadata(rt, alloc, len, more)),
+            Step::AskResponse => ask(Kind::Response, 0, message(rt, alloc, 0)),
+            Step::AskStream(n) => ask(Kind::Stream, n, message(rt, alloc, 0)),
+            Step::Close => Event::Asked(Call::Close),
         }
     }
 }
