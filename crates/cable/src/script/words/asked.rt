@@ -1,7 +1,7 @@
 //! The words of a call.
 
 ghost use Rattle.std.specs.Prelude.{◌≡◌, IfOk};
-ghost use Rattle.cable.specs.Words.{IsSpelled, call_of};
+ghost use Rattle.cable.specs.Words.{IsWellSpelled, call_of};
 
 use crate::script::words::payload::{Payload, bytes};
 use rs_wire::{Amount, Call, Kind, OutOfMemory};
@@ -46,7 +46,7 @@ pub(crate) enum Asked<'a> {
 impl Asked<'_> {
     /// The call of these words.
     pub(crate) fn call(&self, alloc: Global) -> Result<Call, OutOfMemory>
-        requires { IsSpelled self.now }
+        requires { IsWellSpelled self.now }
         ensures { IfOk result (λ call. call ≡ call_of self.now) }
     {
         Ok(match self {

@@ -3,7 +3,7 @@
 ghost use Rattle.std.specs.Prelude.{◌≡◌, ◌++◌, ◌∷◌, ℕ, List, IfNone, IfSome, IsSomeAnd, decimal};
 ghost use Rattle.rs_wire.specs.declared.message.Message.{Message as Said};
 ghost use Rattle.cable.specs.Line.{IsAmount, IsPayload, payload_text};
-ghost use Rattle.cable.specs.Words.{Spells};
+ghost use Rattle.cable.specs.Words.{SpellsMessage};
 
 use crate::script::words::cuts::{after, amount, amount_and};
 use crate::script::words::payload::{Payload, payload_of};
@@ -37,7 +37,7 @@ pub(crate) fn amount_and_after<'a>(word: &'a [u8], first: &str) -> Option<(Amoun
 
 /// `FIRST P`.
 pub(crate) fn payload_after<'a>(word: &'a [u8], first: &str) -> Option<Payload<'a>>
-    ensures some { IfSome result (Spells (λ text. word.now ≡ first.now ++ (32 ∷ text))) }
+    ensures some { IfSome result (SpellsMessage (λ text. word.now ≡ first.now ++ (32 ∷ text))) }
     ensures none { IfNone result ((m : Said) → IsPayload m →
         ¬ (word.now ≡ first.now ++ (32 ∷ payload_text m))) }
 {
@@ -53,7 +53,7 @@ pub(crate) fn amount_and_payload_after<'a>(
     first: &str,
 ) -> Option<(Amount, Payload<'a>)>
     ensures some { IfSome result (λ r. IsAmount r.0 ×
-        Spells (λ text. word.now ≡ first.now ++ (32 ∷ (decimal r.0 ++ (32 ∷ text)))) r.1) }
+        SpellsMessage (λ text. word.now ≡ first.now ++ (32 ∷ (decimal r.0 ++ (32 ∷ text)))) r.1) }
     ensures none { IfNone result ((n : ℕ) (m : Said) → IsAmount n → IsPayload m →
         ¬ (word.now ≡ first.now ++ (32 ∷ (decimal n ++ (32 ∷ payload_text m))))) }
 {

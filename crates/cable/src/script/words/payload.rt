@@ -4,7 +4,7 @@ ghost use Rattle.std.specs.Prelude.{◌≡◌, ℕ, List, IfNone, IfOk, IfSome, 
 ghost use Rattle.hex.specs.Hex.{IsBytes};
 ghost use Rattle.rs_wire.specs.declared.message.Message.{Message as Said};
 ghost use Rattle.cable.specs.Line.{IsPayload, part_text, payload_text};
-ghost use Rattle.cable.specs.Words.{Spells, are_parts, bytes_of, is_part, message_of};
+ghost use Rattle.cable.specs.Words.{SpellsMessage, are_parts, bytes_of, is_part, message_of};
 
 use crate::script::words::cuts::cut_at;
 use plain_text::{is_hex_word, read_hex};
@@ -72,7 +72,7 @@ impl Payload<'_> {
 
 // The one way to cut a word into the parts of a message.
 fn parts_of(word: &[u8]) -> Payload<'_>
-    ensures right { IsTrue (are_parts result) → Spells (λ text. word.now ≡ text) result }
+    ensures right { IsTrue (are_parts result) → SpellsMessage (λ text. word.now ≡ text) result }
     ensures only { (m : Said) → IsPayload m → word.now ≡ payload_text m →
         IsTrue (are_parts result) }
 {
@@ -84,7 +84,7 @@ fn parts_of(word: &[u8]) -> Payload<'_>
 
 /// The parts of the message that the word is the text of.
 pub(crate) fn payload_of(word: &[u8]) -> Option<Payload<'_>>
-    ensures some { IfSome result (Spells (λ text. word.now ≡ text)) }
+    ensures some { IfSome result (SpellsMessage (λ text. word.now ≡ text)) }
     ensures none { IfNone result ((m : Said) → IsPayload m → ¬ (word.now ≡ payload_text m)) }
 {
     let payload = parts_of(word);
