@@ -10,13 +10,26 @@ const CABLE: &[&[u8]] = &[b"cable"];
 fn reports(alloc: Global, script: &[u8], lines: &[&str]) -> Result<bool, Fail> {
     let (status, output) = ran(alloc, CABLE, script)?;
     let text = std::str::from_utf8(&output).map_err(|_| "the report is text")?;
-    Ok(status == 0 && lines.iter().all(|wanted| text.lines().any(|line| line == *wanted)))
+    Ok(
+        status == 0
+            && lines
+                .iter()
+                .all(|wanted| text.lines().any(|line| line == *wanted)),
+    )
 }
 
 #[test]
 fn settings_and_comments_alone_open_nothing(rt: HostRuntime) -> Result<(), Fail> {
     let lines = b"client made 0 0 handled 0 0\nserver made 0 0 handled 0 0\n";
-    assert!(rt; ends(rt.alloc(), CABLE, b"set hold 1\n\n# up 1\nset client top 0", 0, lines)?);
+    assert!(rt;
+        ends(
+            rt.alloc(),
+            CABLE,
+            b"set hold 1\n\n# up 1\nset client top 0",
+            0,
+            lines
+        )?
+    );
     Ok(())
 }
 
