@@ -12,7 +12,7 @@ use Rattle.conn_lock.specs.Callers as lock
 use Rattle.conn_lock.proofs.Totals.{calls_append}
 use Rattle.conn.specs.declared.line.Line.{Line}
 use Rattle.conn.specs.declared.line.Line.TheVariants as line
-use Rattle.conn.specs.Callers.{Follows, Gains, GoesOn}
+use Rattle.conn.specs.Callers.{Follows, Gains, Continues}
 use Rattle.conn.specs.Lines.{entries_in, lines_of, lines_with, noted, number_of, settings_in, who_of}
 
 pub entries-append : (ls ms : List Line) → entries_in (ls ++ ms) ≡ entries_in ms ++ entries_in ls
@@ -60,7 +60,7 @@ went_on g names past s follows = record {
   );
 }
 
-pub goes_on : (g : Settings) (past : List Entry) (ls : List Line) → IsPrefix (lines_with g past) ls → GoesOn past (entries_in ls)
+pub goes_on : (g : Settings) (past : List Entry) (ls : List Line) → IsPrefix (lines_with g past) ls → Continues past (entries_in ls)
 goes_on g past ls p = (entries_in p.0, sym (ap entries_in p.1) ∙ (entries-append (noted past) p.0 ∙ ap (λ es. entries_in p.0 ++ es) (entries-noted past)))
 
 pub same_entries : (g : Settings) (past : List Entry) (s : Seen) → lines_of s ≡ lines_with g past → s.entries ≡ past

@@ -93,8 +93,8 @@ abbrev pub Gains : ℕ → List Entry → List Entry → Type 0
 Gains number old new = (own : List Entry) × (new ≡ own ++ old) × (calls who_of number own ≡ length own)
 
 -- the one front is where the other came from
-abbrev pub GoesOn : List Entry → List Entry → Type 0
-GoesOn old new = (later : List Entry) × (new ≡ later ++ old)
+abbrev pub Continues : List Entry → List Entry → Type 0
+Continues old new = (later : List Entry) × (new ≡ later ++ old)
 
 -- a caller that got no turn: its try missed the next ticket, or the last ticket is served
 abbrev pub IsTurnedAway : Knows → Knows → Type 0

@@ -33,7 +33,7 @@ AreNext g before conn a buffer =
     IfDrawn a (λ n. take n buffer ≡ take n (drop (drawn before conn) (framed_all (due g before conn))))
 
 -- A draw of this caller, into a buffer with so much room.
-pub record IsDraw (g : Settings) (caller : Knows) (conn room : ℕ) (a : Answer) (buffer : List ℕ) (new : List Entry) : Type 0 where
+pub record IsDrawCall (g : Settings) (caller : Knows) (conn room : ℕ) (a : Answer) (buffer : List ℕ) (new : List Entry) : Type 0 where
   pub before : List Entry
   pub follows : Follows caller.names caller.front before
   pub step : IsStep g caller.number before (event.Draw conn room) a new

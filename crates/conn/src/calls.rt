@@ -10,7 +10,7 @@ ghost use Rattle.session_core.specs.Seen.{IsNoDrawEvent};
 ghost use Rattle.tape.specs.declared.event.Event.{Event as Happening};
 ghost use Rattle.tape.specs.declared.event.Event.TheVariants as events;
 ghost use Rattle.conn.specs.Callers.{Follows, IsCaller, knows};
-ghost use Rattle.conn.specs.Calls.{IsCalled, IsDraw};
+ghost use Rattle.conn.specs.Calls.{IsCalled, IsDrawCall};
 ghost use Rattle.conn.specs.Lines.{entries_in, settings_in};
 
 use crate::caller::{Caller, Connection};
@@ -122,7 +122,7 @@ impl<T: Tape> Connection<T> {
         ensures same { result.0 ≡ record seat { front = result.0.front; note = None } }
         ensures settings { settings_in result.0.front ≡ self.now.settings }
         ensures caller { IsCaller result.0 }
-        ensures drawn { IsDraw self.now.settings (knows seat) conn (length buffer.old)
+        ensures drawn { IsDrawCall self.now.settings (knows seat) conn (length buffer.old)
             result.1 buffer.new (entries_in result.0.front) }
         ensures untouched { IsUntouched result.1 buffer.old buffer.new }
     {
@@ -143,7 +143,7 @@ impl<T: Tape> Connection<T> {
         requires some { 0 < length buffer.old }
         requires few { length buffer.old < 2 ^ 32 }
         ensures same { caller.new ≡ record caller.old { front = caller.new.front; note = None } }
-        ensures drawn { IsDraw self.now.settings caller.old conn (length buffer.old)
+        ensures drawn { IsDrawCall self.now.settings caller.old conn (length buffer.old)
             result buffer.new caller.new.front }
         ensures untouched { IsUntouched result buffer.old buffer.new }
     {

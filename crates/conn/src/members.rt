@@ -2,7 +2,7 @@
 
 ghost use Rattle.std.specs.Prelude.{◌≡◌, ◌<◌, ◌≤◌, ◌+◌, ◌-◌, ◌↔◌, ℕ, [], ◌∷◌, ◌++◌, IfErr, IfOk, None, max};
 ghost use Rattle.conn_lock.specs.Callers.{all_parts, calls, longer, most_numbers, share, times};
-ghost use Rattle.conn.specs.Callers.{GoesOn, IsCaller, first_caller};
+ghost use Rattle.conn.specs.Callers.{Continues, IsCaller, first_caller};
 ghost use Rattle.conn.specs.Lines.{entries_in, settings_in, who_of};
 
 use crate::caller::{Caller, Connection};
@@ -174,8 +174,8 @@ impl<T: Tape> Connection<T> {
         ensures caller { IsCaller result }
         ensures front { entries_in result.front
             ≡ longer (entries_in seat.front) (entries_in other.front) }
-        ensures fronts { GoesOn (entries_in seat.front) (entries_in result.front)
-            × GoesOn (entries_in other.front) (entries_in result.front) }
+        ensures fronts { Continues (entries_in seat.front) (entries_in result.front)
+            × Continues (entries_in other.front) (entries_in result.front) }
         ensures apart { (x : ℕ) → 0 < times x seat.names → times x other.names ≡ 0 }
         ensures distinct { (x : ℕ) → times x result.names ≤ 1 }
         ensures at_most_all { result.parts ≤ all_parts }
@@ -195,8 +195,8 @@ impl<T: Tape> Connection<T> {
           front = longer caller.old.front other.front;
           found = max caller.old.found other.found;
         } }
-        ensures fronts { GoesOn caller.old.front caller.new.front
-            × GoesOn other.front caller.new.front }
+        ensures fronts { Continues caller.old.front caller.new.front
+            × Continues other.front caller.new.front }
         ensures apart { (x : ℕ) → 0 < times x caller.old.names → times x other.names ≡ 0 }
         ensures distinct { (x : ℕ) → times x caller.new.names ≤ 1 }
         ensures at_most_all { caller.new.parts ≤ all_parts }

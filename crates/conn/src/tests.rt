@@ -1,4 +1,5 @@
-//! Trials of a session that threads share.
+//! Trials of a session that threads share. They are written for any tape, since a proof is
+//! dearer the more types it knows.
 
 ghost use Rattle.std.specs.Prelude.{◌≡◌, IfOk};
 ghost use Rattle.rs_wire.specs.Calls.{CanBeAsked};
@@ -14,17 +15,22 @@ use std::process::Abort;
 use std::sync::Wait;
 use std::test::Fail;
 use std::thread::{Threads, join};
-use tape::{Answer, Entry, Event, Kept};
+use tape::{Answer, Blank, Entry, Event, Kept, Tape};
 
 // A connection round a session of which nothing happened yet.
-fn connected(alloc: Global, side: Side) -> Result<(Connection<Kept>, Caller<Kept>), Fail>
+fn connected<T: Tape + Drop>(
+    alloc: Global,
+    side: Side,
+    tape: T,
+) -> Result<(Connection<T>, Caller<T>), Fail>
+    requires empty { T.count tape ≡ 0 }
     ensures of { IfOk result (λ r. r.1.of ≡ r.0) }
     ensures settings { IfOk result (λ r. r.0.settings ≡ usual side) }
 {
     let Ok(settings) = check(Settings::usual(alloc, side)?) else {
         return Err(Fail::from("the settings are right"));
     };
-    let Ok(session) = Session::new(alloc, settings, Kept::new(alloc)) else {
+    let Ok(session) = Session::new(alloc, settings, tape) else {
         return Err(Fail::from("there is memory"));
     };
     match Connection::new(alloc, session) {
@@ -34,10 +40,15 @@ fn connected(alloc: Global, side: Side) -> Result<(Connection<Kept>, Caller<Kept
 }
 
 // A client that is begun, on connection 1.
-fn begun_client<R: Wait>(rt: &R, alloc: Global) -> Result<(Connection<Kept>, Caller<Kept>), Fail>
-    ensures { IfOk result (λ r. r.1.of ≡ r.0) }
+fn begun_client<R: Wait, T: Tape + Drop>(
+    rt: &R,
+    alloc: Global,
+    tape: T,
+) -> Result<(Connection<T>, Caller<T>), Fail>
+    requires empty { T.count tape ≡ 0 }
+    ensures of { IfOk result (λ r. r.1.of ≡ r.0) }
 {
-    let (connection, mut caller) = connected(alloc, Side::Client)?;
+    let (connection, mut caller) = connected(alloc, Side::Client, tape)?;
     match connection.event(rt, &mut caller, &Event::opening()) {
         Answer::Opened(1) => Ok((connection, caller)),
         _ => Err(Fail::from("the client is begun")),
@@ -91,10 +102,15 @@ fn request(alloc: Global) -> Result<Frame, Fail>
 }
 
 // A server that is begun, on connection 1.
-fn begun_server<R: Wait>(rt: &R, alloc: Global) -> Result<(Connection<Kept>, Caller<Kept>), Fail>
-    ensures { IfOk result (λ r. r.1.of ≡ r.0) }
+fn begun_server<R: Wait, T: Tape + Drop>(
+    rt: &R,
+    alloc: Global,
+    tape: T,
+) -> Result<(Connection<T>, Caller<T>), Fail>
+    requires empty { T.count tape ≡ 0 }
+    ensures of { IfOk result (λ r. r.1.of ≡ r.0) }
 {
-    let (connection, mut caller) = connected(alloc, Side::Server)?;
+    let (connection, mut caller) = connected(alloc, Side::Server, tape)?;
     let first = Event::opened_by(setup(alloc)?);
     match connection.event(rt, &mut caller, &first) {
         Answer::Opened(1) => Ok((connection, caller)),
@@ -102,12 +118,12 @@ fn begun_server<R: Wait>(rt: &R, alloc: Global) -> Result<(Connection<Kept>, Cal
     }
 }
 
-fn split<R: Wait>(
+fn split<R: Wait, T: Tape>(
     rt: &R,
-    connection: &Connection<Kept>,
-    caller: &mut Caller<Kept>,
-) -> Result<Caller<Kept>, Fail>
-    requires { caller.old.of ≡ connection.now }
+    connection: &Connection<T>,
+    caller: &mut Caller<T>,
+) -> Result<Caller<T>, Fail>
+    requires of { caller.old.of ≡ connection.now }
     ensures first { caller.new.of ≡ connection.now }
     ensures second { IfOk result (λ c. c.of ≡ connection.now) }
 {
@@ -117,36 +133,57 @@ fn split<R: Wait>(
     }
 }
 
-#[test]
-fn a_call_is_refused_by_the_session(rt: HostRuntime) -> Result<(), Fail> {
-    let (connection, mut caller) = connected(rt.alloc(), Side::Client)?;
+fn call_what_is_refused<R: Abort + Wait, T: Tape + Drop>(
+    rt: &R,
+    alloc: Global,
+    tape: T,
+) -> Result<(), Fail>
+    requires empty { T.count tape ≡ 0 }
+{
+    let (connection, mut caller) = connected(alloc, Side::Client, tape)?;
     assert_eq!(rt; connection.max_in(), 16_777_215);
-    let taken = connection.call(&rt, &mut caller, &Call::Take { stream: 1 });
+    let taken = connection.call(rt, &mut caller, &Call::Take { stream: 1 });
     assert_eq!(rt; taken, Answer::Refused(Refusal::UnknownStream));
-    let looked = connection.look(&rt, &mut caller);
+    let looked = connection.look(rt, &mut caller);
     assert_eq!(rt; looked.live, 0);
     assert!(rt; !looked.carrying);
     Ok(())
 }
 
 #[test]
-fn what_waits_is_taken_at_once(rt: HostRuntime) -> Result<(), Fail> {
-    let (connection, mut caller) = begun_server(&rt, rt.alloc())?;
+fn a_call_is_refused_by_the_session(rt: HostRuntime) -> Result<(), Fail> {
+    call_what_is_refused(&rt, rt.alloc(), Blank::new())
+}
+
+fn take_what_waits<R: Abort + Wait, T: Tape + Drop>(
+    rt: &R,
+    alloc: Global,
+    tape: T,
+) -> Result<(), Fail>
+    requires empty { T.count tape ≡ 0 }
+{
+    let (connection, mut caller) = begun_server(rt, alloc, tape)?;
     let idle = connection.try_call(&mut caller, &Call::TakeJob);
     assert_eq!(rt; idle, Some(Answer::NotYet));
-    let arrived = Event::arrived(1, request(rt.alloc())?);
-    let handled = connection.event(&rt, &mut caller, &arrived);
+    let arrived = Event::arrived(1, request(alloc)?);
+    let handled = connection.event(rt, &mut caller, &arrived);
     assert_eq!(rt; handled, Answer::Handled);
-    let job = connection.wait_job(&rt, &mut caller);
+    let job = connection.wait_job(rt, &mut caller);
     assert!(rt; matches!(job, Answer::GotJob(_)));
-    let taken = connection.wait_take(&rt, &mut caller, 3);
+    let taken = connection.wait_take(rt, &mut caller, 3);
     assert_eq!(rt; taken, Answer::Refused(Refusal::UnknownStream));
     Ok(())
 }
 
 #[test]
-fn a_try_has_its_turn_where_nobody_else_has(rt: HostRuntime) -> Result<(), Fail> {
-    let (connection, mut caller) = connected(rt.alloc(), Side::Client)?;
+fn what_waits_is_taken_at_once(rt: HostRuntime) -> Result<(), Fail> {
+    take_what_waits(&rt, rt.alloc(), Blank::new())
+}
+
+fn try_all<R: Abort, T: Tape + Drop>(rt: &R, alloc: Global, tape: T) -> Result<(), Fail>
+    requires empty { T.count tape ≡ 0 }
+{
+    let (connection, mut caller) = connected(alloc, Side::Client, tape)?;
     let opened = connection.try_event(&mut caller, &Event::opening());
     assert_eq!(rt; opened, Some(Answer::Opened(1)));
     let mut buffer = [0; 100];
@@ -156,34 +193,18 @@ fn a_try_has_its_turn_where_nobody_else_has(rt: HostRuntime) -> Result<(), Fail>
 }
 
 #[test]
-fn closes_only_with_all_parts(rt: HostRuntime) -> Result<(), Fail> {
-    let (connection, mut caller) = begun_client(&rt, rt.alloc())?;
-    let other = split(&rt, &connection, &mut caller)?;
-    assert_eq!(rt; other.parts(), 1 << 46);
-    assert_eq!(rt; other.number(), 1);
-    let Err((connection, mut caller)) = connection.close(caller) else {
-        return Err(Fail::from("the other's parts are missing"));
-    };
-    connection.join(&mut caller, other);
-    assert_eq!(rt; caller.parts(), 1 << 62);
-    let mut buffer = [0; 100];
-    let drawn = connection.draw(&rt, &mut caller, 1, &mut buffer);
-    assert_eq!(rt; drawn, Answer::Drawn(71));
-    let Ok(session) = connection.close(caller) else {
-        return Err(Fail::from("all parts are there"));
-    };
-    assert_eq!(rt; session.live(), 1);
-    Ok(())
+fn a_try_has_its_turn_where_nobody_else_has(rt: HostRuntime) -> Result<(), Fail> {
+    try_all(&rt, rt.alloc(), Blank::new())
 }
 
 // Waits for a job.
-fn wait_as<R: Wait>(
+fn wait_as<R: Wait, T: Tape>(
     rt: &R,
-    connection: &Connection<Kept>,
-    caller: Caller<Kept>,
-) -> (Caller<Kept>, Answer)
-    requires { caller.of ≡ connection.now }
-    ensures { result.0.of ≡ connection.now }
+    connection: &Connection<T>,
+    caller: Caller<T>,
+) -> (Caller<T>, Answer)
+    requires of { caller.of ≡ connection.now }
+    ensures of { result.0.of ≡ connection.now }
 {
     let mut caller = caller;
     let answer = connection.wait_job(rt, &mut caller);
@@ -191,15 +212,15 @@ fn wait_as<R: Wait>(
 }
 
 // Brings a frame on connection 1.
-fn bring_as<R: Wait>(
+fn bring_as<R: Wait, T: Tape>(
     rt: &R,
-    connection: &Connection<Kept>,
-    caller: Caller<Kept>,
+    connection: &Connection<T>,
+    caller: Caller<T>,
     frame: Frame,
-) -> Caller<Kept>
+) -> Caller<T>
     requires of { caller.of ≡ connection.now }
     requires spellable { IsSpellable frame }
-    ensures { result.of ≡ connection.now }
+    ensures of { result.of ≡ connection.now }
 {
     let mut caller = caller;
     connection.event(rt, &mut caller, &Event::arrived(1, frame));
@@ -207,54 +228,59 @@ fn bring_as<R: Wait>(
 }
 
 // One caller waits for a job in a thread, and another brings it.
-fn wait_for_other<R: Threads + Wait + Sync>(
+fn wait_for_other<R: Threads + Wait + Sync, T: Tape + Drop + Send>(
     rt: &R,
-    connection: &Connection<Kept>,
-    waiter: Caller<Kept>,
-    bringer: Caller<Kept>,
+    connection: &Connection<T>,
+    waiter: Caller<T>,
+    bringer: Caller<T>,
     frame: Frame,
-) -> (Caller<Kept>, Answer)
+) -> Answer
     requires first { waiter.of ≡ connection.now }
     requires second { bringer.of ≡ connection.now }
     requires spellable { IsSpellable frame }
-    ensures { result.0.of ≡ connection.now }
 {
-    let ((mut caller, answer), other) = join(
+    let ((_waiter, answer), _bringer) = join(
         rt,
-        || -> (Caller<Kept>, Answer)
+        || -> (Caller<T>, Answer)
             requires { waiter.of ≡ connection.now }
-            ensures { result.0.of ≡ connection.entry.now }
         { wait_as(rt, connection, waiter) },
-        || -> Caller<Kept>
+        || -> Caller<T>
             requires { (bringer.of ≡ connection.now) × IsSpellable frame }
-            ensures { result.of ≡ connection.entry.now }
         { bring_as(rt, connection, bringer, frame) },
     );
-    connection.join(&mut caller, other);
-    (caller, answer)
+    answer
 }
 
-#[test]
-fn a_waiter_is_woken(rt: HostRuntime) -> Result<(), Fail> {
-    let (connection, mut caller) = begun_server(&rt, rt.alloc())?;
-    let other = split(&rt, &connection, &mut caller)?;
-    let frame = request(rt.alloc())?;
-    let (_caller, answer) = wait_for_other(&rt, &connection, caller, other, frame);
+fn wake<R: Abort + Threads + Wait + Sync, T: Tape + Drop + Send>(
+    rt: &R,
+    alloc: Global,
+    tape: T,
+) -> Result<(), Fail>
+    requires empty { T.count tape ≡ 0 }
+{
+    let (connection, mut caller) = begun_server(rt, alloc, tape)?;
+    let other = split(rt, &connection, &mut caller)?;
+    let answer = wait_for_other(rt, &connection, caller, other, request(alloc)?);
     assert!(rt; matches!(answer, Answer::GotJob(_)));
     Ok(())
 }
 
-// Makes so many calls, and counts those that were started.
-fn ask_as<R: Wait>(
+#[test]
+fn a_waiter_is_woken(rt: HostRuntime) -> Result<(), Fail> {
+    wake(&rt, rt.alloc(), Blank::new())
+}
+
+// Makes so many calls.
+fn ask_as<R: Wait, T: Tape>(
     rt: &R,
-    connection: &Connection<Kept>,
-    caller: Caller<Kept>,
+    connection: &Connection<T>,
+    caller: Caller<T>,
     call: &Call,
     times: u32,
-) -> Caller<Kept>
+) -> Caller<T>
     requires of { caller.of ≡ connection.now }
     requires askable { CanBeAsked call.now }
-    ensures { result.of ≡ connection.now }
+    ensures of { result.of ≡ connection.now }
 {
     let mut caller = caller;
     for _ in 0..times {
@@ -264,32 +290,58 @@ fn ask_as<R: Wait>(
 }
 
 // Two callers make so many calls each, in two threads.
-fn ask_in_two<R: Threads + Wait + Sync>(
+fn ask_in_two<R: Threads + Wait + Sync, T: Tape + Send>(
     rt: &R,
-    connection: &Connection<Kept>,
-    first: Caller<Kept>,
-    second: Caller<Kept>,
+    connection: &Connection<T>,
+    first: Caller<T>,
+    second: Caller<T>,
     call: &Call,
     times: u32,
-) -> Caller<Kept>
+) -> Caller<T>
     requires first { first.of ≡ connection.now }
     requires second { second.of ≡ connection.now }
     requires askable { CanBeAsked call.now }
-    ensures { result.of ≡ connection.now }
+    ensures of { result.of ≡ connection.now }
 {
     let (mut caller, other) = join(
         rt,
-        || -> Caller<Kept>
+        || -> Caller<T>
             requires { (first.of ≡ connection.now) × CanBeAsked call.now }
             ensures { result.of ≡ connection.entry.now }
         { ask_as(rt, connection, first, call, times) },
-        || -> Caller<Kept>
+        || -> Caller<T>
             requires { (second.of ≡ connection.now) × CanBeAsked call.now }
             ensures { result.of ≡ connection.entry.now }
         { ask_as(rt, connection, second, call, times) },
     );
     connection.join(&mut caller, other);
     caller
+}
+
+// The tape of a client on which two callers made so many calls each. It closes only with the parts
+// of both.
+fn share<R: Abort + Threads + Wait + Sync, T: Tape + Drop + Send>(
+    rt: &R,
+    alloc: Global,
+    tape: T,
+    times: u32,
+) -> Result<T, Fail>
+    requires empty { T.count tape ≡ 0 }
+{
+    let (connection, mut caller) = begun_client(rt, alloc, tape)?;
+    let other = split(rt, &connection, &mut caller)?;
+    assert_eq!(rt; other.parts(), 1 << 46);
+    assert_eq!(rt; other.number(), 1);
+    let Err((connection, caller)) = connection.close(caller) else {
+        return Err(Fail::from("the other's parts are missing"));
+    };
+    let call = Call::fire_and_forget(Blob::from_slice(alloc, b"hi")?);
+    let caller = ask_in_two(rt, &connection, caller, other, &call, times);
+    assert_eq!(rt; caller.parts(), 1 << 62);
+    match connection.close(caller) {
+        Ok(session) => Ok(session.into_tape()),
+        Err(_) => Err(Fail::from("all parts are there")),
+    }
 }
 
 // Calls of two callers, each with so many, whose ids rise by two from 1.
@@ -308,14 +360,7 @@ fn check_calls<R: Abort>(rt: &R, entries: &[Entry], times: u32) {
 
 #[test]
 fn two_threads_share_one_list(rt: HostRuntime) -> Result<(), Fail> {
-    let (connection, mut caller) = begun_client(&rt, rt.alloc())?;
-    let other = split(&rt, &connection, &mut caller)?;
-    let call = Call::fire_and_forget(Blob::from_slice(rt.alloc(), b"hi")?);
-    let caller = ask_in_two(&rt, &connection, caller, other, &call, 100);
-    let Ok(session) = connection.close(caller) else {
-        return Err(Fail::from("all parts are there"));
-    };
-    let tape = session.into_tape();
+    let tape = share(&rt, rt.alloc(), Kept::new(rt.alloc()), 100)?;
     let [first, calls @ ..] = tape.entries() else {
         return Err(Fail::from("the tape has entries"));
     };

@@ -8,7 +8,7 @@ ghost use Rattle.session_core.specs.Seen.{IsNoDrawEvent};
 ghost use Rattle.tape.specs.declared.event.Event.{Event as Happening};
 ghost use Rattle.tape.specs.declared.event.Event.TheVariants as events;
 ghost use Rattle.conn.specs.Callers.{IsCaller, IsTurnedAway, knows};
-ghost use Rattle.conn.specs.Calls.{IsCalled, IsDraw};
+ghost use Rattle.conn.specs.Calls.{IsCalled, IsDrawCall};
 ghost use Rattle.conn.specs.Lines.{entries_in, settings_in};
 
 use crate::caller::{Caller, Connection};
@@ -135,7 +135,7 @@ impl<T: Tape> Connection<T> {
         ensures caller { IsCaller result.0 }
         ensures same { IfSome result.1 (λ a.
             result.0 ≡ record seat { front = result.0.front; note = None }) }
-        ensures drawn { IfSome result.1 (λ a. IsDraw self.now.settings (knows seat) conn
+        ensures drawn { IfSome result.1 (λ a. IsDrawCall self.now.settings (knows seat) conn
             (length buffer.old) a buffer.new (entries_in result.0.front)) }
         ensures untouched { IfSome result.1 (λ a. IsUntouched a buffer.old buffer.new) }
         ensures turned_away { IfNone result.1 (IsTurnedAway (knows seat) (knows result.0)) }
@@ -158,7 +158,7 @@ impl<T: Tape> Connection<T> {
         requires few { length buffer.old < 2 ^ 32 }
         ensures same { IfSome result (λ a.
             caller.new ≡ record caller.old { front = caller.new.front; note = None }) }
-        ensures drawn { IfSome result (λ a. IsDraw self.now.settings caller.old conn
+        ensures drawn { IfSome result (λ a. IsDrawCall self.now.settings caller.old conn
             (length buffer.old) a buffer.new caller.new.front) }
         ensures untouched { IfSome result (λ a. IsUntouched a buffer.old buffer.new) }
         ensures turned_away { IfNone result (IsTurnedAway caller.old caller.new) }

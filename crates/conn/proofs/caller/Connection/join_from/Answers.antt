@@ -30,9 +30,9 @@ returns-clause-caller g c =
     let xs = entries_in c.args.seat.front in
     let ys = entries_in c.args.other.front in
     seated h (longer xs ys) c.join.result
-        (ap (λ k. k.front) c.join.ensures.both ∙ longer_fronts h c.args.seat.front c.args.other.front a.lined b.lined s.0 s.1)
-        (of_longer (Legal h) xs ys (legal_by h c.args.seat s.0 a) (legal_by h c.args.other s.1 b))
-        (of_longer (Fair h) xs ys (fair_by h c.args.seat s.0 a) (fair_by h c.args.other s.1 b))
+    (ap (λ k. k.front) c.join.ensures.both ∙ longer_fronts h c.args.seat.front c.args.other.front a.lined b.lined s.0 s.1)
+    (of_longer (Legal h) xs ys (legal_by h c.args.seat s.0 a) (legal_by h c.args.other s.1 b))
+    (of_longer (Fair h) xs ys (fair_by h c.args.seat s.0 a) (fair_by h c.args.other s.1 b))
 
 pub returns-clause-fronts : goal.returns-clause-fronts
 returns-clause-fronts g c =
