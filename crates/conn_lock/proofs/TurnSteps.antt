@@ -18,30 +18,30 @@ use Rattle.conn_lock.proofs.Changes.{within, follows, moved, stays, kept_place, 
 
 module _ {S E : Type 0} (list_of : S → List E) (IsThere : S → Type 0) (number : E → ℕ) where
   -- the table at the start
-  pub opened : (x : S) → IsThere x → list_of x ≡ [] → Kept list_of IsThere number (opening (0 ∷ 0 ∷ 1 ∷ []) (x ∷ []) first_view)
-  opened x is_there empty = record {
+  pub opened : (x : S) → IsThere x → ((y : ℕ) → 0 < y → calls number y (list_of x) ≡ 0) → Kept list_of IsThere number (opening (0 ∷ 0 ∷ 1 ∷ []) (x ∷ []) (first_view (list_of x)))
+  opened x is_there all_first = record {
     ticket = 0;
     serving = 0;
     drawn = 1;
-    list = [];
+    list = list_of x;
     words = refl;
     tickets = λ y. grind (arith, nat_tests);
     names = λ y. grind (arith, nat_tests);
     parts = refl;
     few = omega arith;
-    known = λ y _. refl;
+    known = λ y drawn. all_first y (omega (arith, drawn));
     sound = one;
-    place = inl (x, refl, empty, is_there);
+    place = inl (x, refl, refl, is_there);
   }
     where
-      one : (i : ℕ) (v : View E) → get_elem? (first_view ∷ []) i ≡ some v → IsSound number [] 0 1 (some x ∷ []) v
-      one zero v e = subst (IsSound number [] 0 1 (some x ∷ [])) (some-injective _ _ e) record {
-        fits = (([], refl), λ y _. refl);
+      one : (i : ℕ) (v : View E) → get_elem? (first_view (list_of x) ∷ []) i ≡ some v → IsSound number (list_of x) 0 1 (some x ∷ []) v
+      one zero v e = subst (IsSound number (list_of x) 0 1 (some x ∷ [])) (some-injective _ _ e) record {
+        fits = (([], append-nil (list_of x)), λ y _. refl);
         spent = λ z. absurd (omega (arith, z));
         inside = λ t. absurd (true≢false (sym t));
         found = omega arith;
         noted = λ n h. absurd (cc);
-        begun = ([], refl);
+        begun = (list_of x, refl);
       }
       one (suc i) v e = absurd (some-ne-none v (sym e))
 

@@ -58,9 +58,9 @@ pub record Kept {S E : Type 0} (list_of : S → List E) (IsThere : S → Type 0)
   pub sound : (i : ℕ) (v : View E) → get_elem? s.views i ≡ some v → IsSound number list serving drawn s.homes v
   pub place : IsPlaced list_of IsThere list s.homes s.views
 
--- the view of the first seat: number 0, and all parts
-abbrev pub first_view : {E : Type 0} → View E
-first_view = record { names = 0 ∷ []; parts = all_parts; tickets = []; turn = false; front = []; found = 1; note = None; misses = 0; shorter = [] }
+-- the view of the first seat: number 0, all parts, and the list at the start
+abbrev pub first_view : {E : Type 0} → List E → View E
+first_view list = record { names = 0 ∷ []; parts = all_parts; tickets = []; turn = false; front = list; found = 1; note = None; misses = 0; shorter = [] }
 
 -- the list of the value in the slot, where it is there
 abbrev pub slot_list : {S E : Type 0} → (S → List E) → std.Option S → List E

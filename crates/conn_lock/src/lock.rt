@@ -10,6 +10,7 @@ use crate::view::View;
 use rs_wire::OutOfMemory;
 use std::alloc::Global;
 use std::marker::Model;
+use std::snapshot::Snapshot;
 
 /// The word with the next ticket.
 pub(crate) const TICKET: usize = 0;
@@ -26,7 +27,8 @@ pub(crate) const VALUE: usize = 0;
 /// The parts of all seats of a lock.
 const ALL_PARTS: u64 = 1 << 62;
 
-type Table<S> = atomic_table::Table<Option<S>, View<<S as Stands>::Entry>, (), Rules<S>, Global>;
+type Table<S> =
+    atomic_table::Table<Option<S>, View<<S as Stands>::Entry>, Snapshot<S>, Rules<S>, Global>;
 
 /// A lock round a value. Threads share it by reference. Contracts see which lock it is.
 #[derive(Drop)]
@@ -48,22 +50,24 @@ impl<S: Stands> Model for Lock<S> {
 }
 
 impl<S: Stands> Lock<S> {
-    /// A lock round the value, and its first seat, with the number 0 and all 2^62 parts. The value
-    /// comes back where there was no memory.
+    /// A lock round the value, and its first seat, with the number 0, all 2^62 parts, and the value's
+    /// list as its front. Each entry of that list carries the number 0. The value comes back where
+    /// there was no memory.
     pub fn new(alloc: Global, value: S) -> Result<(Lock<S>, Seat<S>), (S, OutOfMemory)>
-        requires { S.list value ≡ [] }
+        requires { (x : ℕ) → 0 < x → calls S.number x (S.list value) ≡ 0 }
         ensures first { IfOk result (λ r. r.1 ≡ record {
           lock = r.0;
           number = 0;
           names = 0 ∷ [];
           parts = all_parts;
-          front = [];
+          front = S.list value;
           found = 1;
           misses = 0;
           note = None;
         }) }
         ensures kept { IfErr result (λ r. r.0 ≡ value) }
     {
+        let start = Snapshot::of(&value);
         let mut slots = Vec::new(alloc);
         if let Err(failed) = slots.push(Some(value)) {
             slots.destroy_empty();
@@ -72,7 +76,7 @@ impl<S: Stands> Lock<S> {
                 None => unreachable!(),
             };
         }
-        match Table::new(alloc, &[0, 0, 1], slots, &()) {
+        match Table::new(alloc, &[0, 0, 1], slots, &start) {
             Ok((table, token)) => Ok((
                 Lock { table },
                 Seat {

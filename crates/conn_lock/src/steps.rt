@@ -9,16 +9,17 @@ use crate::stands::Stands;
 use crate::view::View;
 use atomic_table::{Join, Play, Split, TableRule};
 use std::marker::PhantomData;
+use std::snapshot::Snapshot;
 
 /// The rule of a lock round a value of type S.
 pub struct Rules<S> {
     marker: PhantomData<S>,
 }
 
-impl<S: Stands> TableRule<Option<S>, View<S::Entry>, ()> for Rules<S> {
+impl<S: Stands> TableRule<Option<S>, View<S::Entry>, Snapshot<S>> for Rules<S> {
     ghost holds = { λ _ state. Kept (slot_list S.list) IsSome S.number state };
 
-    ghost first = { λ _. first_view };
+    ghost first = { λ start. first_view (S.list start.value) };
 }
 
 /// Draws a ticket, by an exchange of the ticket word.

@@ -6,4 +6,4 @@ use Rattle.conn_lock.proofs.lock.Lock.new.Goals as goal
 pub new-requires : goal.new-requires
 new-requires g c =
     let items : c.push.new.self.items ≡ Some c.args.value ∷ [] = search rules in
-    rw items (opened (slot_list g.S.Stands.list) IsSome g.S.Stands.number (Some c.args.value) (search rules) c.requires)
+    rw (items, c.of-start.ensures) (opened (slot_list g.S.Stands.list) IsSome g.S.Stands.number (Some c.args.value) (search rules) c.requires)
