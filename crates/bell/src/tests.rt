@@ -3,7 +3,7 @@
 use super::Bell;
 use std::sync::Wait;
 use std::sync::atomic::{AtomicU64, Ordering};
-use std::thread::{Threads, join};
+use std::thread::join;
 
 /// How often each of two threads waits for the other.
 const ROUNDS: u64 = 200;

@@ -1,6 +1,6 @@
 -- What a call adds to the front of its caller.
 use Rattle.std.proofs.lemmas.Bool.Decides.{nat_tests}
-use Rattle.std.proofs.Common.{◌≡◌, ◌+◌, ℕ, Bool, true, false, if◌then◌else◌, List, [], ◌∷◌, ◌++◌, length, refl, sym, ap, subst, ◌∙◌, arith, append_assoc}
+use Rattle.std.proofs.Common.{◌≡◌, ◌+◌, ℕ, Bool, true, false, if◌then◌else◌, List, [], ◌∷◌, ◌++◌, refl, sym, ap, subst, ◌∙◌, arith, append_assoc}
 use Rattle.rs_wire.specs.declared.settings.Settings.{Settings}
 use Rattle.tape.specs.Answers.{leaves}
 use Rattle.tape.specs.Told.{entry_of}
@@ -9,7 +9,7 @@ use Rattle.tape.specs.declared.event.Event.{Event}
 use Rattle.tape.specs.declared.answer.Answer.{Answer}
 use Rattle.tape.specs.declared.answer.Answer.TheVariants as answer
 use Rattle.session_core.specs.Seen.{Seen, entries_after}
-use Rattle.conn_lock.specs.Callers.{calls, once, times}
+use Rattle.conn_lock.specs.Callers.{once}
 use Rattle.conn_lock.proofs.Totals.{calls_append}
 use Rattle.conn.specs.Callers.{Follows, Gains, Knows}
 use Rattle.conn.specs.Calls.{IsCalled, IsStep}

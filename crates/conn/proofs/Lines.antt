@@ -1,13 +1,12 @@
 -- The lines under the lock, and the entries in them.
 use Rattle.std.proofs.lemmas.Bool.Decides.{nat_tests}
-use Rattle.std.proofs.Common.{◌≡◌, ◌≤◌, ◌<◌, ◌+◌, ℕ, suc, Bool, true, false, cond, List, [], ◌∷◌, ◌++◌, length, nat_lt, refl, sym, ap, subst, ◌∙◌, arith, append-nil, append_assoc}
+use Rattle.std.proofs.Common.{◌≡◌, ◌≤◌, ◌<◌, ◌+◌, ℕ, suc, Bool, true, false, cond, List, [], ◌∷◌, ◌++◌, length, nat_lt, refl, sym, ap, ◌∙◌, arith, append-nil, append_assoc}
 use Rattle.std.proofs.lemmas.List.{length-append}
 use Rattle.rs_wire.specs.declared.settings.Settings.{Settings}
 use Rattle.tape.specs.declared.entry.Entry.{Entry}
 use mathlib.Core.List.{IsPrefix}
 use Rattle.session_core.specs.Seen.{Seen}
-use Rattle.session_model.specs.Legal.{Legal, Fair}
-use Rattle.conn_lock.specs.Callers.{Adds, IsOthers, calls, longer, once, times}
+use Rattle.conn_lock.specs.Callers.{Adds, IsOthers, calls, longer}
 use Rattle.conn_lock.specs.Callers as lock
 use Rattle.conn_lock.proofs.Totals.{calls_append}
 use Rattle.conn.specs.declared.line.Line.{Line}

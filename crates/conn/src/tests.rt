@@ -1,10 +1,12 @@
-//! Trials of a session that threads share. They are written for any tape, since a proof is
-//! dearer the more types it knows.
+//! Trials of a session that threads share. Events are made apart from connections, and the calls are
+//! written for any tape, since a proof is dearer the more types a function knows.
 
-ghost use Rattle.std.specs.Prelude.{◌≡◌, IfOk};
+ghost use Rattle.std.specs.Prelude.{◌≡◌, IfOk, None, false};
+ghost use Rattle.rs_wire.specs.declared.words.Side.TheVariants.{Server};
 ghost use Rattle.rs_wire.specs.Calls.{CanBeAsked};
 ghost use Rattle.rs_wire.specs.Settings.{usual};
-ghost use Rattle.rs_frame.specs.Spelling.{IsSpellable};
+ghost use Rattle.session_model.specs.Legal.{CanBring};
+ghost use Rattle.session_core.specs.Seen.{IsNoDrawEvent};
 
 use super::{Caller, Connection};
 use rs_frame::{Frame, Request, Setup, spellable};
@@ -39,22 +41,6 @@ fn connected<T: Tape + Drop>(
     }
 }
 
-// A client that is begun, on connection 1.
-fn begun_client<R: Wait, T: Tape + Drop>(
-    rt: &R,
-    alloc: Global,
-    tape: T,
-) -> Result<(Connection<T>, Caller<T>), Fail>
-    requires empty { T.count tape ≡ 0 }
-    ensures of { IfOk result (λ r. r.1.of ≡ r.0) }
-{
-    let (connection, mut caller) = connected(alloc, Side::Client, tape)?;
-    match connection.event(rt, &mut caller, &Event::opening()) {
-        Answer::Opened(1) => Ok((connection, caller)),
-        _ => Err(Fail::from("the client is begun")),
-    }
-}
-
 fn message(alloc: Global) -> Result<Message, Fail> {
     Ok(Message {
         metadata: None,
@@ -62,19 +48,12 @@ fn message(alloc: Global) -> Result<Message, Fail> {
     })
 }
 
-fn checked(frame: Frame) -> Result<Frame, Fail>
-    ensures { IfOk result IsSpellable }
+// The opening of a server, by a SETUP.
+fn opening(alloc: Global) -> Result<Event, Fail>
+    ensures fair { IfOk result (CanBring (usual Server)) }
+    ensures no_draw { IfOk result IsNoDrawEvent }
 {
-    if !spellable(&frame) {
-        return Err(Fail::from("the frame can be spelled"));
-    }
-    Ok(frame)
-}
-
-fn setup(alloc: Global) -> Result<Frame, Fail>
-    ensures { IfOk result IsSpellable }
-{
-    checked(Frame::Setup(Setup {
+    let first = Frame::Setup(Setup {
         resume: None,
         lease: false,
         major: 1,
@@ -84,190 +63,121 @@ fn setup(alloc: Global) -> Result<Frame, Fail>
         metadata_mime: Blob::from_slice(alloc, b"a/b")?,
         content_mime: Blob::from_slice(alloc, b"a/b")?,
         message: message(alloc)?,
-    }))
+    });
+    if !spellable(&first) {
+        return Err(Fail::from("the frame can be spelled"));
+    }
+    Ok(Event::opened_by(first))
 }
 
-// A REQUEST_FNF of stream 1.
-fn request(alloc: Global) -> Result<Frame, Fail>
-    ensures { IfOk result IsSpellable }
+// A REQUEST_FNF of stream 1 comes on connection 1.
+fn arrival(alloc: Global) -> Result<Event, Fail>
+    ensures fair { IfOk result (CanBring (usual Server)) }
+    ensures no_draw { IfOk result IsNoDrawEvent }
 {
-    checked(Frame::Request(Request {
+    let request = Frame::Request(Request {
         stream: 1,
         kind: Kind::Fnf,
         follows: false,
         complete: false,
         initial: None,
         message: message(alloc)?,
-    }))
-}
-
-// A server that is begun, on connection 1.
-fn begun_server<R: Wait, T: Tape + Drop>(
-    rt: &R,
-    alloc: Global,
-    tape: T,
-) -> Result<(Connection<T>, Caller<T>), Fail>
-    requires empty { T.count tape ≡ 0 }
-    ensures of { IfOk result (λ r. r.1.of ≡ r.0) }
-{
-    let (connection, mut caller) = connected(alloc, Side::Server, tape)?;
-    let first = Event::opened_by(setup(alloc)?);
-    match connection.event(rt, &mut caller, &first) {
-        Answer::Opened(1) => Ok((connection, caller)),
-        _ => Err(Fail::from("the server is begun")),
+    });
+    if !spellable(&request) {
+        return Err(Fail::from("the frame can be spelled"));
     }
+    Ok(Event::arrived(1, request))
 }
 
-fn split<R: Wait, T: Tape>(
+// Brings an event to a client or a server, and compares the answer.
+fn bring<R: Abort + Wait, T: Tape>(
     rt: &R,
     connection: &Connection<T>,
     caller: &mut Caller<T>,
-) -> Result<Caller<T>, Fail>
+    event: &Event,
+    expected: &Answer,
+)
     requires of { caller.old.of ≡ connection.now }
-    ensures first { caller.new.of ≡ connection.now }
-    ensures second { IfOk result (λ c. c.of ≡ connection.now) }
+    requires fair { CanBring connection.now.settings event.now }
+    requires no_draw { IsNoDrawEvent event.now }
+    ensures of { caller.new.of ≡ connection.now }
 {
-    match connection.split(rt, caller) {
-        Ok(other) => Ok(other),
-        Err(_) => Err(Fail::from("there are parts")),
-    }
+    assert_eq!(rt; connection.event(rt, caller, event), *expected);
 }
 
-fn call_what_is_refused<R: Abort + Wait, T: Tape + Drop>(
+// Asks, and compares the answer.
+fn ask<R: Abort + Wait, T: Tape>(
     rt: &R,
-    alloc: Global,
-    tape: T,
-) -> Result<(), Fail>
-    requires empty { T.count tape ≡ 0 }
+    connection: &Connection<T>,
+    caller: &mut Caller<T>,
+    call: &Call,
+    expected: &Answer,
+)
+    requires of { caller.old.of ≡ connection.now }
+    requires askable { CanBeAsked call.now }
+    ensures of { caller.new.of ≡ connection.now }
 {
-    let (connection, mut caller) = connected(alloc, Side::Client, tape)?;
+    assert_eq!(rt; connection.call(rt, caller, call), *expected);
+}
+
+#[test]
+fn a_call_is_refused_by_the_session(rt: HostRuntime) -> Result<(), Fail> {
+    let unknown = Answer::Refused(Refusal::UnknownStream);
+    let (connection, mut caller) = connected(rt.alloc(), Side::Client, Blank::new())?;
     assert_eq!(rt; connection.max_in(), 16_777_215);
-    let taken = connection.call(rt, &mut caller, &Call::Take { stream: 1 });
-    assert_eq!(rt; taken, Answer::Refused(Refusal::UnknownStream));
-    let looked = connection.look(rt, &mut caller);
+    ask(
+        &rt,
+        &connection,
+        &mut caller,
+        &Call::Take { stream: 1 },
+        &unknown,
+    );
+    let looked = connection.look(&rt, &mut caller);
     assert_eq!(rt; looked.live, 0);
     assert!(rt; !looked.carrying);
     Ok(())
 }
 
-#[test]
-fn a_call_is_refused_by_the_session(rt: HostRuntime) -> Result<(), Fail> {
-    call_what_is_refused(&rt, rt.alloc(), Blank::new())
-}
-
-fn take_what_waits<R: Abort + Wait, T: Tape + Drop>(
-    rt: &R,
-    alloc: Global,
-    tape: T,
-) -> Result<(), Fail>
-    requires empty { T.count tape ≡ 0 }
+// Takes what waits on a server, which is one job.
+fn take_all<R: Abort + Wait, T: Tape>(rt: &R, connection: &Connection<T>, caller: &mut Caller<T>)
+    requires of { caller.old.of ≡ connection.now }
 {
-    let (connection, mut caller) = begun_server(rt, alloc, tape)?;
-    let idle = connection.try_call(&mut caller, &Call::TakeJob);
-    assert_eq!(rt; idle, Some(Answer::NotYet));
-    let arrived = Event::arrived(1, request(alloc)?);
-    let handled = connection.event(rt, &mut caller, &arrived);
-    assert_eq!(rt; handled, Answer::Handled);
-    let job = connection.wait_job(rt, &mut caller);
+    let job = connection.wait_job(rt, caller);
     assert!(rt; matches!(job, Answer::GotJob(_)));
-    let taken = connection.wait_take(rt, &mut caller, 3);
+    let idle = connection.try_call(caller, &Call::TakeJob);
+    assert_eq!(rt; idle, Some(Answer::NotYet));
+    let taken = connection.wait_take(rt, caller, 3);
     assert_eq!(rt; taken, Answer::Refused(Refusal::UnknownStream));
-    Ok(())
 }
 
 #[test]
 fn what_waits_is_taken_at_once(rt: HostRuntime) -> Result<(), Fail> {
-    take_what_waits(&rt, rt.alloc(), Blank::new())
+    let opening = opening(rt.alloc())?;
+    let arrival = arrival(rt.alloc())?;
+    let (connection, mut caller) = connected(rt.alloc(), Side::Server, Blank::new())?;
+    bring(&rt, &connection, &mut caller, &opening, &Answer::Opened(1));
+    bring(&rt, &connection, &mut caller, &arrival, &Answer::Handled);
+    take_all(&rt, &connection, &mut caller);
+    Ok(())
 }
 
-fn try_all<R: Abort, T: Tape + Drop>(rt: &R, alloc: Global, tape: T) -> Result<(), Fail>
-    requires empty { T.count tape ≡ 0 }
+// Opens a client, and draws its SETUP.
+fn try_all<R: Abort, T: Tape>(rt: &R, connection: &Connection<T>, caller: &mut Caller<T>)
+    requires of { caller.old.of ≡ connection.now }
+    requires fair { CanBring connection.now.settings (Event.Open None false) }
 {
-    let (connection, mut caller) = connected(alloc, Side::Client, tape)?;
-    let opened = connection.try_event(&mut caller, &Event::opening());
+    let opened = connection.try_event(caller, &Event::opening());
     assert_eq!(rt; opened, Some(Answer::Opened(1)));
     let mut buffer = [0; 100];
-    let drawn = connection.try_draw(&mut caller, 1, &mut buffer);
+    let drawn = connection.try_draw(caller, 1, &mut buffer);
     assert_eq!(rt; drawn, Some(Answer::Drawn(71)));
-    Ok(())
 }
 
 #[test]
 fn a_try_has_its_turn_where_nobody_else_has(rt: HostRuntime) -> Result<(), Fail> {
-    try_all(&rt, rt.alloc(), Blank::new())
-}
-
-// Waits for a job.
-fn wait_as<R: Wait, T: Tape>(
-    rt: &R,
-    connection: &Connection<T>,
-    caller: Caller<T>,
-) -> (Caller<T>, Answer)
-    requires of { caller.of ≡ connection.now }
-    ensures of { result.0.of ≡ connection.now }
-{
-    let mut caller = caller;
-    let answer = connection.wait_job(rt, &mut caller);
-    (caller, answer)
-}
-
-// Brings a frame on connection 1.
-fn bring_as<R: Wait, T: Tape>(
-    rt: &R,
-    connection: &Connection<T>,
-    caller: Caller<T>,
-    frame: Frame,
-) -> Caller<T>
-    requires of { caller.of ≡ connection.now }
-    requires spellable { IsSpellable frame }
-    ensures of { result.of ≡ connection.now }
-{
-    let mut caller = caller;
-    connection.event(rt, &mut caller, &Event::arrived(1, frame));
-    caller
-}
-
-// One caller waits for a job in a thread, and another brings it.
-fn wait_for_other<R: Threads + Wait + Sync, T: Tape + Drop + Send>(
-    rt: &R,
-    connection: &Connection<T>,
-    waiter: Caller<T>,
-    bringer: Caller<T>,
-    frame: Frame,
-) -> Answer
-    requires first { waiter.of ≡ connection.now }
-    requires second { bringer.of ≡ connection.now }
-    requires spellable { IsSpellable frame }
-{
-    let ((_waiter, answer), _bringer) = join(
-        rt,
-        || -> (Caller<T>, Answer)
-            requires { waiter.of ≡ connection.now }
-        { wait_as(rt, connection, waiter) },
-        || -> Caller<T>
-            requires { (bringer.of ≡ connection.now) × IsSpellable frame }
-        { bring_as(rt, connection, bringer, frame) },
-    );
-    answer
-}
-
-fn wake<R: Abort + Threads + Wait + Sync, T: Tape + Drop + Send>(
-    rt: &R,
-    alloc: Global,
-    tape: T,
-) -> Result<(), Fail>
-    requires empty { T.count tape ≡ 0 }
-{
-    let (connection, mut caller) = begun_server(rt, alloc, tape)?;
-    let other = split(rt, &connection, &mut caller)?;
-    let answer = wait_for_other(rt, &connection, caller, other, request(alloc)?);
-    assert!(rt; matches!(answer, Answer::GotJob(_)));
+    let (connection, mut caller) = connected(rt.alloc(), Side::Client, Blank::new())?;
+    try_all(&rt, &connection, &mut caller);
     Ok(())
-}
-
-#[test]
-fn a_waiter_is_woken(rt: HostRuntime) -> Result<(), Fail> {
-    wake(&rt, rt.alloc(), Blank::new())
 }
 
 // Makes so many calls.
@@ -318,32 +228,6 @@ fn ask_in_two<R: Threads + Wait + Sync, T: Tape + Send>(
     caller
 }
 
-// The tape of a client on which two callers made so many calls each. It closes only with the parts
-// of both.
-fn share<R: Abort + Threads + Wait + Sync, T: Tape + Drop + Send>(
-    rt: &R,
-    alloc: Global,
-    tape: T,
-    times: u32,
-) -> Result<T, Fail>
-    requires empty { T.count tape ≡ 0 }
-{
-    let (connection, mut caller) = begun_client(rt, alloc, tape)?;
-    let other = split(rt, &connection, &mut caller)?;
-    assert_eq!(rt; other.parts(), 1 << 46);
-    assert_eq!(rt; other.number(), 1);
-    let Err((connection, caller)) = connection.close(caller) else {
-        return Err(Fail::from("the other's parts are missing"));
-    };
-    let call = Call::fire_and_forget(Blob::from_slice(alloc, b"hi")?);
-    let caller = ask_in_two(rt, &connection, caller, other, &call, times);
-    assert_eq!(rt; caller.parts(), 1 << 62);
-    match connection.close(caller) {
-        Ok(session) => Ok(session.into_tape()),
-        Err(_) => Err(Fail::from("all parts are there")),
-    }
-}
-
 // Calls of two callers, each with so many, whose ids rise by two from 1.
 fn check_calls<R: Abort>(rt: &R, entries: &[Entry], times: u32) {
     let mut next = 1u32;
@@ -360,7 +244,26 @@ fn check_calls<R: Abort>(rt: &R, entries: &[Entry], times: u32) {
 
 #[test]
 fn two_threads_share_one_list(rt: HostRuntime) -> Result<(), Fail> {
-    let tape = share(&rt, rt.alloc(), Kept::new(rt.alloc()), 100)?;
+    let call = Call::fire_and_forget(Blob::from_slice(rt.alloc(), b"hi")?);
+    let tape = Kept::new(rt.alloc());
+    let (connection, mut caller) = connected(rt.alloc(), Side::Client, tape)?;
+    bring(
+        &rt,
+        &connection,
+        &mut caller,
+        &Event::opening(),
+        &Answer::Opened(1),
+    );
+    let other = connection
+        .split(&rt, &mut caller)
+        .ok()
+        .ok_or("there are parts")?;
+    let Err((connection, caller)) = connection.close(caller) else {
+        return Err(Fail::from("the other's parts are missing"));
+    };
+    let caller = ask_in_two(&rt, &connection, caller, other, &call, 100);
+    let session = connection.close(caller).ok().ok_or("all parts are there")?;
+    let tape = session.into_tape();
     let [first, calls @ ..] = tape.entries() else {
         return Err(Fail::from("the tape has entries"));
     };

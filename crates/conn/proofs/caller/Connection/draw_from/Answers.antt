@@ -1,4 +1,4 @@
-use Rattle.std.proofs.Common.{rules, ◌≡◌}
+use Rattle.std.proofs.Common.{rules}
 use Rattle.conn.proofs.caller.Connection.draw_from.Goals as goal
 
 pub returns-clause-drawn : goal.returns-clause-drawn

@@ -1,4 +1,4 @@
-use Rattle.std.proofs.Common.{rules, ◌≡◌, ◌∙◌, ap, subst}
+use Rattle.std.proofs.Common.{rules, ◌∙◌, ap, subst}
 use Rattle.conn_lock.specs.Callers.{Follows}
 use Rattle.conn.specs.Lines.{entries_in, lines_of, lines_with, number_of}
 use Rattle.conn.proofs.Lines.{entries-noted, went_on}

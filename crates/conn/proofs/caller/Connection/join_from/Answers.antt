@@ -1,8 +1,8 @@
-use Rattle.std.proofs.Common.{◌≡◌, ◌∙◌, ap, subst}
+use Rattle.std.proofs.Common.{◌∙◌, ap, subst}
 use mathlib.Core.List.{IsPrefix}
 use Rattle.session_model.specs.Legal.{Fair, Legal}
 use Rattle.conn_lock.specs.Callers.{longer}
-use Rattle.conn.specs.Lines.{entries_in, lines_with, settings_in}
+use Rattle.conn.specs.Lines.{entries_in, settings_in}
 use Rattle.conn.proofs.Lines.{entries-noted, goes_on, longer_fronts}
 use Rattle.conn.proofs.Seated.{fair_by, legal_by, of_longer, seated}
 use Rattle.conn.proofs.caller.Connection.join_from.Goals as goal

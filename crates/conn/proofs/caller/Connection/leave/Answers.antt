@@ -1,4 +1,4 @@
-use Rattle.std.proofs.Common.{rules, ◌≡◌, ◌∙◌, ap}
+use Rattle.std.proofs.Common.{rules, ◌∙◌, ap}
 use Rattle.conn.specs.Lines.{entries_in, lines_with}
 use Rattle.conn.proofs.Lines.{entries-noted, gains_lines}
 use Rattle.conn.proofs.Seated.{seated}

@@ -1,4 +1,4 @@
-use Rattle.std.proofs.Common.{rules, ◌≡◌}
+use Rattle.std.proofs.Common.{rules}
 use Rattle.conn.proofs.Called.{refused_at}
 use Rattle.conn.proofs.caller.Connection.refuse_in.Goals as goal
 

@@ -1,4 +1,4 @@
-use Rattle.std.proofs.Common.{◌≡◌, ap, subst}
+use Rattle.std.proofs.Common.{ap, subst}
 use Rattle.conn.specs.Calls.{IsStep}
 use Rattle.conn.specs.Lines.{entries_in}
 use Rattle.conn.proofs.caller.Connection.try_refuse_from.Goals as goal

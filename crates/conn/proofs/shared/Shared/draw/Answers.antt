@@ -1,4 +1,4 @@
-use Rattle.std.proofs.Common.{rules, ◌≡◌, length, sym, subst}
+use Rattle.std.proofs.Common.{rules, length, sym, subst}
 use Rattle.tape.specs.declared.event.Event.TheVariants as event
 use Rattle.conn.specs.Callers.{Gains}
 use Rattle.conn.proofs.Called.{gains_own}

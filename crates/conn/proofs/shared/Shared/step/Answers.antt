@@ -1,4 +1,4 @@
-use Rattle.std.proofs.Common.{rules, ◌≡◌, sym, subst}
+use Rattle.std.proofs.Common.{rules, sym, subst}
 use Rattle.conn.specs.Callers.{Gains}
 use Rattle.conn.proofs.Called.{gains_own}
 use Rattle.conn.proofs.shared.Shared.step.Goals as goal
