@@ -1,9 +1,10 @@
 //! Two ends of a session in one process: a stream of three items, two of which may come at first.
 #![tactic(auto)]
 
-ghost use Rattle.std.specs.Prelude.{◌≡◌, IfOk};
-ghost use Rattle.rs_wire.specs.Settings.{usual};
+ghost use Rattle.std.specs.Prelude.{◌≡◌, ◌<◌, ◌^◌, IfOk, length};
 ghost use Rattle.rs_wire.specs.Calls.{CanBeAsked};
+ghost use Rattle.session_model.specs.Legal.{CanBring};
+ghost use Rattle.session_core.specs.Seen.{IsNoDrawEvent};
 
 use anyhow::{Context, Result};
 use rs_chunk::split_frame;
@@ -16,7 +17,7 @@ use tape::{Event, Kept};
 
 // A session of which nothing happened yet, with the defaults of its side.
 fn end(alloc: Global, side: Side) -> Result<Session<Kept>>
-    ensures { IfOk result (λ s. s.settings ≡ usual side) }
+    ensures { IfOk result (λ s. s.settings.side ≡ side) }
 {
     let settings = check(Settings::usual(alloc, side)?).map_err(|(_, fault)| fault)?;
     let session = Session::new(alloc, settings, Kept::new(alloc)).map_err(|(_, error)| error)?;
@@ -37,13 +38,22 @@ fn next(alloc: Global, item: &[u8]) -> Result<Call>
     })
 }
 
+// Brings an event to an end.
+fn tell(rt: &impl Print, name: &str, end: &mut Session<Kept>, event: &Event) -> Result<()>
+    requires fair { CanBring end.old.settings event.now }
+    requires no_draw { IsNoDrawEvent event.now }
+    ensures { end.new.settings ≡ end.old.settings }
+{
+    println!(rt; "{name}: {:?}", end.step(0, event))?;
+    Ok(())
+}
+
 // A caller at an end asks something.
 fn ask(rt: &impl Print, name: &str, end: &mut Session<Kept>, call: Call) -> Result<()>
     requires { CanBeAsked call }
     ensures { end.new.settings ≡ end.old.settings }
 {
-    println!(rt; "{name}: {:?}", end.step(0, &Event::Asked(call)))?;
-    Ok(())
+    tell(rt, name, end, &Event::Asked(call))
 }
 
 // Draws what is queued at an end.
@@ -61,7 +71,22 @@ fn draw<'a>(
     buffer.get(..drawn as usize).context("more than fits")
 }
 
-// Brings each frame in the bytes to the end at which they came.
+// A frame comes at an end.
+fn come(
+    rt: &impl Print,
+    alloc: Global,
+    name: &str,
+    end: &mut Session<Kept>,
+    frame: &[u8],
+) -> Result<()>
+    requires { length frame.now < 2 ^ 24 }
+    ensures { end.new.settings ≡ end.old.settings }
+{
+    let came = Event::arrived(1, decode(alloc, frame)?);
+    tell(rt, name, end, &came)
+}
+
+// Each frame in the bytes comes at an end.
 fn bring(
     rt: &impl Print,
     alloc: Global,
@@ -73,8 +98,7 @@ fn bring(
 {
     let mut rest = bytes;
     while let Some((frame, after)) = split_frame(rest) {
-        let came = Event::arrived(1, decode(alloc, frame)?);
-        println!(rt; "{name}: {:?}", end.step(0, &came))?;
+        come(rt, alloc, name, end, frame)?;
         rest = after;
     }
     Ok(())
@@ -87,7 +111,7 @@ fn main(rt: HostRuntime) -> Result<()> {
     let mut buffer = [0; 1024];
 
     // The client opens connection 1, and asks for a stream of which two items may come at first.
-    println!(rt; "client: {:?}", client.step(0, &Event::opening()))?;
+    tell(&rt, "client", &mut client, &Event::opening())?;
     let request = Call::Request {
         kind: Kind::Stream,
         initial: Amount::of(2),
@@ -103,7 +127,7 @@ fn main(rt: HostRuntime) -> Result<()> {
     let bytes = draw(&rt, "client", &mut client, &mut buffer)?;
     let (setup, rest) = split_frame(bytes).context("no SETUP")?;
     let opened = Event::opened_by(decode(alloc, setup)?);
-    println!(rt; "server: {:?}", server.step(0, &opened))?;
+    tell(&rt, "server", &mut server, &opened)?;
     bring(&rt, alloc, "server", &mut server, rest)?;
     ask(&rt, "server", &mut server, Call::TakeJob)?;
 
