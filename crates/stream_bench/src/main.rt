@@ -1,9 +1,8 @@
 //! Times an item of a stream, of 16 bytes: from the call at the server to the answer to its frame at
 //! the client, and until the client took it, over tapes that keep no entries and over ones that do.
 //!
-//! With a word, as `times`, it prints nanoseconds an item, of all rounds and of the shortest, since
-//! other work on the machine only lengthens one: for items that cross one by one, and for batches of
-//! which each crosses at once. With none it prints how many items the client took of
+//! With a word, as `times`, it prints nanoseconds an item: for items that cross one by one, and for
+//! batches of which each crosses at once. With none it prints how many items the client took of
 //! short streams, so that its output is always the same.
 #![tactic(auto)]
 
@@ -17,9 +16,8 @@ use anyhow::Result;
 use rs_wire::{Settings, Side, check};
 use session_core::Session;
 use std::alloc::Global;
-use std::env;
-use std::io::{self, Print};
 use std::time::Clock;
+use std::{env, io};
 use stream::{ROUND, Run, Took, stream};
 use tape::{Blank, Kept, Tape};
 
@@ -56,18 +54,17 @@ fn timed<T: Tape + Drop, R: Clock>(rt: &R, alloc: Global, tapes: (T, T), run: Ru
     stream(rt, alloc, &mut client, &mut server, run)
 }
 
-fn tell(rt: &impl Print, tape: &str, run: Run, took: Took, is_timed: bool) -> io::Result<()> {
-    let items = u128::from(took.items.max(1));
-    if !is_timed {
-        return println!(rt; "{tape} batch {} items {items}", run.batch);
+fn tell(rt: &impl io::Print, tape: &str, run: Run, took: Took, timed: bool) -> io::Result<()> {
+    print!(rt; "{tape} batch {} items {}", run.batch, took.items)?;
+    if timed {
+        let items = u128::from(took.items.max(1));
+        print!(rt;
+            " crossing {} taking {}",
+            took.crossing / items,
+            took.taking / items
+        )?;
     }
-    println!(rt;
-        "{tape} batch {} items {items} crossing {} shortest {} taking {}",
-        run.batch,
-        took.crossing / items,
-        took.shortest / u128::from(ROUND),
-        took.taking / items
-    )
+    println!(rt; "")
 }
 
 fn main(rt: HostRuntime) -> Result<()> {

@@ -1,6 +1,6 @@
 //! A stream in rounds, and the time that its items take.
 
-ghost use Rattle.std.specs.Prelude.{◌≡◌, ◌+◌, ◌<◌, ◌^◌, min};
+ghost use Rattle.std.specs.Prelude.{◌≡◌, ◌<◌, ◌≤◌, IfOk};
 ghost use Rattle.rs_wire.specs.declared.words.Side.TheVariants.{Client, Server};
 
 use crate::ends::{Wire, arrive, carry, meet, open, send, start, take};
@@ -29,35 +29,25 @@ pub struct Took {
     pub items: u32,
     /// Nanoseconds from the call at the server to the answer to the frame at the client, of all items.
     pub crossing: u128,
-    /// The same, of the items of the shortest round.
-    pub shortest: u128,
-    /// Nanoseconds until the client took them, of all items.
+    /// Nanoseconds until the client took them.
     pub taking: u128,
 }
 
 impl Took {
     // Nothing yet.
-    fn new() -> Took
-        ensures { result.items ≡ 0 }
-    {
+    fn new() -> Took {
         Took {
             items: 0,
             crossing: 0,
-            shortest: u128::MAX,
             taking: 0,
         }
     }
 
     // With one round more.
-    fn and(self, round: Took) -> Took
-        ensures items { self.items + round.items < 2 ^ 32 →
-            result.items ≡ self.items + round.items }
-        ensures shortest { result.shortest ≡ min self.shortest round.shortest }
-    {
+    fn and(self, round: Took) -> Took {
         Took {
             items: self.items.saturating_add(round.items),
             crossing: self.crossing.saturating_add(round.crossing),
-            shortest: self.shortest.min(round.shortest),
             taking: self.taking.saturating_add(round.taking),
         }
     }
@@ -145,11 +135,9 @@ fn round<T: Tape, R: Clock>(
     batches(alloc, client, server, wire, batch)?;
     let middle = Instant::now(rt)?;
     take_all(client, items)?;
-    let crossing = middle.duration_since(start).as_nanos();
     Ok(Took {
         items,
-        crossing,
-        shortest: crossing,
+        crossing: middle.duration_since(start).as_nanos(),
         taking: middle.elapsed(rt)?.as_nanos(),
     })
 }
