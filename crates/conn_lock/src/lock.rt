@@ -27,8 +27,13 @@ pub(crate) const VALUE: usize = 0;
 /// The parts of all seats of a lock.
 const ALL_PARTS: u64 = 1 << 62;
 
-type Table<S> =
-    atomic_table::Table<Option<S>, View<<S as Stands>::Entry>, Snapshot<S>, Rules<S>, Global>;
+type Table<S> = atomic_table::Table<
+    Option<S>,
+    View<<S as Stands>::Entry>,
+    Snapshot<S>,
+    Rules<S>,
+    Global,
+>;
 
 /// A lock round a value. Threads share it by reference. Contracts see which lock it is.
 #[derive(Drop)]
