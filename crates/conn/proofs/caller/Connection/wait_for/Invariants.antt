@@ -1,8 +1,0 @@
-use Rattle.std.proofs.Common.{◌≡◌}
-use Rattle.conn.specs.Callers.{Follows}
-use Rattle.conn.proofs.caller.Connection.wait_for.Given as goal
-
-abbrev pub invariant-loop : goal.invariant-loop
-invariant-loop g l =
-    (l.caller ≡ record l.fn.caller { front = l.caller.front; note = l.caller.note })
-    × Follows l.fn.caller.names l.fn.caller.front l.caller.front

@@ -1,7 +1,0 @@
-use Rattle.std.proofs.Common.{rules, sym, subst}
-use Rattle.conn.specs.Callers.{Gains}
-use Rattle.conn.proofs.Called.{gains_own}
-use Rattle.conn.proofs.shared.Shared.step.Goals as goal
-
-pub returns-clause-own : goal.returns-clause-own
-returns-clause-own g c = subst (Gains c.args.who c.args.self.now.entries) (sym (search rules)) (gains_own c.args.self.now.entries c.args.who c.args.event.now c.step-answer.result)
