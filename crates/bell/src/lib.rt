@@ -1,8 +1,8 @@
 //! A bell, for threads that wait until something happens.
 //!
 //! A waiter listens first, looks whether what it waits for is there, and sleeps only where it is
-//! not. Whoever makes it happen rings afterwards. So a ring between the look and the sleep is heard,
-//! and a waiter wakes within microseconds. To ring costs one load where nobody listens.
+//! not. Whoever makes it happen rings afterwards. So a ring between the look and the sleep is heard.
+//! To ring costs one load where nobody listens.
 //!
 //! Nothing is promised of who wakes, and when: contracts do not see a bell.
 #![tactic(auto)]
