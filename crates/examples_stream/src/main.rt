@@ -1,0 +1,89 @@
+//! Two ends of a session in one process: a stream of three items, two of which may come at first.
+#![tactic(auto)]
+
+mod calls;
+mod ends;
+
+use anyhow::{Context, Result};
+use calls::{next, request};
+use ends::{End, accept, ask, connect, receive, send};
+use rs_chunk::split_frame;
+use rs_wire::{Amount, Blob, Call};
+use std::alloc::Global;
+use std::io::Print;
+
+/// The one stream, which the client opens.
+const STREAM: u32 = 1;
+
+// The client asks for the stream, of which two items may come at first.
+fn ask_for_items(rt: &impl Print, alloc: Global, client: &mut End) -> Result<Vec<u8>> {
+    let initial = Amount::of(2).context("not in range")?;
+    let content = Blob::from_slice(alloc, b"count")?;
+    ask(rt, "client", client, request(content, initial))?;
+    send(rt, alloc, "client", client)
+}
+
+// SETUP opens the connection at the server, and the request comes after it.
+fn meet(rt: &impl Print, alloc: Global, bytes: &[u8]) -> Result<End> {
+    let (setup, rest) = split_frame(bytes).context("no SETUP")?;
+    let mut server = accept(rt, alloc, setup)?;
+    receive(rt, alloc, "server", &mut server, rest)?;
+    ask(rt, "server", &mut server, Call::TakeJob)?;
+    Ok(server)
+}
+
+// The server sends an item.
+fn send_item(rt: &impl Print, alloc: Global, server: &mut End, item: &[u8]) -> Result<()> {
+    let content = Blob::from_slice(alloc, item)?;
+    ask(rt, "server", server, next(STREAM, content))
+}
+
+// The server sends two items. For a third there is no credit.
+fn send_two(rt: &impl Print, alloc: Global, server: &mut End) -> Result<Vec<u8>> {
+    for item in [b"1", b"2", b"3"] {
+        send_item(rt, alloc, server, item)?;
+    }
+    send(rt, alloc, "server", server)
+}
+
+// The client takes what came next on the stream.
+fn take(rt: &impl Print, client: &mut End) -> Result<()> {
+    ask(rt, "client", client, Call::Take { stream: STREAM })
+}
+
+// The client takes one of the items that came, and lets one more come.
+fn grant_one(rt: &impl Print, alloc: Global, client: &mut End, bytes: &[u8]) -> Result<Vec<u8>> {
+    receive(rt, alloc, "client", client, bytes)?;
+    take(rt, client)?;
+    let n = Amount::of(1).context("not in range")?;
+    ask(rt, "client", client, Call::Grant { stream: STREAM, n })?;
+    send(rt, alloc, "client", client)
+}
+
+// The server sends the third item, and is done.
+fn send_last(rt: &impl Print, alloc: Global, server: &mut End, bytes: &[u8]) -> Result<Vec<u8>> {
+    receive(rt, alloc, "server", server, bytes)?;
+    send_item(rt, alloc, server, b"3")?;
+    ask(rt, "server", server, Call::Done { stream: STREAM })?;
+    send(rt, alloc, "server", server)
+}
+
+// The client takes the other items, and the end.
+fn take_rest(rt: &impl Print, alloc: Global, client: &mut End, bytes: &[u8]) -> Result<()> {
+    receive(rt, alloc, "client", client, bytes)?;
+    for _ in 0..3 {
+        take(rt, client)?;
+    }
+    Ok(())
+}
+
+fn main(rt: HostRuntime) -> Result<()> {
+    let alloc = rt.alloc();
+    let mut client = connect(&rt, alloc)?;
+    let asked = ask_for_items(&rt, alloc, &mut client)?;
+    let mut server = meet(&rt, alloc, &asked)?;
+    let two = send_two(&rt, alloc, &mut server)?;
+    let granted = grant_one(&rt, alloc, &mut client, &two)?;
+    let last = send_last(&rt, alloc, &mut server, &granted)?;
+    take_rest(&rt, alloc, &mut client, &last)
+}
