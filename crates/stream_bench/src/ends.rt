@@ -1,16 +1,14 @@
-//! What the two ends of a stream are asked, and how its bytes cross.
+//! What the two ends of a stream are asked, one end a function.
 
-ghost use Rattle.std.specs.Prelude.{◌≡◌, ◌<◌, ◌^◌, length};
-ghost use Rattle.rs_wire.specs.declared.words.Side.TheVariants.{Client, Server};
+ghost use Rattle.std.specs.Prelude.{◌≡◌, ◌<◌, ◌^◌, IfOk, length};
 ghost use Rattle.rs_wire.specs.Calls.{CanBeAsked};
+ghost use Rattle.rs_wire.specs.Settings.{usual};
 ghost use Rattle.rs_frame.specs.Spelling.{IsSpellable};
-ghost use Rattle.session_model.specs.Legal.{CanBring};
-ghost use Rattle.session_core.specs.Seen.{IsNoDrawEvent};
 
-use anyhow::{Context, Result, bail};
-use rs_chunk::{Front, Reader, split_frame};
+use anyhow::{Context, Result, ensure};
+use rs_chunk::split_frame;
 use rs_frame::{Frame, decode};
-use rs_wire::{Amount, Blob, Call, Delivery, Kind, Message};
+use rs_wire::{Amount, Blob, Call, Delivery, Kind, Message, Settings, Side, check};
 use session_core::Session;
 use std::alloc::Global;
 use tape::{Answer, Event, Tape};
@@ -18,200 +16,170 @@ use tape::{Answer, Event, Tape};
 /// The bytes of an item.
 const ITEM: &[u8; 16] = b"an item of bytes";
 
-/// The most bytes of one draw.
-const ROOM: usize = 16_384;
-
-/// The most bytes of a frame, 2^24 - 1.
-const LONGEST: u32 = 16_777_215;
-
 /// The most items that a request grants, 2^31 - 1.
 const MOST: u32 = 2_147_483_647;
 
-/// The number of the one connection, at both ends.
-const CONN: u64 = 1;
+/// How many bytes a draw moves at most.
+pub const ROOM: usize = 16_384;
 
-/// The one stream.
+/// The number of the one connection, at both ends.
+const CONNECTION: u64 = 1;
+
+/// The one stream, which the client opens.
 const STREAM: u32 = 1;
 
 /// The number of the one caller, at both ends.
 const CALLER: u32 = 0;
 
-/// What crosses from the server to the client.
-#[derive(Drop)]
-pub struct Wire {
-    /// Where bytes are drawn to.
-    drawn: Vec<u8>,
-    /// What crossed and did not come yet.
-    crossed: Reader,
-    ghost room: { length drawn.items ≡ 16384 },
-    ghost longest: { crossed.max_in < 2 ^ 24 },
-}
-
-impl Wire {
-    /// Nothing crossed yet.
-    pub fn new(alloc: Global) -> Result<Wire> {
-        let mut drawn = Vec::new(alloc);
-        drawn.resize(ROOM, 0)?;
-        Ok(Wire {
-            drawn,
-            crossed: Reader::new(alloc, LONGEST),
-        })
-    }
-}
-
-// Brings an event to an end.
-fn tell<T: Tape>(end: &mut Session<T>, event: &Event) -> Answer
-    requires fair { CanBring end.old.settings event.now }
-    requires no_draw { IsNoDrawEvent event.now }
-    ensures { end.new.settings ≡ end.old.settings }
-{
-    end.step(CALLER, event)
-}
-
-// A caller at an end asks something.
-fn ask<T: Tape>(end: &mut Session<T>, call: Call) -> Answer
-    requires { CanBeAsked call }
-    ensures { end.new.settings ≡ end.old.settings }
-{
-    tell(end, &Event::Asked(call))
-}
-
-// The first frame comes at the server.
-fn open_by<T: Tape>(server: &mut Session<T>, frame: Frame) -> Answer
-    requires side { server.old.settings.side ≡ Server }
-    requires spellable { IsSpellable frame }
-    ensures { server.new.settings ≡ server.old.settings }
-{
-    tell(server, &Event::opened_by(frame))
-}
-
-// A frame after the first comes at an end.
-fn come<T: Tape>(end: &mut Session<T>, frame: Frame) -> Result<()>
-    requires { IsSpellable frame }
-    ensures { end.new.settings ≡ end.old.settings }
-{
-    match tell(end, &Event::arrived(CONN, frame)) {
-        Answer::Handled => Ok(()),
-        answer => bail!("a frame is answered {answer:?}"),
-    }
-}
-
-/// The client opens the connection.
-pub fn open<T: Tape>(client: &mut Session<T>) -> Result<()>
-    requires { client.old.settings.side ≡ Client }
-    ensures { client.new.settings ≡ client.old.settings }
-{
-    match tell(client, &Event::opening()) {
-        Answer::Opened(CONN) => Ok(()),
-        answer => bail!("the opening is answered {answer:?}"),
+// Content without metadata.
+fn plain(content: Blob) -> Message {
+    Message {
+        metadata: None,
+        content,
     }
 }
 
 // A stream of as many items as can be granted.
-fn request(alloc: Global) -> Call
+fn request(content: Blob) -> Call
     ensures { CanBeAsked result }
 {
     Call::Request {
         kind: Kind::Stream,
         initial: Amount::of(MOST),
-        message: Message {
-            metadata: None,
-            content: Blob::from_vec(Vec::new(alloc)),
-        },
+        message: plain(content),
         complete: false,
     }
 }
 
-/// The client asks for the stream.
-pub fn start<T: Tape>(alloc: Global, client: &mut Session<T>) -> Result<()>
-    ensures { client.new.settings ≡ client.old.settings }
+// An item on the stream.
+fn next(content: Blob) -> Call
+    ensures { CanBeAsked result }
 {
-    match ask(client, request(alloc)) {
-        Answer::Started(STREAM) => Ok(()),
-        answer => bail!("the request is answered {answer:?}"),
-    }
-}
-
-// What is queued at an end crosses, as far as there is room.
-fn draw<T: Tape>(end: &mut Session<T>, room: &mut [u8]) -> Result<usize>
-    requires some { 0 < length room.old }
-    requires few { length room.old < 2 ^ 32 }
-    ensures { end.new.settings ≡ end.old.settings }
-{
-    match end.draw(CALLER, CONN, room) {
-        Answer::Drawn(n) => Ok(n as usize),
-        answer => bail!("a draw is answered {answer:?}"),
-    }
-}
-
-/// The client's first two frames cross and come at the server, which takes the job in them.
-pub fn meet<T: Tape>(
-    alloc: Global,
-    client: &mut Session<T>,
-    server: &mut Session<T>,
-    wire: &mut Wire,
-) -> Result<()>
-    requires { server.old.settings.side ≡ Server }
-    ensures client { client.new.settings ≡ client.old.settings }
-    ensures server { server.new.settings ≡ server.old.settings }
-{
-    draw(client, wire.drawn.as_mut_slice())?;
-    let (setup, rest) = split_frame(wire.drawn.as_slice()).context("no SETUP")?;
-    let (request, _) = split_frame(rest).context("no request")?;
-    open_by(server, decode(alloc, setup)?);
-    come(server, decode(alloc, request)?)?;
-    match ask(server, Call::TakeJob) {
-        Answer::GotJob(_) => Ok(()),
-        answer => bail!("to take the job is answered {answer:?}"),
-    }
-}
-
-/// The server sends an item.
-pub fn send<T: Tape>(alloc: Global, server: &mut Session<T>) -> Result<()>
-    ensures { server.new.settings ≡ server.old.settings }
-{
-    let next = Call::Next {
+    Call::Next {
         stream: STREAM,
-        message: Message {
-            metadata: None,
-            content: Blob::from_slice(alloc, ITEM)?,
-        },
+        message: plain(content),
         complete: false,
-    };
-    match ask(server, next) {
-        Answer::Done => Ok(()),
-        answer => bail!("an item is answered {answer:?}"),
     }
 }
 
-/// What is queued at the server crosses, up to the most of a draw.
-pub fn carry<T: Tape>(server: &mut Session<T>, wire: &mut Wire) -> Result<()>
-    ensures { server.new.settings ≡ server.old.settings }
+// An end at which nothing happened yet, with the defaults of its side.
+fn new_end<T: Tape + Drop>(alloc: Global, side: Side, tape: T) -> Result<Session<T>>
+    requires { T.Tape.count tape ≡ 0 }
+    ensures { IfOk result (λ s. s.settings ≡ usual side) }
 {
-    let count = draw(server, wire.drawn.as_mut_slice())?;
-    let drawn = wire.drawn.get(..count).context("more than fits")?;
-    wire.crossed.feed(drawn)?;
+    let settings = check(Settings::usual(alloc, side)?).map_err(|(_, fault)| fault)?;
+    let session = Session::new(alloc, settings, tape).map_err(|(_, error)| error)?;
+    Ok(session)
+}
+
+// Fails where an end does not answer as it should.
+fn expect(is_right: bool, answer: &Answer) -> Result<()> {
+    ensure!(is_right, "an end answers {answer:?}");
     Ok(())
 }
 
-/// The frame that crossed first comes at the client.
-pub fn arrive<T: Tape>(alloc: Global, client: &mut Session<T>, wire: &mut Wire) -> Result<()>
-    ensures { client.new.settings ≡ client.old.settings }
+// A caller at an end asks something.
+fn ask<T: Tape>(end: &mut Session<T>, call: Call) -> Answer
+    requires { CanBeAsked call }
 {
-    let Front::Whole(bytes) = wire.crossed.front() else {
-        bail!("no frame crossed");
-    };
-    let frame = decode(alloc, bytes)?;
-    wire.crossed.pass();
-    come(client, frame)
+    end.step(CALLER, &Event::Asked(call))
 }
 
-/// The client takes an item.
-pub fn take<T: Tape>(client: &mut Session<T>) -> Result<()>
-    ensures { client.new.settings ≡ client.old.settings }
+// A frame after the first comes at an end.
+fn come<T: Tape>(end: &mut Session<T>, frame: Frame) -> Result<()>
+    requires { IsSpellable frame }
 {
-    match ask(client, Call::Take { stream: STREAM }) {
-        Answer::Got(Delivery::Item(_)) => Ok(()),
-        answer => bail!("to take an item is answered {answer:?}"),
+    let answer = end.step(CALLER, &Event::arrived(CONNECTION, frame));
+    expect(matches!(&answer, Answer::Handled), &answer)
+}
+
+// A client that opened its connection.
+fn connect<T: Tape + Drop>(alloc: Global, tape: T) -> Result<Session<T>>
+    requires { T.Tape.count tape ≡ 0 }
+{
+    let mut client = new_end(alloc, Side::Client, tape)?;
+    let answer = client.step(CALLER, &Event::opening());
+    expect(matches!(&answer, Answer::Opened(CONNECTION)), &answer)?;
+    Ok(client)
+}
+
+/// A client that asked for the stream.
+pub fn start<T: Tape + Drop>(alloc: Global, tape: T) -> Result<Session<T>>
+    requires { T.Tape.count tape ≡ 0 }
+{
+    let mut client = connect(alloc, tape)?;
+    let answer = ask(&mut client, request(Blob::from_vec(Vec::new(alloc))));
+    expect(matches!(&answer, Answer::Started(STREAM)), &answer)?;
+    Ok(client)
+}
+
+// A server whose connection a client opened by this frame.
+fn accept<T: Tape + Drop>(alloc: Global, tape: T, setup: &[u8]) -> Result<Session<T>>
+    requires empty { T.Tape.count tape ≡ 0 }
+    requires few { length setup.now < 2 ^ 24 }
+{
+    let mut server = new_end(alloc, Side::Server, tape)?;
+    let opened = Event::opened_by(decode(alloc, setup)?);
+    let answer = server.step(CALLER, &opened);
+    expect(matches!(&answer, Answer::Opened(CONNECTION)), &answer)?;
+    Ok(server)
+}
+
+/// A server that took the job, from the bytes of SETUP and of the request.
+pub fn meet<T: Tape + Drop>(alloc: Global, tape: T, bytes: &[u8]) -> Result<Session<T>>
+    requires { T.Tape.count tape ≡ 0 }
+{
+    let (setup, rest) = split_frame(bytes).context("no SETUP")?;
+    let (request, _) = split_frame(rest).context("no request")?;
+    let mut server = accept(alloc, tape, setup)?;
+    come(&mut server, decode(alloc, request)?)?;
+    let answer = ask(&mut server, Call::TakeJob);
+    expect(matches!(&answer, Answer::GotJob(_)), &answer)?;
+    Ok(server)
+}
+
+/// What is queued at an end goes into the buffer, as far as there is room: how many bytes.
+pub fn draw<T: Tape>(end: &mut Session<T>, buffer: &mut [u8; ROOM]) -> Result<usize> {
+    let answer = end.draw(CALLER, CONNECTION, buffer);
+    let count = answer.drawn().context("nothing is queued")?;
+    Ok(count as usize)
+}
+
+// The server sends an item.
+fn send_one<T: Tape>(alloc: Global, server: &mut Session<T>) -> Result<()> {
+    let content = Blob::from_slice(alloc, ITEM)?;
+    let answer = ask(server, next(content));
+    expect(matches!(&answer, Answer::Done), &answer)
+}
+
+/// The server sends items.
+pub fn send<T: Tape>(alloc: Global, server: &mut Session<T>, items: u32) -> Result<()> {
+    for _ in 0..items {
+        send_one(alloc, server)?;
     }
+    Ok(())
+}
+
+/// The bytes come at the client, frame by frame.
+pub fn receive<T: Tape>(alloc: Global, client: &mut Session<T>, bytes: &[u8]) -> Result<()> {
+    let mut rest = bytes;
+    while let Some((frame, after)) = split_frame(rest) {
+        come(client, decode(alloc, frame)?)?;
+        rest = after;
+    }
+    Ok(())
+}
+
+// The client takes an item.
+fn take_one<T: Tape>(client: &mut Session<T>) -> Result<()> {
+    let answer = ask(client, Call::Take { stream: STREAM });
+    expect(matches!(&answer, Answer::Got(Delivery::Item(_))), &answer)
+}
+
+/// The client takes items.
+pub fn take<T: Tape>(client: &mut Session<T>, items: u32) -> Result<()> {
+    for _ in 0..items {
+        take_one(client)?;
+    }
+    Ok(())
 }

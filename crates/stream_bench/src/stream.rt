@@ -1,16 +1,15 @@
 //! A stream in rounds, and the time that its items take.
 
-ghost use Rattle.std.specs.Prelude.{◌≡◌, ◌<◌, ◌≤◌, IfOk};
-ghost use Rattle.rs_wire.specs.declared.words.Side.TheVariants.{Client, Server};
+ghost use Rattle.std.specs.Prelude.{◌≡◌, ◌<◌};
 
-use crate::ends::{Wire, arrive, carry, meet, open, send, start, take};
-use anyhow::Result;
+use crate::ends::{ROOM, draw, meet, receive, send, start, take};
+use anyhow::{Context, Result};
 use session_core::Session;
 use std::alloc::Global;
 use std::time::{Clock, Instant};
 use tape::Tape;
 
-/// How many items are sent before the client takes them. One draw carries as many.
+/// How many items are sent before the client takes them. One draw moves as many.
 pub const ROUND: u32 = 500;
 
 /// How a stream is run.
@@ -53,114 +52,76 @@ impl Took {
     }
 }
 
-fn send_all<T: Tape>(alloc: Global, server: &mut Session<T>, items: u32) -> Result<()>
-    ensures { server.new.settings ≡ server.old.settings }
-{
-    for _ in 0..items {
-        send(alloc, server)?;
+/// The two ends of a stream.
+#[derive(Drop)]
+pub struct Ends<T: Tape + Drop> {
+    client: Session<T>,
+    server: Session<T>,
+}
+
+impl<T: Tape + Drop> Ends<T> {
+    /// The stream is open, and no item was sent.
+    pub fn new(alloc: Global, at_client: T, at_server: T) -> Result<Ends<T>>
+        requires client { T.Tape.count at_client ≡ 0 }
+        requires server { T.Tape.count at_server ≡ 0 }
+    {
+        let mut buffer = [0; ROOM];
+        let mut client = start(alloc, at_client)?;
+        let count = draw(&mut client, &mut buffer)?;
+        let bytes = buffer.get(..count).context("more than fits")?;
+        let server = meet(alloc, at_server, bytes)?;
+        Ok(Ends { client, server })
     }
-    Ok(())
-}
 
-fn arrive_all<T: Tape>(
-    alloc: Global,
-    client: &mut Session<T>,
-    wire: &mut Wire,
-    items: u32,
-) -> Result<()>
-    ensures { client.new.settings ≡ client.old.settings }
-{
-    for _ in 0..items {
-        arrive(alloc, client, wire)?;
+    // Items are sent, cross at once and come at the client.
+    fn cross(&mut self, alloc: Global, buffer: &mut [u8; ROOM], items: u32) -> Result<()> {
+        send(alloc, &mut self.server, items)?;
+        let count = draw(&mut self.server, buffer)?;
+        let bytes = buffer.get(..count).context("more than fits")?;
+        receive(alloc, &mut self.client, bytes)
     }
-    Ok(())
-}
 
-fn take_all<T: Tape>(client: &mut Session<T>, items: u32) -> Result<()>
-    ensures { client.new.settings ≡ client.old.settings }
-{
-    for _ in 0..items {
-        take(client)?;
+    // A round of items crosses in batches.
+    fn cross_round(&mut self, alloc: Global, buffer: &mut [u8; ROOM], batch: u32) -> Result<()>
+        requires { 0 < batch }
+    {
+        for _ in 0..ROUND / batch {
+            self.cross(alloc, buffer, batch)?;
+        }
+        Ok(())
     }
-    Ok(())
-}
 
-// Items are sent, cross at once and arrive.
-fn batch<T: Tape>(
-    alloc: Global,
-    client: &mut Session<T>,
-    server: &mut Session<T>,
-    wire: &mut Wire,
-    items: u32,
-) -> Result<()>
-    ensures client { client.new.settings ≡ client.old.settings }
-    ensures server { server.new.settings ≡ server.old.settings }
-{
-    send_all(alloc, server, items)?;
-    carry(server, wire)?;
-    arrive_all(alloc, client, wire, items)
-}
-
-fn batches<T: Tape>(
-    alloc: Global,
-    client: &mut Session<T>,
-    server: &mut Session<T>,
-    wire: &mut Wire,
-    items: u32,
-) -> Result<()>
-    requires { 0 < items }
-    ensures client { client.new.settings ≡ client.old.settings }
-    ensures server { server.new.settings ≡ server.old.settings }
-{
-    for _ in 0..ROUND / items {
-        batch(alloc, client, server, wire, items)?;
+    // A round of items crosses, and the client takes them.
+    fn round<R: Clock>(
+        &mut self,
+        rt: &R,
+        alloc: Global,
+        buffer: &mut [u8; ROOM],
+        batch: u32,
+    ) -> Result<Took>
+        requires { 0 < batch }
+    {
+        let items = ROUND / batch * batch;
+        let start = Instant::now(rt)?;
+        self.cross_round(alloc, buffer, batch)?;
+        let middle = Instant::now(rt)?;
+        take(&mut self.client, items)?;
+        Ok(Took {
+            items,
+            crossing: middle.duration_since(start).as_nanos(),
+            taking: middle.elapsed(rt)?.as_nanos(),
+        })
     }
-    Ok(())
-}
 
-fn round<T: Tape, R: Clock>(
-    rt: &R,
-    alloc: Global,
-    client: &mut Session<T>,
-    server: &mut Session<T>,
-    wire: &mut Wire,
-    batch: u32,
-) -> Result<Took>
-    requires { 0 < batch }
-    ensures client { client.new.settings ≡ client.old.settings }
-    ensures server { server.new.settings ≡ server.old.settings }
-{
-    let items = ROUND / batch * batch;
-    let start = Instant::now(rt)?;
-    batches(alloc, client, server, wire, batch)?;
-    let middle = Instant::now(rt)?;
-    take_all(client, items)?;
-    Ok(Took {
-        items,
-        crossing: middle.duration_since(start).as_nanos(),
-        taking: middle.elapsed(rt)?.as_nanos(),
-    })
-}
-
-/// Runs a stream between two ends of which nothing happened yet.
-pub fn stream<T: Tape, R: Clock>(
-    rt: &R,
-    alloc: Global,
-    client: &mut Session<T>,
-    server: &mut Session<T>,
-    run: Run,
-) -> Result<Took>
-    requires some { 0 < run.batch }
-    requires client_side { client.old.settings.side ≡ Client }
-    requires server_side { server.old.settings.side ≡ Server }
-{
-    let mut wire = Wire::new(alloc)?;
-    open(client)?;
-    start(alloc, client)?;
-    meet(alloc, client, server, &mut wire)?;
-    let mut all = Took::new();
-    for _ in 0..run.rounds {
-        all = all.and(round(rt, alloc, client, server, &mut wire, run.batch)?);
+    /// Runs the stream.
+    pub fn run<R: Clock>(&mut self, rt: &R, alloc: Global, run: Run) -> Result<Took>
+        requires { 0 < run.batch }
+    {
+        let mut buffer = [0; ROOM];
+        let mut all = Took::new();
+        for _ in 0..run.rounds {
+            all = all.and(self.round(rt, alloc, &mut buffer, run.batch)?);
+        }
+        Ok(all)
     }
-    Ok(all)
 }
