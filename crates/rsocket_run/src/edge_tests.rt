@@ -1,16 +1,10 @@
 //! Inputs and outputs that fail, fall short or never end.
 
-use crate::tests::status_over;
+use crate::tests::{BACK, CABLE, FRAMES, status_over};
 use outside::{MemSink, MemSource, Read, Sink, Source, Wrote};
 use rs_wire::Blob;
 use std::alloc::Global;
 use std::test::Fail;
-
-const CABLE: &[&[u8]] = &[b"cable"];
-
-const FRAMES: &[&[u8]] = &[b"frames"];
-
-const BACK: &[&[u8]] = &[b"frames", b"--back"];
 
 const HELLO: &[u8] = b"client fnf 6869\nup 1000\n";
 
@@ -23,8 +17,6 @@ server came REQUEST_FNF 1 8: handled
 ";
 
 const CANCELS: &[u8] = &[0, 0, 6, 0, 0, 0, 1, 0x24, 0, 0, 0, 6, 0, 0, 0, 3, 0x24, 0];
-
-const CANCEL: [u8; 9] = [0, 0, 6, 0, 0, 0, 1, 0x24, 0];
 
 const LINES: &[u8] = b"CANCEL 1\nCANCEL 3\n";
 
@@ -89,134 +81,243 @@ impl Source for EndlessSource {
     }
 }
 
-fn source(alloc: Global, text: &[u8], fails: &[u64]) -> Result<ByteSource, Fail> {
-    let fails = Vec::from_slice(alloc, fails)?;
+/// Reads and writes of one byte that fail, and how each command then ends.
+#[derive(Clone, Copy)]
+struct Fault {
+    /// What the runs show.
+    shows: &'static str,
+    /// The reads that fail, from 1.
+    reads: &'static [u64],
+    /// The writes that fail, from 1.
+    writes: &'static [u64],
+    status: u8,
+    written: Written,
+}
+
+/// What was written.
+#[derive(Clone, Copy)]
+enum Written {
+    /// All the output.
+    All,
+    /// As many of its bytes.
+    First(usize),
+    /// These bytes in its place.
+    Other(&'static [u8]),
+}
+
+const FAULTS: [Fault; 12] = [
+    Fault {
+        shows: "one byte a call is enough",
+        reads: &[],
+        writes: &[],
+        status: 0,
+        written: Written::All,
+    },
+    Fault {
+        shows: "the first read that fails is told",
+        reads: &[1],
+        writes: &[],
+        status: 4,
+        written: Written::Other(b"rsocket: read fault\n"),
+    },
+    Fault {
+        shows: "the second read that fails is told",
+        reads: &[2],
+        writes: &[],
+        status: 4,
+        written: Written::Other(b"rsocket: read fault\n"),
+    },
+    Fault {
+        shows: "the third read that fails is told",
+        reads: &[3],
+        writes: &[],
+        status: 4,
+        written: Written::Other(b"rsocket: read fault\n"),
+    },
+    Fault {
+        shows: "the fourth read that fails is told",
+        reads: &[4],
+        writes: &[],
+        status: 4,
+        written: Written::Other(b"rsocket: read fault\n"),
+    },
+    Fault {
+        shows: "the fifth read that fails is told",
+        reads: &[5],
+        writes: &[],
+        status: 4,
+        written: Written::Other(b"rsocket: read fault\n"),
+    },
+    Fault {
+        shows: "the first write that fails leaves nothing",
+        reads: &[],
+        writes: &[1],
+        status: 5,
+        written: Written::First(0),
+    },
+    Fault {
+        shows: "the second write that fails leaves what was written",
+        reads: &[],
+        writes: &[2],
+        status: 5,
+        written: Written::First(1),
+    },
+    Fault {
+        shows: "the third write that fails leaves what was written",
+        reads: &[],
+        writes: &[3],
+        status: 5,
+        written: Written::First(2),
+    },
+    Fault {
+        shows: "the fourth write that fails leaves what was written",
+        reads: &[],
+        writes: &[4],
+        status: 5,
+        written: Written::First(3),
+    },
+    Fault {
+        shows: "the fifth write that fails leaves what was written",
+        reads: &[],
+        writes: &[5],
+        status: 5,
+        written: Written::First(4),
+    },
+    Fault {
+        shows: "a read that fails while writes fail is a write fault",
+        reads: &[1],
+        writes: &[3],
+        status: 5,
+        written: Written::Other(b"rs"),
+    },
+];
+
+/// Whether a run that reads and writes one byte a call ends with this status, and wrote just that.
+fn ends_over(
+    alloc: Global,
+    words: &[&[u8]],
+    text: &[u8],
+    fault: &Fault,
+    written: Option<&[u8]>,
+) -> Result<bool, Fail> {
+    let fails = Vec::from_slice(alloc, fault.reads)?;
     let source = MemSource::new(Blob::from_slice(alloc, text)?, fails);
-    Ok(ByteSource { source })
-}
-
-fn sink(alloc: Global, fails: &[u64]) -> Result<ByteSink, Fail> {
-    let sink = MemSink::new(alloc, Vec::from_slice(alloc, fails)?);
-    Ok(ByteSink { sink })
-}
-
-#[test]
-fn one_byte_a_call_is_enough(rt: HostRuntime) -> Result<(), Fail> {
-    for (words, text, written) in WORK {
-        let mut input = source(rt.alloc(), text, &[])?;
-        let mut output = sink(rt.alloc(), &[])?;
-        let status = status_over(rt.alloc(), words, &mut input, &mut output)?;
-        assert_eq!(rt; status, 0);
-        assert!(rt; output.sink.written() == written);
-    }
-    Ok(())
+    let mut input = ByteSource { source };
+    let sink = MemSink::new(alloc, Vec::from_slice(alloc, fault.writes)?);
+    let mut output = ByteSink { sink };
+    let status = status_over(alloc, words, &mut input, &mut output)?;
+    Ok(status == fault.status && written == Some(output.sink.written()))
 }
 
 #[test]
-fn each_of_five_reads_that_fails_is_told(rt: HostRuntime) -> Result<(), Fail> {
-    for (words, text, _) in WORK {
-        for number in 1..6 {
-            let mut input = source(rt.alloc(), text, &[number])?;
-            let mut output = sink(rt.alloc(), &[])?;
-            let status = status_over(rt.alloc(), words, &mut input, &mut output)?;
-            assert_eq!(rt; status, 4);
-            assert!(rt; output.sink.written() == b"rsocket: read fault\n".as_slice());
+fn each_command_ends_so(rt: HostRuntime) -> Result<(), Fail> {
+    for fault in FAULTS {
+        for (words, text, all) in WORK {
+            let written = match fault.written {
+                Written::All => Some(all),
+                Written::First(count) => all.get(..count),
+                Written::Other(bytes) => Some(bytes),
+            };
+            let right = ends_over(rt.alloc(), words, text, &fault, written)?;
+            assert!(rt; right, "{words:?}: {}", fault.shows);
         }
     }
     Ok(())
 }
 
-#[test]
-fn each_of_five_writes_that_fails_leaves_what_was_written(rt: HostRuntime) -> Result<(), Fail> {
-    for (words, text, written) in WORK {
-        for number in 1..6 {
-            let mut input = source(rt.alloc(), text, &[])?;
-            let mut output = sink(rt.alloc(), &[number])?;
-            let status = status_over(rt.alloc(), words, &mut input, &mut output)?;
-            assert_eq!(rt; status, 5);
-            let before = written.get(..number as usize - 1);
-            assert!(rt; before == Some(output.sink.written()));
-        }
-    }
-    Ok(())
-}
-
-#[test]
-fn a_read_that_fails_while_writes_fail_is_a_write_fault(rt: HostRuntime) -> Result<(), Fail> {
-    for (words, text, _) in WORK {
-        let mut input = source(rt.alloc(), text, &[1])?;
-        let mut output = sink(rt.alloc(), &[3])?;
-        let status = status_over(rt.alloc(), words, &mut input, &mut output)?;
-        assert_eq!(rt; status, 5);
-        assert!(rt; output.sink.written() == b"rs".as_slice());
-    }
-    Ok(())
-}
+const USAGE: Fault = Fault {
+    shows: "usage stays where it can't be written",
+    reads: &[],
+    writes: &[1],
+    status: 2,
+    written: Written::First(0),
+};
 
 #[test]
 fn usage_stays_where_it_cant_be_written(rt: HostRuntime) -> Result<(), Fail> {
-    let mut input = source(rt.alloc(), b"", &[])?;
-    let mut output = sink(rt.alloc(), &[1])?;
-    let status = status_over(rt.alloc(), &[], &mut input, &mut output)?;
-    assert_eq!(rt; status, 2);
-    assert_eq!(rt; output.sink.written().len(), 0);
+    assert!(rt; ends_over(rt.alloc(), &[], b"", &USAGE, Some(b""))?);
     Ok(())
 }
 
-// The status of a run over an endless source of these nine bytes, where it writes so often
-// `CANCEL 1`, and then just that line.
-fn endless(
-    alloc: Global,
-    words: &[&[u8]],
+/// A run over an endless source.
+#[derive(Clone, Copy)]
+struct Endless {
+    /// What the run shows.
+    shows: &'static str,
+    words: &'static [&'static [u8]],
     pattern: [u8; 9],
+    status: u8,
+    /// How often it writes `CANCEL 1`, and then just the last line.
     lines: usize,
-    last: &[u8],
-) -> Result<Option<u8>, Fail> {
-    let mut input = EndlessSource { pattern, given: 0 };
+    last: &'static [u8],
+}
+
+const ENDLESS: [Endless; 5] = [
+    Endless {
+        shows: "an endless script is too long",
+        words: CABLE,
+        pattern: [b'#'; 9],
+        status: 3,
+        lines: 0,
+        last: b"rsocket: script line 0\n",
+    },
+    Endless {
+        shows: "endless bytes that are no frame are told",
+        words: FRAMES,
+        pattern: [0xff; 9],
+        status: 11,
+        lines: 0,
+        last: b"rsocket: frame at 0 rule 2\n",
+    },
+    Endless {
+        shows: "endless bytes that are no line are told",
+        words: BACK,
+        pattern: [b'#'; 9],
+        status: 3,
+        lines: 0,
+        last: b"rsocket: script line 1\n",
+    },
+    // 67,108,864 is 9 * 7,456,540 + 4.
+    Endless {
+        shows: "the frame that passes the limit is told",
+        words: FRAMES,
+        pattern: [0, 0, 6, 0, 0, 0, 1, 0x24, 0],
+        status: 11,
+        lines: 7_456_540,
+        last: b"rsocket: frame at 67108860 rule 0\n",
+    },
+    Endless {
+        shows: "the line that passes the limit is told",
+        words: BACK,
+        pattern: *b"CANCEL 1\n",
+        status: 3,
+        lines: 0,
+        last: b"rsocket: script line 7456541\n",
+    },
+];
+
+/// Whether the run ends with the status, and wrote just the lines.
+fn ends_still(alloc: Global, row: &Endless) -> Result<bool, Fail> {
+    let mut input = EndlessSource {
+        pattern: row.pattern,
+        given: 0,
+    };
     let mut output = MemSink::new(alloc, Vec::new(alloc));
-    let status = status_over(alloc, words, &mut input, &mut output)?;
+    let status = status_over(alloc, row.words, &mut input, &mut output)?;
     let mut rest = output.written();
-    for _ in 0..lines {
+    for _ in 0..row.lines {
         match rest.strip_prefix(b"CANCEL 1\n".as_slice()) {
-            Some(behind) => rest = behind,
-            None => return Ok(None),
+            Some(after) => rest = after,
+            None => return Ok(false),
         }
     }
-    Ok((rest == last).then_some(status))
+    Ok(status == row.status && rest == row.last)
 }
 
 #[test]
-fn an_endless_script_is_too_long(rt: HostRuntime) -> Result<(), Fail> {
-    let last = b"rsocket: script line 0\n";
-    let status = endless(rt.alloc(), CABLE, [b'#'; 9], 0, last)?;
-    assert_eq!(rt; status, Some(3));
-    Ok(())
-}
-
-#[test]
-fn endless_bytes_that_are_no_frame_are_told(rt: HostRuntime) -> Result<(), Fail> {
-    let last = b"rsocket: frame at 0 rule 2\n";
-    let status = endless(rt.alloc(), FRAMES, [0xff; 9], 0, last)?;
-    assert_eq!(rt; status, Some(11));
-    let last = b"rsocket: script line 1\n";
-    let status = endless(rt.alloc(), BACK, [b'#'; 9], 0, last)?;
-    assert_eq!(rt; status, Some(3));
-    Ok(())
-}
-
-// 67,108,864 is 9 * 7,456,540 + 4.
-#[test]
-fn the_frame_that_passes_the_limit_is_told(rt: HostRuntime) -> Result<(), Fail> {
-    let last = b"rsocket: frame at 67108860 rule 0\n";
-    let status = endless(rt.alloc(), FRAMES, CANCEL, 7_456_540, last)?;
-    assert_eq!(rt; status, Some(11));
-    Ok(())
-}
-
-#[test]
-fn the_line_that_passes_the_limit_is_told(rt: HostRuntime) -> Result<(), Fail> {
-    let last = b"rsocket: script line 7456541\n";
-    let status = endless(rt.alloc(), BACK, *b"CANCEL 1\n", 0, last)?;
-    assert_eq!(rt; status, Some(3));
+fn each_endless_run_ends(rt: HostRuntime) -> Result<(), Fail> {
+    for row in ENDLESS {
+        assert!(rt; ends_still(rt.alloc(), &row)?, "{}", row.shows);
+    }
     Ok(())
 }

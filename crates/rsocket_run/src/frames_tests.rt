@@ -1,12 +1,10 @@
-use crate::tests::ends;
+//! Frames and their lines, in both directions.
+
+use crate::tests::{BACK, FRAMES, Run, ends, ends_so};
 use byteorder::{BigEndian, ByteOrder};
 use hex::decode;
 use std::alloc::Global;
 use std::test::Fail;
-
-const FRAMES: &[&[u8]] = &[b"frames"];
-
-const BACK: &[&[u8]] = &[b"frames", b"--back"];
 
 /// CANCEL of stream 1, after its length.
 const CANCEL: [u8; 9] = [0, 0, 6, 0, 0, 0, 1, 0x24, 0];
@@ -170,53 +168,77 @@ fn each_rule_is_told_behind_the_lines_before(rt: HostRuntime) -> Result<(), Fail
     Ok(())
 }
 
-#[test]
-fn a_frame_that_is_cut_off_breaks_rule_0(rt: HostRuntime) -> Result<(), Fail> {
-    let told = b"rsocket: frame at 0 rule 0\n";
-    assert!(rt; ends(rt.alloc(), FRAMES, &[0, 0, 8, 0, 0], 11, told)?);
-    assert!(rt; ends(rt.alloc(), FRAMES, &[0], 11, told)?);
-    Ok(())
-}
+const ROWS: [Run; 9] = [
+    Run {
+        shows: "a frame that is cut off breaks rule 0",
+        words: FRAMES,
+        input: &[0, 0, 8, 0, 0],
+        status: 11,
+        written: b"rsocket: frame at 0 rule 0\n",
+    },
+    Run {
+        shows: "a length that is cut off breaks rule 0",
+        words: FRAMES,
+        input: &[0],
+        status: 11,
+        written: b"rsocket: frame at 0 rule 0\n",
+    },
+    Run {
+        shows: "a single frame without its whole header breaks rule 1",
+        words: FRAMES,
+        input: &[0, 0, 5, 0, 0, 0, 1, 0x20],
+        status: 11,
+        written: b"rsocket: frame at 0 rule 1\n",
+    },
+    Run {
+        shows: "a single REQUEST_N of 0 breaks rule 6",
+        words: FRAMES,
+        input: &[0, 0, 10, 0, 0, 0, 1, 0x20, 0, 0, 0, 0, 0],
+        status: 11,
+        written: b"rsocket: frame at 0 rule 6\n",
+    },
+    Run {
+        shows: "a single REQUEST_N of the most has its line",
+        words: FRAMES,
+        input: &[0, 0, 10, 0, 0, 0, 1, 0x20, 0, 0x7f, 0xff, 0xff, 0xff],
+        status: 0,
+        written: b"REQUEST_N 1 2147483647\n",
+    },
+    Run {
+        shows: "no bytes are no lines",
+        words: FRAMES,
+        input: b"",
+        status: 0,
+        written: b"",
+    },
+    Run {
+        shows: "no lines are no bytes",
+        words: BACK,
+        input: b"",
+        status: 0,
+        written: b"",
+    },
+    Run {
+        shows: "the first wrong line is told alone",
+        words: BACK,
+        input: b"CANCEL 1\nCANCEL 01\nCANCEL\n",
+        status: 3,
+        written: b"rsocket: script line 2\n",
+    },
+    Run {
+        shows: "an empty line is wrong",
+        words: BACK,
+        input: b"CANCEL 1\n\nCANCEL 1\n",
+        status: 3,
+        written: b"rsocket: script line 2\n",
+    },
+];
 
 #[test]
-fn single_frames_are_told(rt: HostRuntime) -> Result<(), Fail> {
-    let short = [0, 0, 5, 0, 0, 0, 1, 0x20];
-    assert!(rt;
-        ends(
-            rt.alloc(),
-            FRAMES,
-            &short,
-            11,
-            b"rsocket: frame at 0 rule 1\n"
-        )?
-    );
-    let zero = [0, 0, 10, 0, 0, 0, 1, 0x20, 0, 0, 0, 0, 0];
-    assert!(rt;
-        ends(
-            rt.alloc(),
-            FRAMES,
-            &zero,
-            11,
-            b"rsocket: frame at 0 rule 6\n"
-        )?
-    );
-    let most = [0, 0, 10, 0, 0, 0, 1, 0x20, 0, 0x7f, 0xff, 0xff, 0xff];
-    assert!(rt; ends(rt.alloc(), FRAMES, &most, 0, b"REQUEST_N 1 2147483647\n")?);
-    Ok(())
-}
-
-#[test]
-fn no_bytes_are_no_lines(rt: HostRuntime) -> Result<(), Fail> {
-    assert!(rt; ends(rt.alloc(), FRAMES, b"", 0, b"")?);
-    assert!(rt; ends(rt.alloc(), BACK, b"", 0, b"")?);
-    Ok(())
-}
-
-#[test]
-fn the_first_wrong_line_is_told_alone(rt: HostRuntime) -> Result<(), Fail> {
-    let told = b"rsocket: script line 2\n";
-    assert!(rt; ends(rt.alloc(), BACK, b"CANCEL 1\nCANCEL 01\nCANCEL\n", 3, told)?);
-    assert!(rt; ends(rt.alloc(), BACK, b"CANCEL 1\n\nCANCEL 1\n", 3, told)?);
+fn each_run_ends_so(rt: HostRuntime) -> Result<(), Fail> {
+    for row in ROWS {
+        assert!(rt; ends_so(rt.alloc(), &row)?, "{}", row.shows);
+    }
     Ok(())
 }
 

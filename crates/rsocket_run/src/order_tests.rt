@@ -1,6 +1,6 @@
 //! All input is read before anything is written.
 
-use crate::tests::status_over;
+use crate::tests::{BACK, CABLE, FRAMES, status_over};
 use outside::{MemSink, MemSource, Read, Sink, Source, Wrote};
 use rs_wire::Blob;
 use std::alloc::Global;
@@ -52,64 +52,111 @@ impl Sink for NotingSink<'_> {
     }
 }
 
-/// Whether a run on these words and this input ends with this status, writes, and reads nothing
-/// after the first write.
-fn reads_first(
-    alloc: Global,
-    words: &[&[u8]],
-    text: &[u8],
-    fails: &[u64],
+/// A run, and the status with which it ends.
+#[derive(Clone, Copy)]
+struct Row {
+    /// What has been read before anything is written.
+    shows: &'static str,
+    words: &'static [&'static [u8]],
+    input: &'static [u8],
+    /// The reads that fail, from 1.
+    fails: &'static [u64],
     status: u8,
-) -> Result<bool, Fail> {
+}
+
+/// Whether the run ends with the status, writes, and reads nothing after the first write.
+fn reads_first(alloc: Global, row: &Row) -> Result<bool, Fail> {
     let order = Order {
         wrote: AtomicBool::new(false),
         read_after_a_write: AtomicBool::new(false),
     };
-    let fails = Vec::from_slice(alloc, fails)?;
+    let fails = Vec::from_slice(alloc, row.fails)?;
     let mut input = NotingSource {
-        source: MemSource::new(Blob::from_slice(alloc, text)?, fails),
+        source: MemSource::new(Blob::from_slice(alloc, row.input)?, fails),
         order: &order,
     };
     let mut output = NotingSink {
         sink: MemSink::new(alloc, Vec::new(alloc)),
         order: &order,
     };
-    let ended = status_over(alloc, words, &mut input, &mut output)?;
+    let ended = status_over(alloc, row.words, &mut input, &mut output)?;
     let wrote = order.wrote.load(Ordering::SeqCst);
     let late = order.read_after_a_write.load(Ordering::SeqCst);
-    Ok(ended == status && wrote && !late)
+    Ok(ended == row.status && wrote && !late)
 }
-
-const CABLE: &[&[u8]] = &[b"cable"];
-
-const FRAMES: &[&[u8]] = &[b"frames"];
-
-const BACK: &[&[u8]] = &[b"frames", b"--back"];
 
 const CANCEL: &[u8] = &[0, 0, 6, 0, 0, 0, 1, 0x24, 0];
 
-const CUT: &[u8] = &[0, 0, 6, 0, 0, 0, 1, 0x24, 0, 0, 0, 6];
+const ROWS: [Row; 9] = [
+    Row {
+        shows: "a script that is played",
+        words: CABLE,
+        input: b"client fnf 6869\nup 1000\n",
+        fails: &[],
+        status: 0,
+    },
+    Row {
+        shows: "frames that are shown",
+        words: FRAMES,
+        input: CANCEL,
+        fails: &[],
+        status: 0,
+    },
+    Row {
+        shows: "lines of which frames are made",
+        words: BACK,
+        input: b"CANCEL 1\n",
+        fails: &[],
+        status: 0,
+    },
+    Row {
+        shows: "a script with a wrong line",
+        words: CABLE,
+        input: b"client fnf 6\nup 1000\n",
+        fails: &[],
+        status: 3,
+    },
+    Row {
+        shows: "frames of which the last is cut off",
+        words: FRAMES,
+        input: &[0, 0, 6, 0, 0, 0, 1, 0x24, 0, 0, 0, 6],
+        fails: &[],
+        status: 11,
+    },
+    Row {
+        shows: "lines of which the first is wrong",
+        words: BACK,
+        input: b"CANCEL 01\nCANCEL 1\n",
+        fails: &[],
+        status: 3,
+    },
+    Row {
+        shows: "a script of which a read fails",
+        words: CABLE,
+        input: b"up 1000\n",
+        fails: &[3],
+        status: 4,
+    },
+    Row {
+        shows: "frames of which a read fails",
+        words: FRAMES,
+        input: CANCEL,
+        fails: &[3],
+        status: 4,
+    },
+    Row {
+        shows: "lines of which a read fails",
+        words: BACK,
+        input: b"CANCEL 1\n",
+        fails: &[3],
+        status: 4,
+    },
+];
 
 #[test]
-fn work_that_is_done_has_read_first(rt: HostRuntime) -> Result<(), Fail> {
-    assert!(rt; reads_first(rt.alloc(), CABLE, b"client fnf 6869\nup 1000\n", &[], 0)?);
-    assert!(rt; reads_first(rt.alloc(), FRAMES, CANCEL, &[], 0)?);
-    assert!(rt; reads_first(rt.alloc(), BACK, b"CANCEL 1\n", &[], 0)?);
-    Ok(())
-}
-
-#[test]
-fn what_is_wrong_is_told_after_reading(rt: HostRuntime) -> Result<(), Fail> {
-    assert!(rt; reads_first(rt.alloc(), CABLE, b"client fnf 6\nup 1000\n", &[], 3)?);
-    assert!(rt; reads_first(rt.alloc(), FRAMES, CUT, &[], 11)?);
-    assert!(rt; reads_first(rt.alloc(), BACK, b"CANCEL 01\nCANCEL 1\n", &[], 3)?);
-    Ok(())
-}
-
-#[test]
-fn a_failed_read_is_told_after_reading(rt: HostRuntime) -> Result<(), Fail> {
-    assert!(rt; reads_first(rt.alloc(), CABLE, b"up 1000\n", &[3], 4)?);
-    assert!(rt; reads_first(rt.alloc(), FRAMES, CANCEL, &[3], 4)?);
-    assert!(rt; reads_first(rt.alloc(), BACK, b"CANCEL 1\n", &[3], 4)?);
+fn all_is_read_before_anything_is_written(rt: HostRuntime) -> Result<(), Fail> {
+    for row in ROWS {
+        assert!(rt; reads_first(rt.alloc(), &row)?, "{}", row.shows);
+    }
     Ok(())
 }

@@ -1,11 +1,13 @@
 //! Whole runs of scripts with streams: credit, cancel, errors and limits.
 
-use crate::script_tests::plays;
+use crate::tests::{Script, plays};
 use std::test::Fail;
 
-#[test]
-fn items_stop_where_credit_ends_and_go_on_after_a_grant(rt: HostRuntime) -> Result<(), Fail> {
-    let script = "client stream 2 61
+const ROWS: [Script; 14] = [
+    Script {
+        shows: "items stop where credit ends and go on after a grant",
+        script: "\
+client stream 2 61
 drain
 server next 1 62
 server next 1 62
@@ -15,8 +17,9 @@ client grant 1 1
 drain
 server next 1 62
 drain
-";
-    let report = "client made 2 21 handled 3 21
+",
+        report: "\
+client made 2 21 handled 3 21
 server made 3 21 handled 2 21
 client open: opened 1
 client stream 2 1: stream 1
@@ -31,14 +34,12 @@ server next 1 1: done
 server next 1 1: no credit 2
 server came REQUEST_N 1 10: handled
 server next 1 1: done
-";
-    assert!(rt; plays(rt.alloc(), script, report)?);
-    Ok(())
-}
-
-#[test]
-fn each_way_of_a_channel_ends_once(rt: HostRuntime) -> Result<(), Fail> {
-    let script = "client channel 2 61
+",
+    },
+    Script {
+        shows: "each way of a channel ends once",
+        script: "\
+client channel 2 61
 client done 1
 drain
 server next 1 62
@@ -48,8 +49,9 @@ drain
 client take 1
 client take 1
 client take 1
-";
-    let report = "client made 2 17 handled 2 13
+",
+        report: "\
+client made 2 17 handled 2 13
 server made 2 13 handled 2 17
 client open: opened 1
 client channel 2 1: stream 1
@@ -65,14 +67,12 @@ server came PAYLOAD 1 6: handled
 server next 1 1: done
 server done 1: done
 server next 1 1: ended
-";
-    assert!(rt; plays(rt.alloc(), script, report)?);
-    Ok(())
-}
-
-#[test]
-fn nothing_is_taken_after_an_own_cancel(rt: HostRuntime) -> Result<(), Fail> {
-    let script = "client stream 5 61
+",
+    },
+    Script {
+        shows: "nothing is taken after an own cancel",
+        script: "\
+client stream 5 61
 drain
 server next 1 62
 client cancel 1
@@ -81,8 +81,9 @@ client take 1
 up 1000
 server take 1
 server next 1 62
-";
-    let report = "client made 2 17 handled 1 7
+",
+        report: "\
+client made 2 17 handled 1 7
 server made 1 7 handled 2 17
 client open: opened 1
 client stream 5 1: stream 1
@@ -95,22 +96,21 @@ server next 1 1: done
 server came CANCEL 1 6: handled
 server take 1: canceled
 server next 1 1: ended
-";
-    assert!(rt; plays(rt.alloc(), script, report)?);
-    Ok(())
-}
-
-#[test]
-fn a_response_is_an_item_and_its_end(rt: HostRuntime) -> Result<(), Fail> {
-    let script = "client response 61
+",
+    },
+    Script {
+        shows: "a response is an item and its end",
+        script: "\
+client response 61
 drain
 server last 1 -
 drain
 client take 1
 client take 1
 client take 1
-";
-    let report = "client made 1 7 handled 1 6
+",
+        report: "\
+client made 1 7 handled 1 6
 server made 1 6 handled 1 7
 client open: opened 1
 client response 1: stream 1
@@ -121,21 +121,20 @@ client take 1: ended
 server open SETUP 0 68: opened 1
 server came REQUEST_RESPONSE 1 7: handled
 server last 1 0: done
-";
-    assert!(rt; plays(rt.alloc(), script, report)?);
-    Ok(())
-}
-
-#[test]
-fn an_error_ends_a_response(rt: HostRuntime) -> Result<(), Fail> {
-    let script = "client response 61
+",
+    },
+    Script {
+        shows: "an error ends a response",
+        script: "\
+client response 61
 drain
 server fail 1 513 6f6f
 drain
 client take 1
 client take 1
-";
-    let report = "client made 1 7 handled 1 12
+",
+        report: "\
+client made 1 7 handled 1 12
 server made 1 12 handled 1 7
 client open: opened 1
 client response 1: stream 1
@@ -145,21 +144,20 @@ client take 1: ended
 server open SETUP 0 68: opened 1
 server came REQUEST_RESPONSE 1 7: handled
 server fail 1 513 2: done
-";
-    assert!(rt; plays(rt.alloc(), script, report)?);
-    Ok(())
-}
-
-#[test]
-fn a_responder_that_cancels_a_channel_still_sends(rt: HostRuntime) -> Result<(), Fail> {
-    let script = "client channel 1 61
+",
+    },
+    Script {
+        shows: "a responder that cancels a channel still sends",
+        script: "\
+client channel 1 61
 drain
 server cancel 1
 drain
 client next 1 62
 server next 1 62
-";
-    let report = "client made 1 11 handled 1 6
+",
+        report: "\
+client made 1 11 handled 1 6
 server made 2 13 handled 1 11
 client open: opened 1
 client channel 1 1: stream 1
@@ -169,38 +167,37 @@ server open SETUP 0 68: opened 1
 server came REQUEST_CHANNEL 1 11: handled
 server cancel 1: done
 server next 1 1: done
-";
-    assert!(rt; plays(rt.alloc(), script, report)?);
-    Ok(())
-}
-
-#[test]
-fn only_who_receives_items_grants(rt: HostRuntime) -> Result<(), Fail> {
-    let report = "client made 1 7 handled 0 0
+",
+    },
+    Script {
+        shows: "only who receives items grants: not the requester of a response",
+        script: "client response 61\nclient grant 1 1\nclient cancel 9\n",
+        report: "\
+client made 1 7 handled 0 0
 server made 0 0 handled 0 0
 client open: opened 1
 client response 1: stream 1
 client grant 1 1: wrong kind
 client cancel 9: unknown stream
-";
-    let script = "client response 61\nclient grant 1 1\nclient cancel 9\n";
-    assert!(rt; plays(rt.alloc(), script, report)?);
-    let report = "client made 1 11 handled 0 0
+",
+    },
+    Script {
+        shows: "only who receives items grants: not the responder of a stream",
+        script: "client stream 1 61\ndrain\nserver grant 1 1\n",
+        report: "\
+client made 1 11 handled 0 0
 server made 0 0 handled 1 11
 client open: opened 1
 client stream 1 1: stream 1
 server open SETUP 0 68: opened 1
 server came REQUEST_STREAM 1 11: handled
 server grant 1 1: wrong kind
-";
-    let script = "client stream 1 61\ndrain\nserver grant 1 1\n";
-    assert!(rt; plays(rt.alloc(), script, report)?);
-    Ok(())
-}
-
-#[test]
-fn the_peers_requests_are_its_jobs(rt: HostRuntime) -> Result<(), Fail> {
-    let script = "client fnf 61:62
+",
+    },
+    Script {
+        shows: "the peer's requests are its jobs",
+        script: "\
+client fnf 61:62
 client channel 7 - last
 server job
 drain
@@ -208,8 +205,9 @@ server job
 server job
 server job
 server take 3
-";
-    let report = "client made 2 21 handled 0 0
+",
+        report: "\
+client made 2 21 handled 0 0
 server made 0 0 handled 2 21
 client open: opened 1
 client fnf 2: stream 1
@@ -220,33 +218,30 @@ server came REQUEST_CHANNEL 3 10: handled
 server job: job 1 fnf 2
 server job: job 3 channel 0
 server take 3: complete
-";
-    assert!(rt; plays(rt.alloc(), script, report)?);
-    Ok(())
-}
-
-#[test]
-fn no_more_streams_are_open_than_may_be(rt: HostRuntime) -> Result<(), Fail> {
-    let report = "client made 1 11 handled 0 0
+",
+    },
+    Script {
+        shows: "no more streams are open than may be",
+        script: "set client streams 1\nclient stream 1 61\nclient stream 1 61\n",
+        report: "\
+client made 1 11 handled 0 0
 server made 0 0 handled 0 0
 client open: opened 1
 client stream 1 1: stream 1
 client stream 1 1: too many streams 1
-";
-    let script = "set client streams 1\nclient stream 1 61\nclient stream 1 61\n";
-    assert!(rt; plays(rt.alloc(), script, report)?);
-    Ok(())
-}
-
-#[test]
-fn a_request_above_the_peers_limit_is_turned_away(rt: HostRuntime) -> Result<(), Fail> {
-    let script = "set server streams 1
+",
+    },
+    Script {
+        shows: "a request above the peer's limit is turned away",
+        script: "\
+set server streams 1
 client stream 1 61
 client stream 1 61
 drain
 client take 3
-";
-    let report = "client made 2 22 handled 1 17
+",
+        report: "\
+client made 2 22 handled 1 17
 server made 1 17 handled 2 22
 client open: opened 1
 client stream 1 1: stream 1
@@ -256,22 +251,19 @@ client take 3: error 514 7
 server open SETUP 0 68: opened 1
 server came REQUEST_STREAM 1 11: handled
 server came REQUEST_STREAM 3 11: handled
-";
-    assert!(rt; plays(rt.alloc(), script, report)?);
-    Ok(())
-}
-
-#[test]
-fn a_frame_above_the_limit_is_bad_as_soon_as_its_length_is_there(
-    rt: HostRuntime,
-) -> Result<(), Fail> {
-    let script = "set client maxin 64
+",
+    },
+    Script {
+        shows: "a frame above the limit is bad as soon as its length is there",
+        script: "\
+set client maxin 64
 client response 61
 drain
 server many 1 1 100
 down 3
-";
-    let report = "client made 1 7 handled 0 0
+",
+        report: "\
+client made 1 7 handled 0 0
 server made 1 106 handled 1 7
 client open: opened 1
 client response 1: stream 1
@@ -279,20 +271,19 @@ client bad 10: violation bad-frame
 server open SETUP 0 68: opened 1
 server came REQUEST_RESPONSE 1 7: handled
 server next 1 100: done
-";
-    assert!(rt; plays(rt.alloc(), script, report)?);
-    Ok(())
-}
-
-#[test]
-fn a_full_queue_refuses_an_item(rt: HostRuntime) -> Result<(), Fail> {
-    let script = "set hold 0
+",
+    },
+    Script {
+        shows: "a full queue refuses an item",
+        script: "\
+set hold 0
 set slack 0
 client stream 5 61
 drain
 server many 1 2 10000000
-";
-    let report = "client made 1 11 handled 0 0
+",
+        report: "\
+client made 1 11 handled 0 0
 server made 1 10000006 handled 1 11
 client open: opened 1
 client stream 5 1: stream 1
@@ -300,14 +291,12 @@ server open SETUP 0 68: opened 1
 server came REQUEST_STREAM 1 11: handled
 server next 1 10000000: done
 server next 1 10000000: out full 10000009
-";
-    assert!(rt; plays(rt.alloc(), script, report)?);
-    Ok(())
-}
-
-#[test]
-fn a_stream_is_taken_to_its_end(rt: HostRuntime) -> Result<(), Fail> {
-    let script = "client stream 2 61
+",
+    },
+    Script {
+        shows: "a stream is taken to its end",
+        script: "\
+client stream 2 61
 drain
 server job
 server next 1 6f6e65
@@ -322,8 +311,9 @@ drain
 client take 1
 client take 1
 client take 1
-";
-    let report = "client made 2 21 handled 3 29
+",
+        report: "\
+client made 2 21 handled 3 29
 server made 3 29 handled 2 21
 client open: opened 1
 client stream 2 1: stream 1
@@ -343,7 +333,14 @@ server next 1 3: done
 server next 1 5: no credit 2
 server came REQUEST_N 1 10: handled
 server last 1 5: done
-";
-    assert!(rt; plays(rt.alloc(), script, report)?);
+",
+    },
+];
+
+#[test]
+fn each_script_has_its_report(rt: HostRuntime) -> Result<(), Fail> {
+    for row in ROWS {
+        assert!(rt; plays(rt.alloc(), &row)?, "{}", row.shows);
+    }
     Ok(())
 }

@@ -7,7 +7,34 @@ use std::alloc::Global;
 use std::test::Fail;
 use tape::KeptShelf;
 
-const CABLE: &[u8] = b"cable";
+/// The words that play a script.
+pub const CABLE: &[&[u8]] = &[b"cable"];
+
+/// The words that show frames as lines.
+pub const FRAMES: &[&[u8]] = &[b"frames"];
+
+/// The words that make frames of lines.
+pub const BACK: &[&[u8]] = &[b"frames", b"--back"];
+
+/// A run of the program, and how it ends.
+#[derive(Clone, Copy)]
+pub struct Run {
+    /// What the run shows.
+    pub shows: &'static str,
+    pub words: &'static [&'static [u8]],
+    pub input: &'static [u8],
+    pub status: u8,
+    pub written: &'static [u8],
+}
+
+/// A script, and the report of its run, which ends with status 0.
+#[derive(Clone, Copy)]
+pub struct Script {
+    /// What the run shows.
+    pub shows: &'static str,
+    pub script: &'static str,
+    pub report: &'static str,
+}
 
 /// These words, as they come from the system.
 pub fn words(alloc: Global, all: &[&[u8]]) -> Result<Vec<Blob>, Fail> {
@@ -50,17 +77,88 @@ pub fn ends(
     Ok(ended == status && output.as_slice() == written)
 }
 
+/// Whether the run ends as the row says.
+pub fn ends_so(alloc: Global, row: &Run) -> Result<bool, Fail> {
+    ends(alloc, row.words, row.input, row.status, row.written)
+}
+
+/// Whether the run of the script ends with status 0 and the report.
+pub fn plays(alloc: Global, row: &Script) -> Result<bool, Fail> {
+    ends(
+        alloc,
+        CABLE,
+        row.script.as_bytes(),
+        0,
+        row.report.as_bytes(),
+    )
+}
+
+const ROWS: [Run; 4] = [
+    Run {
+        shows: "an empty script makes two lines",
+        words: CABLE,
+        input: b"",
+        status: 0,
+        written: b"client made 0 0 handled 0 0\nserver made 0 0 handled 0 0\n",
+    },
+    Run {
+        shows: "half a byte is a wrong line",
+        words: CABLE,
+        input: b"client fnf 686",
+        status: 3,
+        written: b"rsocket: script line 1\n",
+    },
+    Run {
+        shows: "two dashes end the options of frames",
+        words: &[b"frames", b"--"],
+        input: &[0, 0, 6, 0, 0, 0, 1, 0x24, 0],
+        status: 0,
+        written: b"CANCEL 1\n",
+    },
+    Run {
+        shows: "two dashes end the options of frames --back",
+        words: &[b"frames", b"--back", b"--"],
+        input: b"CANCEL 1\n",
+        status: 0,
+        written: &[0, 0, 6, 0, 0, 0, 1, 0x24, 0],
+    },
+];
+
 #[test]
-fn an_empty_script_makes_two_lines(rt: HostRuntime) -> Result<(), Fail> {
-    let lines = b"client made 0 0 handled 0 0\nserver made 0 0 handled 0 0\n";
-    assert!(rt; ends(rt.alloc(), &[CABLE], b"", 0, lines)?);
+fn each_run_ends_so(rt: HostRuntime) -> Result<(), Fail> {
+    for row in ROWS {
+        assert!(rt; ends_so(rt.alloc(), &row)?, "{}", row.shows);
+    }
     Ok(())
 }
 
+/// Words that ask for nothing.
+const USAGE: [&[&[u8]]; 13] = [
+    &[],
+    &[b""],
+    &[b"help"],
+    &[b"cable", b"x"],
+    &[b"cable", b"--threads"],
+    &[b"--", b"cable"],
+    // Words that are no text.
+    &[b"\xff"],
+    &[b"cable", b"\xff"],
+    // Odd words of frames.
+    &[b"frames", b"--back=x"],
+    &[b"frames", b"--back", b"--back"],
+    &[b"frames", b"--", b"--back"],
+    &[b"frames", b"-"],
+    &[b"frames", b""],
+];
+
 #[test]
-fn half_a_byte_is_a_wrong_line(rt: HostRuntime) -> Result<(), Fail> {
-    let line = b"rsocket: script line 1\n";
-    assert!(rt; ends(rt.alloc(), &[CABLE], b"client fnf 686", 3, line)?);
+fn other_words_are_usage(rt: HostRuntime) -> Result<(), Fail> {
+    for words in USAGE {
+        assert!(rt;
+            ends(rt.alloc(), words, b"", 2, b"rsocket: usage\n")?,
+            "{words:?}"
+        );
+    }
     Ok(())
 }
 
@@ -71,63 +169,13 @@ fn a_thousand_bytes_cross(rt: HostRuntime) -> Result<(), Fail> {
         text.extend_from_slice(b"5a")?;
     }
     text.extend_from_slice(b"\nup 2000")?;
-    let (status, output) = ran(rt.alloc(), &[CABLE], &text)?;
-    assert_eq!(rt; status, 0);
-    let lines = "client made 1 1006 handled 0 0
+    let lines = b"client made 1 1006 handled 0 0
 server made 0 0 handled 1 1006
 client open: opened 1
 client fnf 1000: stream 1
 server open SETUP 0 68: opened 1
 server came REQUEST_FNF 1 1006: handled
 ";
-    assert_eq!(rt; output.as_slice(), lines.as_bytes());
-    Ok(())
-}
-
-fn is_usage(alloc: Global, words: &[&[u8]]) -> Result<bool, Fail> {
-    ends(alloc, words, b"", 2, b"rsocket: usage\n")
-}
-
-#[test]
-fn other_words_are_usage(rt: HostRuntime) -> Result<(), Fail> {
-    assert!(rt; is_usage(rt.alloc(), &[])?);
-    assert!(rt; is_usage(rt.alloc(), &[b""])?);
-    assert!(rt; is_usage(rt.alloc(), &[b"help"])?);
-    assert!(rt; is_usage(rt.alloc(), &[CABLE, b"x"])?);
-    assert!(rt; is_usage(rt.alloc(), &[CABLE, b"--threads"])?);
-    assert!(rt; is_usage(rt.alloc(), &[b"--", CABLE])?);
-    Ok(())
-}
-
-#[test]
-fn a_word_that_is_no_text_is_usage(rt: HostRuntime) -> Result<(), Fail> {
-    assert!(rt; is_usage(rt.alloc(), &[b"\xff"])?);
-    assert!(rt; is_usage(rt.alloc(), &[CABLE, b"\xff"])?);
-    Ok(())
-}
-
-#[test]
-fn odd_words_of_frames_are_usage(rt: HostRuntime) -> Result<(), Fail> {
-    assert!(rt; is_usage(rt.alloc(), &[b"frames", b"--back=x"])?);
-    assert!(rt; is_usage(rt.alloc(), &[b"frames", b"--back", b"--back"])?);
-    assert!(rt; is_usage(rt.alloc(), &[b"frames", b"--", b"--back"])?);
-    assert!(rt; is_usage(rt.alloc(), &[b"frames", b"-"])?);
-    assert!(rt; is_usage(rt.alloc(), &[b"frames", b""])?);
-    Ok(())
-}
-
-#[test]
-fn two_dashes_end_the_options(rt: HostRuntime) -> Result<(), Fail> {
-    let bytes = [0, 0, 6, 0, 0, 0, 1, 0x24, 0];
-    assert!(rt; ends(rt.alloc(), &[b"frames", b"--"], &bytes, 0, b"CANCEL 1\n")?);
-    assert!(rt;
-        ends(
-            rt.alloc(),
-            &[b"frames", b"--back", b"--"],
-            b"CANCEL 1\n",
-            0,
-            &bytes
-        )?
-    );
+    assert!(rt; ends(rt.alloc(), CABLE, &text, 0, lines)?);
     Ok(())
 }

@@ -49,54 +49,71 @@ fn gives(alloc: Global, line: &[&[u8]], wanted: &[&[u8]]) -> Result<bool, Fail> 
     Ok(true)
 }
 
-#[test]
-fn words_come_in_their_order_after_the_name(rt: HostRuntime) -> Result<(), Fail> {
-    assert!(rt; gives(rt.alloc(), &[b"rsocket"], &[])?);
-    assert!(rt;
-        gives(
-            rt.alloc(),
-            &[b"rsocket", b"frames", b"--back"],
-            &[b"frames", b"--back"]
-        )?
-    );
-    assert!(rt; gives(rt.alloc(), &[b"rsocket", b"", b"b", b""], &[b"", b"b", b""])?);
-    Ok(())
+/// A command line, and the words after the program's name.
+#[derive(Clone, Copy)]
+struct Given {
+    /// What the words show.
+    shows: &'static str,
+    line: &'static [&'static [u8]],
+    words: &'static [&'static [u8]],
 }
 
-#[test]
-fn words_need_not_be_text(rt: HostRuntime) -> Result<(), Fail> {
-    assert!(rt;
-        gives(
-            rt.alloc(),
-            &[b"\xff", b"\xc3\x28", b"\x00"],
-            &[b"\xc3\x28", b"\x00"]
-        )?
-    );
-    Ok(())
-}
+const GIVEN: [Given; 5] = [
+    Given {
+        shows: "a name alone has no words after it",
+        line: &[b"rsocket"],
+        words: &[],
+    },
+    Given {
+        shows: "words come in their order after the name",
+        line: &[b"rsocket", b"frames", b"--back"],
+        words: &[b"frames", b"--back"],
+    },
+    Given {
+        shows: "words may be empty",
+        line: &[b"rsocket", b"", b"b", b""],
+        words: &[b"", b"b", b""],
+    },
+    Given {
+        shows: "words need not be text",
+        line: &[b"\xff", b"\xc3\x28", b"\x00"],
+        words: &[b"\xc3\x28", b"\x00"],
+    },
+    Given {
+        shows: "a command line without a name has no words",
+        line: &[],
+        words: &[],
+    },
+];
 
 #[test]
-fn long_words_come_whole(rt: HostRuntime) -> Result<(), Fail> {
-    for length in [255_u32, 256, 257, 511, 512, 513, 5_000] {
-        let mut long = Vec::new(rt.alloc());
-        for index in 0..length {
-            long.push((index % 251) as u8)?;
-        }
-        let line = [
-            b"rsocket".as_slice(),
-            b"a".as_slice(),
-            &long,
-            b"b".as_slice(),
-        ];
-        let wanted = [b"a".as_slice(), &long, b"b".as_slice()];
-        assert!(rt; gives(rt.alloc(), &line, &wanted)?);
+fn each_line_gives_its_words(rt: HostRuntime) -> Result<(), Fail> {
+    for row in GIVEN {
+        assert!(rt; gives(rt.alloc(), row.line, row.words)?, "{}", row.shows);
     }
     Ok(())
 }
 
+/// Whether a word of this length comes whole, between two short ones.
+fn comes_whole(alloc: Global, length: u32) -> Result<bool, Fail> {
+    let mut long = Vec::new(alloc);
+    for index in 0..length {
+        long.push((index % 251) as u8)?;
+    }
+    let line = [
+        b"rsocket".as_slice(),
+        b"a".as_slice(),
+        &long,
+        b"b".as_slice(),
+    ];
+    gives(alloc, &line, &line[1..])
+}
+
 #[test]
-fn a_command_line_without_a_name_has_no_words(rt: HostRuntime) -> Result<(), Fail> {
-    assert!(rt; gives(rt.alloc(), &[], &[])?);
+fn long_words_come_whole(rt: HostRuntime) -> Result<(), Fail> {
+    for length in [255, 256, 257, 511, 512, 513, 5_000] {
+        assert!(rt; comes_whole(rt.alloc(), length)?, "{length}");
+    }
     Ok(())
 }
 
@@ -109,15 +126,19 @@ fn status(alloc: Global, line: &[&[u8]]) -> Result<u8, Fail> {
     Ok(start(&line, alloc, &mut input, &mut output, &mut shelf))
 }
 
+/// Command lines, and the status of the program on each.
+const STATUSES: [(&[&[u8]], u8); 5] = [
+    (&[b"rsocket"], 2),
+    (&[b"rsocket", b"cable"], 0),
+    (&[b"cable", b"rsocket"], 2),
+    (&[b"rsocket", b"frames", b"--back"], 0),
+    (&[b"rsocket", b"frames", b"--back", b"x"], 2),
+];
+
 #[test]
 fn every_word_reaches_the_program(rt: HostRuntime) -> Result<(), Fail> {
-    assert_eq!(rt; status(rt.alloc(), &[b"rsocket"])?, 2);
-    assert_eq!(rt; status(rt.alloc(), &[b"rsocket", b"cable"])?, 0);
-    assert_eq!(rt; status(rt.alloc(), &[b"cable", b"rsocket"])?, 2);
-    assert_eq!(rt; status(rt.alloc(), &[b"rsocket", b"frames", b"--back"])?, 0);
-    assert_eq!(rt;
-        status(rt.alloc(), &[b"rsocket", b"frames", b"--back", b"x"])?,
-        2
-    );
+    for (line, wanted) in STATUSES {
+        assert_eq!(rt; status(rt.alloc(), line)?, wanted, "{line:?}");
+    }
     Ok(())
 }
