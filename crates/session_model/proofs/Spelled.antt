@@ -1,5 +1,5 @@
 -- The frames of an entry that means what it says can be spelled, count in the positions, and find their places there.
-use Rattle.std.proofs.Common.{◌≡◌, ◌≤◌, ◌<◌, ◌+◌, ◌^◌, ◌==◌, ◌||◌, ℕ, Bool, true, false, cond, List, [], ◌∷◌, ◌++◌, length, option_to_list, Option, Some, None, IfSome, refl, length-append, ap, subst, sym, ◌∙◌, arith, lit<}
+use Rattle.std.proofs.Common.{◌≡◌, ◌≤◌, ◌<◌, ◌+◌, ◌^◌, ◌==◌, ◌||◌, ℕ, Bool, true, false, cond, List, [], ◌∷◌, ◌++◌, length, Option, Some, None, IfSome, refl, length-append, ap, subst, sym, ◌∙◌, arith, lit<}
 use Rattle.std.proofs.lemmas.Grind.{common_steps}
 use Rattle.std.proofs.lemmas.Bool.Decides.{nat_tests}
 use Rattle.std.proofs.lemmas.List.Elements.{filter-append}
@@ -8,7 +8,8 @@ use Rattle.byteorder.specs.Endian.{big_bytes}
 use Rattle.rs_wire.specs.Message.{size_of}
 use Rattle.rs_wire.specs.Words.{rule_word}
 use Rattle.rs_wire.specs.Calls.{CanBeAsked}
-use Rattle.rs_wire.specs.Settings.{IsChecked, fault_of, is_between}
+use Rattle.rs_wire.specs.Ranges.{is_between}
+use Rattle.rs_wire.specs.Settings.{IsChecked, fault_of}
 use Rattle.rs_wire.specs.declared.fault.Rule.{Rule}
 use Rattle.rs_wire.specs.declared.words.Kind.{Kind}
 use Rattle.rs_wire.specs.declared.message.Message.{Message}
