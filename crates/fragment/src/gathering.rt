@@ -126,18 +126,25 @@ impl Gathering {
     pub fn into_whole(self) -> Glued
         ensures { result ≡ glued_of false self.held }
     {
-        let metadata = if self.has_metadata {
-            Some(Blob::from_vec(self.metadata))
+        let Gathering {
+            has_metadata,
+            metadata,
+            content,
+            complete,
+            next,
+        } = self;
+        let metadata = if has_metadata {
+            Some(Blob::from_vec(metadata))
         } else {
             None
         };
         Glued::Whole {
             message: Message {
                 metadata,
-                content: Blob::from_vec(self.content),
+                content: Blob::from_vec(content),
             },
-            complete: self.complete,
-            next: self.next,
+            complete,
+            next,
         }
     }
 }

@@ -15,5 +15,3 @@ mod table;
 
 pub use table::Reassembly;
 
-#[cfg(test)]
-mod tests;

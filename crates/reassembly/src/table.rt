@@ -115,6 +115,7 @@ impl Reassembly {
     // Takes out what is gathered on a stream, or the fresh gathering.
     fn remove(&mut self, stream: u32) -> Gathering
         ensures gathering { result ≡ gathering_at self.old stream }
+        ensures held { result.held ≡ gathered_at self.old stream }
         ensures gathered { (s : ℕ) → gathered_at self.new s
             ≡ (if nat_eq stream s then nothing else gathered_at self.old s) }
         ensures place { self.old.place ≤ self.new.place }
