@@ -7,16 +7,17 @@ use Rattle.rs_wire.specs.declared.words.Side.{Side}
 use Rattle.rs_wire.specs.declared.settings.Settings.{Settings}
 use Rattle.rs_wire.specs.declared.settings.SettingFault.{SettingFault}
 use Rattle.rs_wire.specs.Settings.{IsIn, fault_of, usual}
+use Rattle.fragment.specs.Splitting.{IsMtu}
 use Rattle.session_model.specs.Legal.{IsPlain}
 use Rattle.cable.specs.declared.script.setting.Setting.{Setting}
 use Rattle.cable.specs.declared.script.setting.SettingLine.{SettingLine}
 use Rattle.cable.specs.Setting.{IsSetting, IsSettingLine, is_for, put, set_by, set_by_all, settings_by}
 
--- each is in its range, of an end without resumption, leases and fragments
+-- each is in its range, of an end without resumption and leases
 record IsSound (s : Settings) : Type 0 where
   pub no_resumption : s.resume ≡ false
   pub no_leases : s.lease ≡ false
-  pub no_fragments : s.mtu ≡ 0
+  pub mtu : IsMtu s.mtu
   pub no_token : length s.token ≡ 0
   pub keepalive : IsIn 1 s.keepalive_ms 2147483647
   pub lifetime : IsIn 1 s.lifetime_ms 2147483647
@@ -40,7 +41,7 @@ plain s h = record {
     no_fault = no_fault s h;
     keepalive = h.keepalive;
     lifetime = h.lifetime;
-    mtu = omega (arith, h.no_fragments);
+    mtu = omega (arith, h.mtu.0);
     hold = h.hold;
     slack = h.slack;
     max_in = h.max_in;
@@ -55,7 +56,6 @@ plain s h = record {
   };
   no_resumption = h.no_resumption;
   no_leases = h.no_leases;
-  no_fragments = h.no_fragments;
 }
 
 usual_sound : (side : Side) → IsSound (usual side)

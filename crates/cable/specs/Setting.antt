@@ -4,6 +4,7 @@ use Rattle.rs_wire.specs.declared.words.Side.{Side}
 use Rattle.rs_wire.specs.declared.words.Side.TheVariants.{Client, Server}
 use Rattle.rs_wire.specs.declared.settings.Settings.{Settings}
 use Rattle.rs_wire.specs.Settings.{IsIn, usual}
+use Rattle.fragment.specs.Splitting.{IsMtu}
 use Rattle.cable.specs.declared.script.setting.Setting.{Setting}
 use Rattle.cable.specs.declared.script.setting.Setting.TheVariants as setting
 use Rattle.cable.specs.declared.script.setting.SettingLine.{SettingLine}
@@ -15,6 +16,7 @@ use Rattle.cable.specs.Report.{numbered, side_word}
 abbrev pub setting_words : Setting → List ℕ
 setting_words (setting.Keepalive ms) = numbered (codes "keepalive") ms
 setting_words (setting.Lifetime ms) = numbered (codes "lifetime") ms
+setting_words (setting.Mtu bytes) = numbered (codes "mtu") bytes
 setting_words (setting.Hold bytes) = numbered (codes "hold") bytes
 setting_words (setting.Slack bytes) = numbered (codes "slack") bytes
 setting_words (setting.MaxIn bytes) = numbered (codes "maxin") bytes
@@ -35,6 +37,7 @@ setting_text l = codes "set " ++ (end_words l.side ++ setting_words l.setting)
 abbrev pub IsSetting : Setting → Type 0
 IsSetting (setting.Keepalive ms) = IsIn 1 ms 2147483647
 IsSetting (setting.Lifetime ms) = IsIn 1 ms 2147483647
+IsSetting (setting.Mtu bytes) = IsMtu bytes
 IsSetting (setting.Hold bytes) = IsIn 0 bytes 1073741824
 IsSetting (setting.Slack bytes) = IsIn 0 bytes 2147483647
 IsSetting (setting.MaxIn bytes) = IsIn 64 bytes 16777215
@@ -51,6 +54,7 @@ IsSettingLine l = IsSetting l.setting
 abbrev pub put : Setting → Settings → Settings
 put (setting.Keepalive ms) s = record s { keepalive_ms = ms }
 put (setting.Lifetime ms) s = record s { lifetime_ms = ms }
+put (setting.Mtu bytes) s = record s { mtu = bytes }
 put (setting.Hold bytes) s = record s { hold = bytes }
 put (setting.Slack bytes) s = record s { slack = bytes }
 put (setting.MaxIn bytes) s = record s { max_in = bytes }

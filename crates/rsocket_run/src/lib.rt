@@ -19,6 +19,8 @@ pub use words::start;
 #[cfg(test)]
 mod edge_tests;
 #[cfg(test)]
+mod fragment_tests;
+#[cfg(test)]
 mod frames_tests;
 #[cfg(test)]
 mod order_tests;

@@ -43,12 +43,14 @@ mod asked;
 mod came;
 mod counting;
 mod counts;
+mod gathering;
 mod history;
 mod judge;
 mod outgoing;
 mod queue;
 mod refusal;
 mod session;
+mod sizes;
 mod speak;
 mod state;
 

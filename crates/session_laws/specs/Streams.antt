@@ -5,12 +5,12 @@ use Rattle.tape.specs.declared.entry.Entry.{Entry}
 use Rattle.stream_model.specs.Marks.{Step, Sent}
 use Rattle.stream_model.specs.Turns.{Said, Turn, ends, inbound, over}
 use Rattle.stream_model.specs.Streams.{turn}
-use Rattle.session_model.specs.Streams.{marks_in, words}
+use Rattle.session_model.specs.Streams.{marks_in, unfinished, words}
 use Rattle.session_model.specs.Legal.{Fair, Legal}
 
 -- the stream of an id after these entries, from its admitted request on
 abbrev pub stream : Settings → List Entry → ℕ → Option Turn
-stream g past s = turn g.max_streams (words past) s
+stream g past s = turn g.max_streams (words g past) s
 
 -- each answer is the one to the entries before it, and whoever brought the events kept their conditions
 pub record IsLawful (g : Settings) (past : List Entry) : Type 0 where
@@ -27,5 +27,5 @@ pub record EndsReceiving (g : Settings) (past : List Entry) (x : Entry) (s : ℕ
   pub there : stream g past s ≡ Some t
   pub receiving : over t.opening t.words (inbound t.opening.role) ≡ false
   pub step : Step
-  pub own : marks_in x.answer x.event ≡ Sent s step ∷ []
+  pub own : marks_in (unfinished g past) x.answer x.event ≡ Sent s step ∷ []
   pub last : ends t.opening.kind (inbound t.opening.role) (Said t.opening.role step) ≡ true

@@ -34,7 +34,7 @@ pub fn what_came_before_is_lawful()
 /// are read off the frames, and so is how many streams are open.
 pub fn streams_are_what_frames_say()
     ensures streams { (g : Settings) (past : List Entry) (s : ℕ) → IsLawful g past →
-        turn g.max_streams (read (seen g past)) s ≡ framed (stream g past s) }
+        turn g.max_streams (read g.max_streams (seen g past)) s ≡ framed (stream g past s) }
     ensures over { (t : Turn) (w : Way) →
         over t.opening (framed_words t.opening t.words) w ≡ over t.opening t.words w }
     ensures items { (t : Turn) (w : Way) →
@@ -42,7 +42,8 @@ pub fn streams_are_what_frames_say()
     ensures granted { (t : Turn) (w : Way) →
         granted t.opening (framed_words t.opening t.words) w ≡ granted t.opening t.words w }
     ensures open { (g : Settings) (past : List Entry) → IsLawful g past →
-        live g.max_streams (read (seen g past)) ≡ live g.max_streams (words past) }
+        live g.max_streams (read g.max_streams (seen g past))
+        ≡ live g.max_streams (words g past) }
 {}
 
 /// On each way of a stream or a channel no more items were used than were granted, by this end or
@@ -80,8 +81,8 @@ pub fn a_stream_delivers_one_end()
 /// (RSocket 1.0, "Request").
 pub fn each_request_is_handed_out_once()
     ensures order { (g : Settings) (past : List Entry) → IsLawful g past →
-        jobs_got past ++ jobs_waiting g.max_streams (words past) ≡
-        jobs g.max_streams (words past) }
+        jobs_got past ++ jobs_waiting g.max_streams (words g past) ≡
+        jobs g.max_streams (words g past) }
     ensures once { (g : Settings) (past : List Entry) (s : ℕ) → IsLawful g past →
         jobs_on s (jobs_got past) ≤ 1 }
 {}
@@ -107,5 +108,5 @@ pub fn over_is_for_good()
 /// No more streams are open than may be, those of both ends together.
 pub fn streams_stay_within_their_limit()
     ensures { (g : Settings) (past : List Entry) →
-        IsLawful g past → live g.max_streams (words past) ≤ g.max_streams }
+        IsLawful g past → live g.max_streams (words g past) ≤ g.max_streams }
 {}

@@ -2,7 +2,6 @@
 use Rattle.std.proofs.Common.{◌≡◌, ◌≤◌, ◌+◌, ℕ, Bool, true, false, None, arith}
 use Rattle.std.proofs.lemmas.Grind.{common_steps}
 use Rattle.rs_wire.specs.Message.{size_of}
-use Rattle.rs_wire.specs.declared.message.Message.{Message}
 use Rattle.rs_wire.specs.declared.settings.Settings.{Settings}
 use Rattle.rs_frame.specs.declared.frame.Frame.{Frame}
 use Rattle.rs_frame.specs.declared.frame.Frame.TheVariants as frame
@@ -12,32 +11,34 @@ use Rattle.rs_frame.specs.Table.{flag}
 use Rattle.stream_model.specs.Known.{is_peers_next, hears_on}
 use Rattle.stream_model.specs.Arriving.{over_credit_on}
 use Rattle.session_model.specs.declared.numbers.TheConstants.{MAY_IGNORE}
-use Rattle.session_model.specs.Streams.{is_turned_away}
+use Rattle.fragment.specs.Joining.{Gathered}
+use Rattle.session_model.specs.Streams.{is_turned_away, with_part}
 use Rattle.session_model.specs.Frames.{turned_away}
-use Rattle.session_model.specs.Answers.{Facts, broken_rule}
+use Rattle.session_model.specs.Answers.{Facts, broken_rule, payload_rule}
 
 -- a frame finds its place in the position of the frames handled
 abbrev pub HandledFits : Settings → Facts → Frame → Type 0
 HandledFits g t f = t.handled.position + length_of f ≤ g.top_position
 
 pub record RequestUnbroken (g : Settings) (t : Facts) (r : Request) : Type 0 where
-  pub whole : r.follows ≡ false
   pub next : is_peers_next g.side t.streams r.stream ≡ true
   pub small : size_of r.message ≤ g.max_payload
   pub handled : HandledFits g t (frame.Request r)
   -- the ERROR that answers it, where it opens no stream, finds its place too
   pub answered : is_turned_away g t.streams r ≡ true → t.made.position + length_of (turned_away r.stream) ≤ g.top_position
 
-pub record PayloadUnbroken (g : Settings) (t : Facts) (s : ℕ) (follows complete next : Bool) (message : Message) : Type 0 where
-  pub whole : follows ≡ false
-  pub credit : over_credit_on (t.streams.kept s) next ≡ None
-  pub small : hears_on (t.streams.kept s) ≡ true → size_of message ≤ g.max_payload
-  pub handled : HandledFits g t (frame.Payload s follows complete next message)
+-- a payload that makes so much of its message
+pub record PayloadUnbroken (g : Settings) (t : Facts) (s : ℕ) (follows : Bool) (sum : Gathered) (f : Frame) : Type 0 where
+  -- where it makes the message whole
+  pub credit : follows ≡ false → over_credit_on (t.streams.kept s) sum.next ≡ None
+  pub small : hears_on (t.streams.kept s) ≡ true → size_of sum.message ≤ g.max_payload
+  pub handled : HandledFits g t f
 
 -- what holds of a frame that breaks no rule
 abbrev pub Unbroken : Settings → Facts → Frame → Type 0
 Unbroken g t (frame.Request r) = RequestUnbroken g t r
-Unbroken g t (frame.Payload s follows complete next message) = PayloadUnbroken g t s follows complete next message
+Unbroken g t (frame.Payload s follows complete next message) =
+    PayloadUnbroken g t s follows (with_part (t.unfinished s) message complete next) (frame.Payload s follows complete next message)
 Unbroken g t (frame.RequestN s n) = HandledFits g t (frame.RequestN s n)
 Unbroken g t (frame.Cancel s) = HandledFits g t (frame.Cancel s)
 Unbroken g t (frame.Error s code content) = HandledFits g t (frame.Error s code content)
@@ -49,20 +50,16 @@ request_unbroken : (g : Settings) (t : Facts) (r : Request) → broken_rule g t 
 unfolding broken_rule
 request_unbroken g t r none =
     record {
-      whole = grind (arith, common_steps);
       next = grind (arith, common_steps);
       small = grind (arith, common_steps);
       handled = grind (arith, common_steps);
       answered = λ is. grind (arith, common_steps);
     }
 
-payload_unbroken : (g : Settings) (t : Facts) (s : ℕ) (follows complete next : Bool) (message : Message) → broken_rule g t (frame.Payload s follows complete next message) ≡ None
-    → PayloadUnbroken g t s follows complete next message
-unfolding broken_rule
-payload_unbroken g t s follows complete next message none =
+payload_unbroken : (g : Settings) (t : Facts) (s : ℕ) (follows : Bool) (sum : Gathered) (f : Frame) → payload_rule g t s follows sum f ≡ None → PayloadUnbroken g t s follows sum f
+payload_unbroken g t s follows sum f none =
     record {
-      whole = grind (arith, common_steps);
-      credit = grind (arith, common_steps);
+      credit = λ whole. grind (arith, common_steps);
       small = λ hears. grind (arith, common_steps);
       handled = grind (arith, common_steps);
     }
@@ -70,7 +67,7 @@ payload_unbroken g t s follows complete next message none =
 pub unbroken : (g : Settings) (t : Facts) (f : Frame) → broken_rule g t f ≡ None → Unbroken g t f
 unfolding broken_rule
 unbroken g t (frame.Request r) none = request_unbroken g t r none
-unbroken g t (frame.Payload s follows complete next message) none = payload_unbroken g t s follows complete next message none
+unbroken g t (frame.Payload s follows complete next message) none = payload_unbroken g t s follows (with_part (t.unfinished s) message complete next) (frame.Payload s follows complete next message) none
 unbroken g t (frame.RequestN s n) none = grind (arith, common_steps)
 unbroken g t (frame.Cancel s) none = grind (arith, common_steps)
 unbroken g t (frame.Error s code content) none = grind (arith, common_steps)

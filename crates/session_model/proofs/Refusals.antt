@@ -1,5 +1,5 @@
 -- What holds where a call is not refused: each row of the refusals alone.
-use Rattle.std.proofs.Common.{◌≡◌, ◌≤◌, ◌<◌, ◌+◌, ℕ, Bool, true, false, not, cond, Option, Some, None, refl, arith}
+use Rattle.std.proofs.Common.{◌≡◌, ◌≤◌, ◌<◌, ◌+◌, ℕ, Bool, true, false, not, cond, List, Option, Some, None, refl, arith}
 use Rattle.std.proofs.lemmas.Grind.{common_steps}
 use Rattle.std.proofs.lemmas.Bool.Decides.{nat_tests}
 use Rattle.std.specs.Prelude.{nat_lt}
@@ -8,11 +8,11 @@ use Rattle.rs_wire.specs.declared.fault.Refusal.{Refusal}
 use Rattle.rs_wire.specs.declared.settings.Settings.{Settings}
 use Rattle.rs_wire.specs.declared.call.Call.{Call}
 use Rattle.rs_frame.specs.declared.frame.Frame.{Frame}
-use Rattle.rs_frame.specs.Spelling.{length_of}
+use Rattle.position.specs.Boundaries.{pos}
 use Rattle.stream_model.specs.declared.stream.Stream.{Stream as Kept}
 use Rattle.stream_model.specs.Known.{Known, limits_of, highest_at}
 use Rattle.stream_model.specs.Refused.{by_state, by_credit, by_ids, by_live, on_stream, refused_by}
-use Rattle.session_model.specs.Answers.{Facts, by_closed, by_size, by_sending, finds_full, refused_call, refused_sending, size_in}
+use Rattle.session_model.specs.Answers.{Facts, by_closed, by_size, by_sending, find_full, refused_call, refused_frames, size_in}
 
 -- where neither of two refusals holds, each is none
 pub neither : {X : Type 0} (a b : Option X) → option_or a b ≡ None → (a ≡ None) × (b ≡ None)
@@ -67,17 +67,17 @@ passed false x next none = (refl, none)
 pub size_fits : (g : Settings) (asked : Call) → by_size g asked ≡ None → size_in asked ≤ g.max_payload
 size_fits g asked none = let p = passed (nat_lt g.max_payload (size_in asked)) _ None none in grind (arith, nat_tests)
 
--- a frame can be made
-pub record CanSend (g : Settings) (t : Facts) (f : Frame) : Type 0 where
+-- frames can be made
+pub record CanSend (g : Settings) (t : Facts) (fs : List Frame) : Type 0 where
   pub begun : t.begun ≡ true
-  pub place : finds_full g t (length_of f) ≡ false
-  pub within : t.made.position + length_of f ≤ g.top_position
+  pub place : find_full g t fs ≡ false
+  pub within : t.made.position + pos fs ≤ g.top_position
 
-pub can_send : (g : Settings) (t : Facts) (f : Frame) → refused_sending g t (Some f) ≡ None → CanSend g t f
-can_send g t f none =
+pub can_send : (g : Settings) (t : Facts) (fs : List Frame) → refused_frames g t fs ≡ None → CanSend g t fs
+can_send g t fs none =
     let a = passed (not t.begun) _ _ none in
-    let b = passed (finds_full g t (length_of f)) _ _ a.1 in
-    let c = passed (nat_lt g.top_position (t.made.position + length_of f)) _ _ b.1 in
+    let b = passed (find_full g t fs) _ _ a.1 in
+    let c = passed (nat_lt g.top_position (t.made.position + pos fs)) _ _ b.1 in
     let begun = a.0 in
     let below = c.0 in
     record { begun = grind (arith, nat_tests); place = b.0; within = grind (arith, nat_tests) }

@@ -1,13 +1,15 @@
 -- The frames of an entry that means what it says can be spelled, count in the positions, and find their places there.
-use Rattle.std.proofs.Common.{◌≡◌, ◌≤◌, ◌<◌, ◌+◌, ◌^◌, ◌||◌, ℕ, Bool, true, false, cond, List, [], ◌∷◌, ◌++◌, length, option_to_list, Option, Some, None, IfSome, refl, length-append, ap, subst, sym, ◌∙◌, arith, lit<}
+use Rattle.std.proofs.Common.{◌≡◌, ◌≤◌, ◌<◌, ◌+◌, ◌^◌, ◌==◌, ◌||◌, ℕ, Bool, true, false, cond, List, [], ◌∷◌, ◌++◌, length, Option, Some, None, IfSome, refl, length-append, ap, subst, sym, ◌∙◌, arith, lit<}
 use Rattle.std.proofs.lemmas.Grind.{common_steps}
+use Rattle.std.proofs.lemmas.Bool.Decides.{nat_tests}
 use Rattle.std.proofs.lemmas.List.Elements.{filter-append}
 use Rattle.std.specs.List.{AllByRecursion, filter}
 use Rattle.byteorder.specs.Endian.{big_bytes}
 use Rattle.rs_wire.specs.Message.{size_of}
 use Rattle.rs_wire.specs.Words.{rule_word}
 use Rattle.rs_wire.specs.Calls.{CanBeAsked}
-use Rattle.rs_wire.specs.Settings.{IsChecked}
+use Rattle.rs_wire.specs.Ranges.{is_between}
+use Rattle.rs_wire.specs.Settings.{IsChecked, fault_of}
 use Rattle.rs_wire.specs.declared.fault.Rule.{Rule}
 use Rattle.rs_wire.specs.declared.words.Kind.{Kind}
 use Rattle.rs_wire.specs.declared.message.Message.{Message}
@@ -16,7 +18,7 @@ use Rattle.rs_wire.specs.declared.call.Call.{Call}
 use Rattle.rs_wire.specs.declared.call.Call.TheVariants as call
 use Rattle.rs_frame.specs.declared.frame.Frame.{Frame}
 use Rattle.rs_frame.specs.declared.frame.Frame.TheVariants as frame
-use Rattle.rs_frame.specs.Spelling.{IsSpellable, IsStream, InitialFits, MessageFits, if_there, counted_bytes, payload, is_resumable}
+use Rattle.rs_frame.specs.Spelling.{IsSpellable, IsStream, InitialFits, MessageFits, if_there, counted_bytes, payload, is_resumable, length_of}
 use Rattle.position.specs.Boundaries.{pos, pos_by}
 use Rattle.tape.specs.declared.event.Event.{Event}
 use Rattle.tape.specs.declared.event.Event.TheVariants as event
@@ -25,8 +27,11 @@ use Rattle.tape.specs.declared.answer.Answer.TheVariants as answer
 use Rattle.stream_model.specs.Known.{Known, highest_at, is_open_response}
 use Rattle.stream_model.specs.Refused.{by_state}
 use Rattle.stream_model.specs.Arriving.{no_message}
+use Rattle.fragment.specs.Splitting.{IsMtu, IsSplittable, follows_of, split_of}
+use Rattle.fragment.proofs.Cuts.{first_spellable, rest_spellable}
+use Rattle.fragment.proofs.Splits.{by_cuts}
 use Rattle.session_model.specs.declared.numbers.TheConstants.{CONNECTION_ERROR}
-use Rattle.session_model.specs.Frames.{refusal, setup_frame, request_frame, turned_away, spoken, makes, beside, lines_up, handles}
+use Rattle.session_model.specs.Frames.{refusal, setup_frame, request_frame, turned_away, spoken, in_fragments, sent_as, makes, beside, lines_up, handles}
 use Rattle.session_model.specs.Answers.{Facts, refused_sending}
 use Rattle.session_model.specs.Legal.{AmountsFit, IsFair, IsPlain}
 use Rattle.session_model.specs.Means.{Does, Means}
@@ -67,29 +72,69 @@ error_spellable s code content stream is small = record { fields = (stream, is);
 named : (t : Known) (s : ℕ) → IdsFit t → 0 < s → s ≤ highest_at t s → IsStream s
 named t s ids above below = let top = highest_fits t s ids in (above, omega arith)
 
+-- ---- fragments
+
+-- what is split is whole
+abbrev pub IsWhole : Frame → Type 0
+IsWhole f = follows_of f ≡ false
+
+-- a fact of a frame that is whole holds of all that goes out where it holds of every split
+by_fragments : (P : List Frame → Type 0) (mtu : ℕ) (f : Frame) → IsWhole f → (IsSplittable f → P (split_of f mtu)) → P (f ∷ []) → P (in_fragments mtu f)
+by_fragments P mtu (frame.Request r) whole split alone = split whole
+by_fragments P mtu (frame.Payload s follows complete next message) whole split alone = split whole
+by_fragments P mtu f whole split alone = alone
+
+mtu_between : (g : Settings) → fault_of g ≡ None → (g.mtu == 0 || is_between 64 g.mtu 16777215) ≡ true
+mtu_between g none = grind (arith, common_steps)
+
+is_mtu : (g : Settings) → IsChecked g → IsMtu g.mtu
+is_mtu g checked =
+    let between = mtu_between g checked.no_fault in
+    let most = checked.mtu in
+    (omega arith, λ some. grind (arith, nat_tests))
+
+split_spellable : (f : Frame) (mtu : ℕ) → IsMtu mtu → IsSplittable f → IsSpellable f → AllByRecursion IsSpellable (split_of f mtu)
+split_spellable f mtu limit splittable =
+    by_cuts (λ h hs. IsSpellable h → AllByRecursion IsSpellable hs) mtu limit.1
+    (λ h whole fits spellable. (spellable, tt))
+    (λ h hs long rest spellable. (first_spellable mtu h long spellable, rest (rest_spellable mtu h long spellable)))
+    (length_of f) f (omega arith) splittable
+
+fragments_spellable : (g : Settings) (f : Frame) → IsChecked g → IsWhole f → IsSpellable f → AllByRecursion IsSpellable (in_fragments g.mtu f)
+fragments_spellable g f checked whole spellable =
+    by_fragments (AllByRecursion IsSpellable) g.mtu f whole (λ splittable. split_spellable f g.mtu (is_mtu g checked) splittable spellable) (spellable, tt)
+
+sent_spellable : (g : Settings) (o : Option Frame) → IsChecked g → IfSome o IsWhole → IfSome o IsSpellable → AllByRecursion IsSpellable (sent_as g o)
+sent_spellable g None checked whole spellable = tt
+sent_spellable g (Some f) checked whole spellable = fragments_spellable g f checked whole spellable
+
+-- the frame of a call is whole
+spoken_whole : (t : Known) (id : ℕ) (asked : Call) → IfSome (spoken t id asked) IsWhole
+spoken_whole t id asked = grind (arith, common_steps)
+
 -- the frame of a call that is not refused
 pub spoken_spellable : (g : Settings) (t : Facts) (id : ℕ) (asked : Call) → IsChecked g → IdsFit t.streams → IsFair g (event.Asked asked) → IsStream id → Unrefused g t asked
-    → AllByRecursion IsSpellable (option_to_list (spoken t.streams id asked))
+    → IfSome (spoken t.streams id asked) IsSpellable
 spoken_spellable g t id (call.Request kind initial message complete) checked ids fair stream u =
-    (request_spellable g id kind initial message complete checked stream (initial_fits kind initial message complete fair.0 fair.1) (size_fits g (call.Request kind initial message complete) u.size), tt)
+    request_spellable g id kind initial message complete checked stream (initial_fits kind initial message complete fair.0 fair.1) (size_fits g (call.Request kind initial message complete) u.size)
 spoken_spellable g t id (call.Next s message complete) checked ids fair stream u =
     let n = names t.streams s _ u.state in
-    (payload_spellable g s (complete || is_open_response (t.streams.kept s)) true message checked (named t.streams s ids n.above n.below) (size_fits g (call.Next s message complete) u.size), tt)
+    payload_spellable g s (complete || is_open_response (t.streams.kept s)) true message checked (named t.streams s ids n.above n.below) (size_fits g (call.Next s message complete) u.size)
 spoken_spellable g t id (call.Done s) checked ids fair stream u =
     let n = names t.streams s _ u.state in
-    (payload_spellable g s true false no_message checked (named t.streams s ids n.above n.below) (omega arith), tt)
+    payload_spellable g s true false no_message checked (named t.streams s ids n.above n.below) (omega arith)
 spoken_spellable g t id (call.Grant s n) checked ids fair stream u =
     let k = names t.streams s _ u.state in
-    (record { fields = (named t.streams s ids k.above k.below, fair.1); short = lit< tt }, tt)
+    record { fields = (named t.streams s ids k.above k.below, fair.1); short = lit< tt }
 spoken_spellable g t id (call.Cancel s) checked ids fair stream u =
     let n = names t.streams s _ u.state in
-    (record { fields = named t.streams s ids n.above n.below; short = lit< tt }, tt)
+    record { fields = named t.streams s ids n.above n.below; short = lit< tt }
 spoken_spellable g t id (call.Fail s code content) checked ids fair stream u =
     let n = names t.streams s _ u.state in
     let most = checked.max_payload.below in
     let small = size_fits g (call.Fail s code content) u.size in
     let is = fair.0 in
-    (error_spellable s code content (named t.streams s ids n.above n.below).1 (grind (arith, common_steps)) (omega arith), tt)
+    error_spellable s code content (named t.streams s ids n.above n.below).1 (grind (arith, common_steps)) (omega arith)
 spoken_spellable g t id (call.Take s) checked ids fair stream u = tt
 spoken_spellable g t id call.TakeJob checked ids fair stream u = tt
 spoken_spellable g t id call.Close checked ids fair stream u = tt
@@ -121,7 +166,7 @@ done_same g t (call.Request kind initial message complete) id does = absurd does
 done_same g t asked id does = refl
 
 done_spellable : (g : Settings) (t : Facts) (asked : Call) → IsChecked g → IdsFit t.streams → IsFair g (event.Asked asked) → Does g t (event.Asked asked)
-    → AllByRecursion IsSpellable (option_to_list (spoken t.streams 0 asked))
+    → IfSome (spoken t.streams 0 asked) IsSpellable
 done_spellable g t asked checked ids fair does =
     rw (← done_same g t asked 1 does) (spoken_spellable g t 1 asked checked ids fair (lit< tt, lit< tt) (done_passes g t asked does))
 
@@ -129,9 +174,10 @@ done_spellable g t asked checked ids fair does =
 pub makes_spellable : (g : Settings) (t : Facts) (e : Event) (a : Answer) → IsChecked g → IdsFit t.streams → IsFair g e → Means g t e a → AllByRecursion IsSpellable (makes g t.streams a e)
 makes_spellable g t (event.Asked (call.Request kind initial message complete)) (answer.Started id) checked ids fair means =
     let asked = call.Request kind initial message complete in
-    spoken_spellable g t id asked checked ids fair (started_fits g t kind initial message complete id checked means) (unrefused g t asked means.accepted)
+    sent_spellable g (spoken t.streams id asked) checked (spoken_whole t.streams id asked) (spoken_spellable g t id asked checked ids fair (started_fits g t kind initial message complete id checked means) (unrefused g t asked means.accepted))
 makes_spellable g t e (answer.Started id) checked ids fair means = absurd means
-makes_spellable g t (event.Asked asked) answer.Done checked ids fair means = done_spellable g t asked checked ids fair means
+makes_spellable g t (event.Asked asked) answer.Done checked ids fair means =
+    sent_spellable g (spoken t.streams 0 asked) checked (spoken_whole t.streams 0 asked) (done_spellable g t asked checked ids fair means)
 makes_spellable g t e answer.Done checked ids fair means = absurd means
 makes_spellable g t (event.Came conn f) answer.Handled checked ids fair means = answer_spellable g t conn f fair
 makes_spellable g t e answer.Handled checked ids fair means = absurd means
@@ -189,30 +235,46 @@ lines_spellable g t e a plain ids fair means =
 pub none_besides : (g : Settings) (e : Event) (a : Answer) → filter is_resumable (beside g a e) ≡ []
 none_besides g e a = grind (arith, common_steps)
 
--- the positions count each frame of a call
-spoken_counts : (g : Settings) (t : Facts) (id : ℕ) (asked : Call) → by_state t.streams asked ≡ None → filter is_resumable (option_to_list (spoken t.streams id asked)) ≡ option_to_list (spoken t.streams id asked)
+-- the positions count each fragment of a frame that they count
+split_counts : (f : Frame) (mtu : ℕ) → IsMtu mtu → IsSplittable f → filter is_resumable (split_of f mtu) ≡ split_of f mtu
+split_counts f mtu limit splittable =
+    by_cuts (λ h hs. filter is_resumable hs ≡ hs) mtu limit.1 (λ h whole fits. grind (arith, common_steps)) (λ h hs long rest. grind (arith, common_steps, rest, long.whole)) (length_of f) f (omega arith) splittable
+
+fragments_count : (g : Settings) (f : Frame) → IsChecked g → IsWhole f → is_resumable f ≡ true → filter is_resumable (in_fragments g.mtu f) ≡ in_fragments g.mtu f
+fragments_count g f checked whole counts =
+    by_fragments (λ fs. filter is_resumable fs ≡ fs) g.mtu f whole (split_counts f g.mtu (is_mtu g checked)) (grind (arith, common_steps))
+
+sent_count : (g : Settings) (o : Option Frame) → IsChecked g → IfSome o IsWhole → IfSome o (λ f. is_resumable f ≡ true) → filter is_resumable (sent_as g o) ≡ sent_as g o
+sent_count g None checked whole counts = refl
+sent_count g (Some f) checked whole counts = fragments_count g f checked whole counts
+
+-- they count the frame of a call
+spoken_counts : (g : Settings) (t : Facts) (id : ℕ) (asked : Call) → by_state t.streams asked ≡ None → IfSome (spoken t.streams id asked) (λ f. is_resumable f ≡ true)
 spoken_counts g t id (call.Fail s code content) none = let n = (names t.streams s _ none).above in grind (arith, common_steps)
 spoken_counts g t id asked none = grind (arith, common_steps)
 
 -- and each that an entry makes
-pub makes_count : (g : Settings) (t : Facts) (e : Event) (a : Answer) → Means g t e a → filter is_resumable (makes g t.streams a e) ≡ makes g t.streams a e
-makes_count g t (event.Asked asked) (answer.Started id) means = grind (arith, common_steps)
-makes_count g t (event.Asked asked) answer.Done means = spoken_counts g t 0 asked (done_passes g t asked means).state
-makes_count g t (event.Came conn (frame.Request r)) answer.Handled means = let next = (unbroken g t (frame.Request r) means.unbroken).next in grind (arith, common_steps)
-makes_count g t e a means = grind (arith, common_steps)
+pub makes_count : (g : Settings) (t : Facts) (e : Event) (a : Answer) → IsChecked g → Means g t e a → filter is_resumable (makes g t.streams a e) ≡ makes g t.streams a e
+makes_count g t (event.Asked (call.Request kind initial message complete)) (answer.Started id) checked means =
+    let asked = call.Request kind initial message complete in
+    sent_count g (spoken t.streams id asked) checked (spoken_whole t.streams id asked) refl
+makes_count g t (event.Asked asked) answer.Done checked means =
+    sent_count g (spoken t.streams 0 asked) checked (spoken_whole t.streams 0 asked) (spoken_counts g t 0 asked (done_passes g t asked means).state)
+makes_count g t (event.Came conn (frame.Request r)) answer.Handled checked means = let next = (unbroken g t (frame.Request r) means.unbroken).next in grind (arith, common_steps)
+makes_count g t e a checked means = grind (arith, common_steps)
 
 -- of all that an entry puts in line these count
-pub lines_count : (g : Settings) (t : Facts) (e : Event) (a : Answer) → Means g t e a → filter is_resumable (lines_up g t.streams a e) ≡ makes g t.streams a e
-lines_count g t e a means =
-    filter-append is_resumable (beside g a e) (makes g t.streams a e) ∙ (ap (λ fs. fs ++ filter is_resumable (makes g t.streams a e)) (none_besides g e a) ∙ makes_count g t e a means)
+pub lines_count : (g : Settings) (t : Facts) (e : Event) (a : Answer) → IsChecked g → Means g t e a → filter is_resumable (lines_up g t.streams a e) ≡ makes g t.streams a e
+lines_count g t e a checked means =
+    filter-append is_resumable (beside g a e) (makes g t.streams a e) ∙ (ap (λ fs. fs ++ filter is_resumable (makes g t.streams a e)) (none_besides g e a) ∙ makes_count g t e a checked means)
 
 -- ---- positions
 
 -- the frame of a call ends at or before the top position
-spoken_fits : (g : Settings) (t : Facts) (o : Option Frame) → refused_sending g t o ≡ None → t.made.position ≤ g.top_position → t.made.position + pos (option_to_list o) ≤ g.top_position
+spoken_fits : (g : Settings) (t : Facts) (o : Option Frame) → refused_sending g t o ≡ None → t.made.position ≤ g.top_position → t.made.position + pos (sent_as g o) ≤ g.top_position
 unfolding pos_by
 spoken_fits g t None none below = omega (arith, below)
-spoken_fits g t (Some f) none below = let within = (can_send g t f none).within in omega (arith, within)
+spoken_fits g t (Some f) none below = (can_send g t (in_fragments g.mtu f) none).within
 
 pub done_sends : (g : Settings) (t : Facts) (asked : Call) → Does g t (event.Asked asked) → refused_sending g t (spoken t.streams 0 asked) ≡ None
 done_sends g t (call.Request kind initial message complete) does = absurd does

@@ -22,6 +22,8 @@ use Rattle.rs_frame.specs.declared.frame.Frame.TheVariants as frame
 use Rattle.rs_frame.specs.declared.frame.Request.{Request}
 use Rattle.rs_frame.specs.declared.frame.Setup.{Setup}
 use Rattle.rs_frame.specs.Spelling.{length_of}
+use Rattle.rs_frame.specs.Framed.{framed_all}
+use Rattle.fragment.specs.Joining.{Gathered}
 use Rattle.rs_frame.specs.Table.{flag}
 use Rattle.setup_core.specs.Setup.{setup_fault}
 use Rattle.tape.specs.declared.event.Event.{Event}
@@ -36,8 +38,8 @@ use Rattle.stream_model.specs.Arriving.{over_credit_on}
 use Rattle.session_model.specs.Life.{openings, live, is_live, carrying, begun, setup, closed}
 use Rattle.session_model.specs.declared.facts.Counted.{Counted}
 use Rattle.session_model.specs.declared.numbers.TheConstants.{ANSWER_ROOM, EXTENSION, MAY_IGNORE}
-use Rattle.session_model.specs.Streams.{known, is_turned_away}
-use Rattle.session_model.specs.Frames.{closing_error, turned_away, spoken, made, handled, queued}
+use Rattle.session_model.specs.Streams.{known, unfinished, is_turned_away, with_part}
+use Rattle.session_model.specs.Frames.{closing_error, turned_away, spoken, in_fragments, made, handled, queued}
 
 -- how many frames there are, and the position after them
 abbrev pub counted : List Frame → Counted
@@ -58,6 +60,8 @@ pub record Facts : Type 0 where
   -- how many bytes wait to be drawn
   pub queued : ℕ
   pub streams : Known
+  -- what came, on a stream, of a message that is not whole yet
+  pub unfinished : ℕ → Gathered
 
 -- the facts after these entries
 unfoldable pub facts : Settings → List Entry → Facts
@@ -72,6 +76,7 @@ facts g past = record {
   handled = counted (handled past);
   queued = queued g past;
   streams = known g past;
+  unfinished = unfinished g past;
 }
 
 -- ---- an opening
@@ -134,20 +139,27 @@ answer_spends g t r = is_turned_away g t.streams r && nat_lt g.top_position (t.m
 abbrev pub is_too_large : Settings → Bool → Message → Bool
 is_too_large g taken message = taken && nat_lt g.max_payload (size_of message)
 
--- the least rule that a frame breaks; fragments are not known yet
+-- an item finds no credit where its message becomes whole
+abbrev pub breaks_credit : Facts → ℕ → Bool → Bool → Option Rule
+breaks_credit t s follows next = if follows then None else option_map rule.OverCredit (over_credit_on (t.streams.kept s) next)
+
+-- the least rule that a payload breaks, by what it makes of its message
+abbrev pub payload_rule : Settings → Facts → ℕ → Bool → Gathered → Frame → Option Rule
+payload_rule g t s follows sum f =
+    option_or (breaks_credit t s follows sum.next) (first_true (
+    (is_too_large g (hears_on (t.streams.kept s)) sum.message, rule.TooLarge (size_of sum.message))
+    ∷ (spends g t f, rule.PositionSpent)
+    ∷ []))
+
+-- the least rule that a frame breaks
 unfoldable pub broken_rule : Settings → Facts → Frame → Option Rule
 broken_rule g t (frame.Request r) = first_true (
-    (r.follows, rule.NotNow)
-    ∷ (not (is_peers_next g.side t.streams r.stream), rule.StreamId r.stream)
+    (not (is_peers_next g.side t.streams r.stream), rule.StreamId r.stream)
     ∷ (is_too_large g true r.message, rule.TooLarge (size_of r.message))
     ∷ (spends g t (frame.Request r) || answer_spends g t r, rule.PositionSpent)
     ∷ [])
 broken_rule g t (frame.Payload s follows complete next message) =
-    if follows then Some rule.NotNow
-    else option_or (option_map rule.OverCredit (over_credit_on (t.streams.kept s) next)) (first_true (
-    (is_too_large g (hears_on (t.streams.kept s)) message, rule.TooLarge (size_of message))
-    ∷ (spends g t (frame.Payload s follows complete next message), rule.PositionSpent)
-    ∷ []))
+    payload_rule g t s follows (with_part (t.unfinished s) message complete next) (frame.Payload s follows complete next message)
 broken_rule g t (frame.RequestN s n) = first_true ((spends g t (frame.RequestN s n), rule.PositionSpent) ∷ [])
 broken_rule g t (frame.Cancel s) = first_true ((spends g t (frame.Cancel s), rule.PositionSpent) ∷ [])
 broken_rule g t (frame.Error s code content) = first_true ((spends g t (frame.Error s code content), rule.PositionSpent) ∷ [])
@@ -167,9 +179,9 @@ to_bad g t conn number = on_live t conn (unless_closed t.closed (unless_busy g t
 
 -- ---- a call
 
--- a frame of this length goes out at once, and finds no room in the queue for itself and its length field
-abbrev pub finds_full : Settings → Facts → ℕ → Bool
-finds_full g t len = t.carrying && nat_lt (out_limit_of g) (t.queued + (3 + len))
+-- frames go out at once, and find no room in the queue for themselves and their length fields
+abbrev pub find_full : Settings → Facts → List Frame → Bool
+find_full g t fs = t.carrying && nat_lt (out_limit_of g) (t.queued + length (framed_all fs))
 
 -- the session is closed; what waits can still be taken
 abbrev pub if_none_waits : {A : Type 0} → List A → Option Refusal → Option Refusal
@@ -195,18 +207,22 @@ size_in _ = 0
 abbrev pub by_size : Settings → Call → Option Refusal
 by_size g asked = if nat_lt g.max_payload (size_in asked) then Some (refusal.TooLarge (size_in asked)) else None
 
--- a frame can't be made: there is no connection yet, no room in the queue, or the position would pass the top
+-- frames can't be made: there is no connection yet, no room in the queue, or the position would pass the top
+abbrev pub refused_frames : Settings → Facts → List Frame → Option Refusal
+refused_frames g t fs = first_true (
+    (not t.begun, refusal.NotConnected)
+    ∷ (find_full g t fs, refusal.OutFull t.queued)
+    ∷ (nat_lt g.top_position (t.made.position + pos fs), refusal.PositionSpent)
+    ∷ [])
+
+-- what a call would say can't be sent
 abbrev pub refused_sending : Settings → Facts → Option Frame → Option Refusal
 refused_sending g t None = None
-refused_sending g t (Some f) = first_true (
-    (not t.begun, refusal.NotConnected)
-    ∷ (finds_full g t (length_of f), refusal.OutFull t.queued)
-    ∷ (nat_lt g.top_position (t.made.position + length_of f), refusal.PositionSpent)
-    ∷ [])
+refused_sending g t (Some f) = refused_frames g t (in_fragments g.mtu f)
 
 -- Close needs no connection, and room for its ERROR where there is one
 abbrev pub by_sending : Settings → Facts → Call → Option Refusal
-by_sending g t call.Close = if finds_full g t (length_of (closing_error [])) then Some (refusal.OutFull t.queued) else None
+by_sending g t call.Close = if find_full g t (closing_error [] ∷ []) then Some (refusal.OutFull t.queued) else None
 by_sending g t asked = refused_sending g t (spoken t.streams (next_id g.side t.streams) asked)
 
 -- the first refusal of a call

@@ -1,5 +1,5 @@
 -- The frames of a session, over its entries, the newest first: made, due, come and handled.
-use Rattle.std.specs.Prelude.{ℕ, ◌+◌, ◌-◌, ◌==◌, ◌&&◌, Bool, false, nat_le, nat_lt, if◌then◌else◌, List, [], ◌∷◌, ◌++◌, length, take, map, Option, Some, None, is_none, option_to_list, ◌||◌, true, codes}
+use Rattle.std.specs.Prelude.{ℕ, ◌+◌, ◌-◌, ◌==◌, ◌&&◌, Bool, false, nat_le, nat_lt, if◌then◌else◌, List, [], ◌∷◌, ◌++◌, length, take, map, Option, Some, None, is_none, ◌||◌, true, codes}
 use Rattle.rs_wire.specs.Words.{rule_word, setup_word}
 use Rattle.rs_wire.specs.declared.words.Kind.{Kind}
 use Rattle.rs_wire.specs.declared.message.Message.{Message}
@@ -18,6 +18,7 @@ use Rattle.tape.specs.declared.answer.Answer.TheVariants as answer
 use Rattle.tape.specs.declared.entry.Entry.{Entry}
 use Rattle.stream_model.specs.Known.{Known, is_open_response}
 use Rattle.stream_model.specs.Arriving.{no_message}
+use Rattle.fragment.specs.Splitting.{split_of}
 use Rattle.session_model.specs.Lists.{first_of}
 use Rattle.session_model.specs.Life.{openings, live, live_after, is_live}
 use Rattle.session_model.specs.declared.numbers.TheConstants.{CONNECTION_ERROR, REJECTED}
@@ -73,10 +74,20 @@ spoken t id (call.Cancel s) = Some (frame.Cancel s)
 spoken t id (call.Fail s code content) = Some (frame.Error s code content)
 spoken t id _ = None
 
+-- a request or a payload that is longer than the mtu goes out in fragments (RSocket 1.0, "Fragmentation and Reassembly")
+abbrev pub in_fragments : ℕ → Frame → List Frame
+in_fragments mtu (frame.Request r) = split_of (frame.Request r) mtu
+in_fragments mtu (frame.Payload s follows complete next message) = split_of (frame.Payload s follows complete next message) mtu
+in_fragments mtu f = f ∷ []
+
+abbrev pub sent_as : Settings → Option Frame → List Frame
+sent_as g None = []
+sent_as g (Some f) = in_fragments g.mtu f
+
 -- the resumable frames that an entry makes, by what is known of the streams before it
 abbrev pub makes : Settings → Known → Answer → Event → List Frame
-makes g t (answer.Started id) (event.Asked asked) = option_to_list (spoken t id asked)
-makes g t answer.Done (event.Asked asked) = option_to_list (spoken t 0 asked)
+makes g t (answer.Started id) (event.Asked asked) = sent_as g (spoken t id asked)
+makes g t answer.Done (event.Asked asked) = sent_as g (spoken t 0 asked)
 makes g t answer.Handled (event.Came conn (frame.Request r)) = if is_turned_away g t r then turned_away r.stream ∷ [] else []
 makes g t _ _ = []
 

@@ -15,12 +15,11 @@ use Rattle.tape.specs.declared.entry.Entry.{Entry}
 use Rattle.session_model.specs.Answers.{answer_to}
 use Rattle.session_model.specs.declared.numbers.TheConstants.{LONG_FRAME}
 
--- settings that were tested, of an end without resumption, leases and fragments
+-- settings that were tested, of an end without resumption and leases
 pub record IsPlain (g : Settings) : Type 0 where
   pub checked : IsChecked g
   pub no_resumption : g.resume ≡ false
   pub no_leases : g.lease ≡ false
-  pub no_fragments : g.mtu ≡ 0
 
 -- the numbers of items that a call grants are above 0, and have 31 bits
 abbrev pub AmountsFit : Call → Type 0

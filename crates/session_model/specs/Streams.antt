@@ -1,5 +1,5 @@
 -- What the entries of a session say on its streams, and what is known of these. Entries and marks are the newest first.
-use Rattle.std.specs.Prelude.{◌==◌, ◌&&◌, Bool, true, false, not, nat_lt, if◌then◌else◌, List, [], ◌∷◌, ◌++◌, Option, Some, None, option_to_list}
+use Rattle.std.specs.Prelude.{ℕ, ◌==◌, ◌&&◌, Bool, true, false, not, nat_lt, if◌then◌else◌, List, [], ◌∷◌, ◌++◌, Option, Some, None, option_to_list}
 use Rattle.std.specs.Option.{option_map}
 use Rattle.rs_wire.specs.declared.settings.Settings.{Settings}
 use Rattle.rs_wire.specs.declared.message.Message.{Message}
@@ -16,7 +16,8 @@ use Rattle.stream_model.specs.declared.arrival.Arrival.{Arrival}
 use Rattle.stream_model.specs.declared.arrival.Arrival.TheVariants as arrival
 use Rattle.stream_model.specs.Marks.{Mark, Took, TookJob}
 use Rattle.stream_model.specs.Turns.{is_fnf}
-use Rattle.stream_model.specs.Known.{Known, known as known_after}
+use Rattle.stream_model.specs.Known.{Known, known as known_after, hears_on}
+use Rattle.fragment.specs.Joining.{Gathered, nothing, join, left_held}
 use Rattle.stream_model.specs.Arriving.{said, heard}
 
 -- a message is whole where no fragment follows
@@ -24,32 +25,71 @@ abbrev pub whole_in : Bool → Message → Bool → Option (Message × Bool)
 whole_in true message complete = None
 whole_in false message complete = Some (message, complete)
 
--- what a frame of the peer's says on a stream
-abbrev pub arrival_in : Frame → Option Arrival
-arrival_in (frame.Request r) = Some (arrival.Asked r.stream r.kind r.initial (whole_in r.follows r.message r.complete))
-arrival_in (frame.Payload s follows complete next message) = if follows then None else Some (arrival.Whole s message complete next)
-arrival_in (frame.RequestN s n) = Some (arrival.Granted s n)
-arrival_in (frame.Cancel s) = Some (arrival.Canceled s)
-arrival_in (frame.Error s code content) = if s == 0 then None else Some (arrival.Failed s code content)
-arrival_in _ = None
+-- a part of a message joined to what was gathered of it (RSocket 1.0, "Fragmentation and Reassembly")
+abbrev pub with_part : Gathered → Message → Bool → Bool → Gathered
+with_part held message complete next = join held (record { message = message; complete = complete; next = next })
+
+abbrev pub arrives_whole : ℕ → Gathered → Arrival
+arrives_whole s sum = arrival.Whole s sum.message sum.complete sum.next
+
+-- what a frame of the peer's says on a stream, by what was gathered there of a message that is not whole
+abbrev pub arrival_in : (ℕ → Gathered) → Frame → Option Arrival
+arrival_in gathered (frame.Request r) = Some (arrival.Asked r.stream r.kind r.initial (whole_in r.follows r.message r.complete))
+arrival_in gathered (frame.Payload s follows complete next message) = if follows then None else Some (arrives_whole s (with_part (gathered s) message complete next))
+arrival_in gathered (frame.RequestN s n) = Some (arrival.Granted s n)
+arrival_in gathered (frame.Cancel s) = Some (arrival.Canceled s)
+arrival_in gathered (frame.Error s code content) = if s == 0 then None else Some (arrival.Failed s code content)
+arrival_in gathered _ = None
 
 -- what an event so answered says on the streams
-abbrev pub marks_in : Answer → Event → List Mark
-marks_in answer.Handled (event.Came conn f) = option_to_list (option_map heard (arrival_in f))
-marks_in (answer.Started id) (event.Asked asked) = said id asked
-marks_in answer.Done (event.Asked asked) = said 0 asked
-marks_in (answer.Got delivery) (event.Asked (call.Take s)) = Took s delivery ∷ []
-marks_in (answer.GotJob job) (event.Asked call.TakeJob) = TookJob ∷ []
-marks_in _ _ = []
+abbrev pub marks_in : (ℕ → Gathered) → Answer → Event → List Mark
+marks_in gathered answer.Handled (event.Came conn f) = option_to_list (option_map heard (arrival_in gathered f))
+marks_in gathered (answer.Started id) (event.Asked asked) = said id asked
+marks_in gathered answer.Done (event.Asked asked) = said 0 asked
+marks_in gathered (answer.Got delivery) (event.Asked (call.Take s)) = Took s delivery ∷ []
+marks_in gathered (answer.GotJob job) (event.Asked call.TakeJob) = TookJob ∷ []
+marks_in gathered _ _ = []
+
+-- what is gathered on a stream after a frame of the peer's
+abbrev pub gathers_of : Frame → ℕ → Gathered → Gathered
+gathers_of (frame.Request r) s held = if r.stream == s then left_held r.follows (with_part held r.message r.complete false) else held
+gathers_of (frame.Payload stream follows complete next message) s held = if stream == s then left_held follows (with_part held message complete next) else held
+gathers_of f s held = held
+
+-- and after an event so answered
+abbrev pub gathers : Answer → Event → ℕ → Gathered → Gathered
+gathers answer.Handled (event.Came conn f) s held = gathers_of f s held
+gathers a e s held = held
+
+-- what was heard and said on the streams
+pub record Heard : Type 0 where
+  -- what the entries say, the newest first
+  pub words : List Mark
+  -- what came, on a stream, of a message that is not whole yet
+  pub unfinished : ℕ → Gathered
+
+-- parts are kept only of streams on which messages of the peer's are taken in
+abbrev pub while_heard : ℕ → List Mark → (ℕ → Gathered) → ℕ → Gathered
+while_heard most words gathered s = if hears_on ((known_after most words).kept s) then gathered s else nothing
+
+abbrev pub more_heard : ℕ → List Mark → Heard → Answer → Event → Heard
+more_heard most words h a e = record { words = words; unfinished = while_heard most words (λ s. gathers a e s (h.unfinished s)) }
+
+unfoldable pub heard_in : Settings → List Entry → Heard
+heard_in g [] = record { words = []; unfinished = λ s. nothing }
+heard_in g (x ∷ past) = let h = heard_in g past in more_heard g.max_streams (marks_in h.unfinished x.answer x.event ++ h.words) h x.answer x.event
 
 -- what the entries say on the streams
-unfoldable pub words : List Entry → List Mark
-words [] = []
-words (x ∷ past) = marks_in x.answer x.event ++ words past
+abbrev pub words : Settings → List Entry → List Mark
+words g past = (heard_in g past).words
+
+-- what came, on a stream, of a message that is not whole yet
+abbrev pub unfinished : Settings → List Entry → ℕ → Gathered
+unfinished g past = (heard_in g past).unfinished
 
 -- what is known of the streams after these entries
 abbrev pub known : Settings → List Entry → Known
-known g past = known_after g.max_streams (words past)
+known g past = known_after g.max_streams (words g past)
 
 -- a request that comes opens no stream, and is answered by an ERROR: as many are open as may be, and it is no fire-and-forget
 abbrev pub is_turned_away : Settings → Known → Request → Bool

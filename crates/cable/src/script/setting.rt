@@ -2,6 +2,7 @@
 
 ghost use Rattle.std.specs.Prelude.{◌≡◌, ◌++◌, ◌∷◌, ℕ, codes, IfNone, IfSome, decimal};
 ghost use Rattle.rs_wire.specs.Settings.{IsIn};
+ghost use Rattle.fragment.specs.Splitting.{IsMtu};
 ghost use Rattle.cable.specs.declared.script.setting.Setting.{Setting as Meant};
 ghost use Rattle.cable.specs.declared.script.setting.SettingLine.{SettingLine as Written};
 ghost use Rattle.cable.specs.Setting.{IsSetting, IsSettingLine, end_words, is_for, put, set_by, setting_text, setting_words};
@@ -17,6 +18,9 @@ pub enum Setting {
     /// `lifetime V`: milliseconds without a frame after which the peer counts as dead, 1 to
     /// 2,147,483,647.
     Lifetime(u32),
+    /// `mtu V`: bytes of the largest frame that a request or a payload goes out in, 64 to 16,777,215; 0
+    /// sets no limit.
+    Mtu(u32),
     /// `hold V`: bytes of sent frames that are held for resumption, 0 to 1,073,741,824.
     Hold(u64),
     /// `slack V`: bytes that may be queued beyond twice `hold` and one largest frame, 0 to
@@ -50,6 +54,7 @@ impl Setting {
         match self {
             Setting::Keepalive(ms) => settings.keepalive_ms = ms,
             Setting::Lifetime(ms) => settings.lifetime_ms = ms,
+            Setting::Mtu(bytes) => settings.mtu = bytes,
             Setting::Hold(bytes) => settings.hold = bytes,
             Setting::Slack(bytes) => settings.slack = bytes,
             Setting::MaxIn(bytes) => settings.max_in = bytes,
@@ -90,6 +95,17 @@ fn valued(words: &[u8], name: &[u8], low: u64, high: u64) -> Option<u64>
     read_number(value, low, high)
 }
 
+// The mtu of these words: none at all, or one that a frame fits.
+fn mtu_of(words: &[u8]) -> Option<u64>
+    ensures some { IfSome result (λ n. (words.now ≡ codes "mtu " ++ decimal n) × IsMtu n) }
+    ensures none { IfNone result ((n : ℕ) → IsMtu n → ¬ (words.now ≡ codes "mtu " ++ decimal n)) }
+{
+    if let Some(none) = valued(words, b"mtu ", 0, 0) {
+        return Some(none);
+    }
+    valued(words, b"mtu ", 64, 16_777_215)
+}
+
 // The setting of these words. `None` exactly where they are those of none.
 fn setting_of(words: &[u8]) -> Option<Setting>
     ensures some { IfSome result (λ s. (words.now ≡ setting_words s) × IsSetting s) }
@@ -100,6 +116,9 @@ fn setting_of(words: &[u8]) -> Option<Setting>
     }
     if let Some(ms) = valued(words, b"lifetime ", 1, 2_147_483_647) {
         return Some(Setting::Lifetime(ms as u32));
+    }
+    if let Some(bytes) = mtu_of(words) {
+        return Some(Setting::Mtu(bytes as u32));
     }
     if let Some(bytes) = valued(words, b"hold ", 0, 1_073_741_824) {
         return Some(Setting::Hold(bytes));

@@ -20,11 +20,14 @@ fn setting_lines_are_read_in_their_order(rt: HostRuntime) -> Result<(), Fail> {
 }
 
 /// Texts, and the wrong line of each, where there is one.
-const FAULTS: [(&[u8], Option<ScriptFault>); 35] = [
+const FAULTS: [(&[u8], Option<ScriptFault>); 40] = [
     // The edges of ranges.
     (b"set keepalive 1", None),
     (b"set keepalive 2147483647", None),
     (b"set lifetime 2147483647", None),
+    (b"set mtu 0", None),
+    (b"set mtu 64", None),
+    (b"set mtu 16777215", None),
     (b"set hold 1073741824", None),
     (b"set slack 2147483647", None),
     (b"set maxin 16777215", None),
@@ -50,7 +53,9 @@ const FAULTS: [(&[u8], Option<ScriptFault>); 35] = [
     (b"set hold ", Some(ScriptFault::Line(1))),
     (b"set  hold 1", Some(ScriptFault::Line(1))),
     (b"set hold 1 ", Some(ScriptFault::Line(1))),
-    (b"set mtu 64", Some(ScriptFault::Line(1))),
+    (b"set mtu 1", Some(ScriptFault::Line(1))),
+    (b"set mtu 63", Some(ScriptFault::Line(1))),
+    (b"set mtu 16777216", Some(ScriptFault::Line(1))),
     (b"set peer hold 1", Some(ScriptFault::Line(1))),
     (b"set client", Some(ScriptFault::Line(1))),
     (b"set client server hold 1", Some(ScriptFault::Line(1))),
