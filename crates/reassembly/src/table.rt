@@ -142,7 +142,7 @@ impl Reassembly {
             (with_part (gathered_at self.old stream) message.now complete next) }
         ensures gathered { (s : ℕ) → gathered_at self.new s ≡ (if nat_eq stream s
             then left_held follows
-                (with_part (gathered_at self.old stream) message.now complete next)
+            (with_part (gathered_at self.old stream) message.now complete next)
             else gathered_at self.old s) }
     {
         let mut gathering = self.remove(stream);
