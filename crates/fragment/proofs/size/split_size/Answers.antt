@@ -36,9 +36,9 @@ returns-clause-frames c =
       | else-loop-rest-test w ↦ λ some. omega arith
     ] in
     λ f whole message_is head_is.
-        let is : IsOf c.args.head c.args.message.now f = record { whole = whole; head_is = head_is; message_is = message_is } in
-        let all = last_left mtu f size.frames size.bytes head m fits (c.loop-rest.invariant.left f is) in
-        omega (arith, all.0)
+    let is : IsOf c.args.head c.args.message.now f = record { whole = whole; head_is = head_is; message_is = message_is } in
+    let all = last_left mtu f size.frames size.bytes head m fits (c.loop-rest.invariant.left f is) in
+    omega (arith, all.0)
 
 pub returns-clause-bytes : goal.returns-clause-bytes
 returns-clause-bytes c =
@@ -51,6 +51,6 @@ returns-clause-bytes c =
       | else-loop-rest-test w ↦ λ some. omega arith
     ] in
     λ f whole message_is head_is.
-        let is : IsOf c.args.head c.args.message.now f = record { whole = whole; head_is = head_is; message_is = message_is } in
-        let all = last_left mtu f size.frames size.bytes head m fits (c.loop-rest.invariant.left f is) in
-        omega (arith, all.1)
+    let is : IsOf c.args.head c.args.message.now f = record { whole = whole; head_is = head_is; message_is = message_is } in
+    let all = last_left mtu f size.frames size.bytes head m fits (c.loop-rest.invariant.left f is) in
+    omega (arith, all.1)
