@@ -209,9 +209,6 @@ heard_more most h r f is same =
 
 -- ---- the entries
 
-no_change : (o : Opening) (step : Step) → framed_step o o.role step ≡ framed_step o o.role step
-no_change o step = refl
-
 open_response : (u : Turn) → is_over u ≡ false → is_open_response (kept (Some u)) ≡ is_response u.opening.kind
 unfolding stream_of
 open_response u live = rw (live) refl
