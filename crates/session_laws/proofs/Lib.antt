@@ -14,3 +14,4 @@ pub mod ReadWords
 pub mod ReadFragments
 pub mod ReadStreams
 pub mod HandedOut
+pub mod Fragments

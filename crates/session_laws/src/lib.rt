@@ -22,8 +22,9 @@ mod streams;
 mod two_ends;
 
 pub use one_end::{
-    closed_stays_closed, frames_are_spellable, frames_only_grow, nothing_more_is_agreed,
-    queued_is_what_is_left, seen_is_made_and_handled,
+    closed_stays_closed, frames_are_spellable, frames_only_grow,
+    no_fragment_is_longer_than_the_mtu, nothing_more_is_agreed, queued_is_what_is_left,
+    seen_is_made_and_handled,
 };
 pub use streams::{
     a_response_carries_one_payload, a_stream_delivers_one_end, each_request_is_handed_out_once,

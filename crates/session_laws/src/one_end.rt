@@ -12,6 +12,7 @@ ghost use Rattle.session_model.specs.Life.{closed, leases_agreed, live, resumpti
 ghost use Rattle.session_model.specs.Lists.{IsPrefix};
 ghost use Rattle.session_model.specs.Frames.{came, drawn, due, handled, made, queued, refusal, seen};
 ghost use Rattle.session_model.specs.Legal.{Fair, IsPlain, Legal};
+ghost use Rattle.session_laws.specs.Fragments.{FitsMtu};
 ghost use Rattle.session_laws.specs.Marks.{got, sent};
 
 /// A closed session stays closed, for the cause that closed it first.
@@ -64,4 +65,11 @@ pub fn frames_are_spellable()
     ensures refusal { (a : Answer) → IfSome (refusal a) IsSpellable }
     ensures came { (g : Settings) (past : List Entry) (c : ℕ) →
         Fair g past → AllByRecursion IsSpellable (came past c) }
+{}
+
+/// No request or payload that an end made is longer than its mtu, where that sets a limit: longer
+/// ones go out in fragments (RSocket 1.0, "Fragmentation and Reassembly").
+pub fn no_fragment_is_longer_than_the_mtu()
+    ensures { (g : Settings) (past : List Entry) → 64 ≤ g.mtu →
+        AllByRecursion (FitsMtu g.mtu) (made g past) }
 {}
