@@ -1,9 +1,7 @@
-use Rattle.std.proofs.Common.{◌≡◌, ◌<◌, ◌≤◌, ◌+◌, ℕ, length, ap, arith}
-use Rattle.rs_frame.specs.declared.frame.Frame.{Frame}
-use Rattle.position.specs.Boundaries.{pos}
-use Rattle.fragment.specs.Splitting.{IsSplittable, carried_by, carried_length, head_length, split_of}
+use Rattle.std.proofs.Common.{◌<◌, ◌≤◌, ◌+◌, ap, arith}
+use Rattle.fragment.specs.Splitting.{carried_length}
 use Rattle.fragment.specs.Views.{message_in}
-use Rattle.fragment.proofs.Sizes.{IsOf, IsLeft, left_shorter, one_cut, last_left}
+use Rattle.fragment.proofs.Sizes.{IsOf, left_shorter, one_cut, last_left}
 use Rattle.fragment.proofs.size.split_size.Goals as goal
 use Rattle.fragment.proofs.size.split_size.Goals.{then-loop-rest-test+else-length-most, else-loop-rest-test}
 
