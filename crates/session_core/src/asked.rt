@@ -62,7 +62,7 @@ fn by_size(settings: &Checked, call: &Call) -> Option<Refusal>
 }
 
 // Frames of this size go out at once, and find no room in the queue.
-#[tactic(auto, using(crate::proofs::Sums::framed_size))]
+#[tactic(auto, using(crate::proofs::Framed::framed_size))]
 fn find_full(settings: &Checked, state: &State, size: SplitSize) -> bool
     requires few { size.frames < 2 ^ 40 }
     requires small { size.bytes < 2 ^ 60 }

@@ -1,16 +1,16 @@
 //! What is gathered of messages that are not whole yet.
 
-ghost use Rattle.std.specs.Prelude.{◌≡◌, if◌then◌else◌, ℕ, None, Some, false, true, nat_eq};
-ghost use Rattle.fragment.specs.Joining.{left_held, nothing};
+ghost use Rattle.std.specs.Prelude.{◌≡◌, ◌++◌, ℕ, false, true, nat_eq};
+ghost use Rattle.fragment.specs.Joining.{nothing};
 ghost use Rattle.reassembly.specs.Gathering.{HasRoom, gathered_at};
 ghost use Rattle.stream_model.specs.Known.{hears_on};
 ghost use Rattle.interactions.specs.Seen.{known_to};
-ghost use Rattle.session_model.specs.Streams.{arrival_in, arrives_whole, gathers, gathers_of, with_part};
-ghost use Rattle.session_core.specs.Speaking.{arrival_for};
-ghost use Rattle.session_core.specs.Gathering.{FindsPlace, FindsPlaceFor, called_on, is_that, ready_for, ready_in, touches};
+ghost use Rattle.session_model.specs.Streams.{arrival_in, gathers, gathers_of, marks_in, while_heard};
+ghost use Rattle.session_core.specs.Speaking.{CanSay, arrival_for};
+ghost use Rattle.session_core.specs.Gathering.{FindsPlace, FindsPlaceFor, IsOfHeard, called_on, is_that, ready_for, ready_in, touches};
 
 use crate::arrivals::Incoming;
-use crate::speak::{heard_on, named};
+use crate::speak::{heard_on, named, say};
 use fragment::Glued;
 use interactions::Streams;
 use reassembly::Reassembly;
@@ -93,8 +93,8 @@ fn take_frame(parts: &mut Reassembly, frame: &Frame, incoming: Incoming) -> Opti
     }
 }
 
-/// Takes in what a frame that is handled adds to a message, and gives what it says on a stream.
-pub fn take_in(
+// Takes in what a frame that is handled adds to a message, and gives what it says on a stream.
+fn take_in(
     parts: &mut Reassembly,
     event: &Event,
     answer: &Answer,
@@ -149,9 +149,9 @@ fn let_stream_go(parts: &mut Reassembly, streams: &Streams, stream: u32)
     }
 }
 
-/// Drops what is gathered on the stream of an event, where the peer's messages are not taken in there
-/// any more.
-pub fn let_go(parts: &mut Reassembly, streams: &Streams, event: &Event, answer: &Answer)
+// Drops what is gathered on the stream of an event, where the peer's messages are not taken in there
+// any more.
+fn let_go(parts: &mut Reassembly, streams: &Streams, event: &Event, answer: &Answer)
     ensures heard { (s : ℕ) → hears_on ((known_to streams.now).kept s) ≡ true →
         gathered_at parts.new s ≡ gathered_at parts.old s }
     ensures over { (s : ℕ) → is_that (touches answer.now event.now) s ≡ true →
@@ -166,4 +166,30 @@ pub fn let_go(parts: &mut Reassembly, streams: &Streams, event: &Event, answer: 
     if let Some(stream) = touches(answer, event) {
         let_stream_go(parts, streams, stream);
     }
+}
+
+/// Takes in what comes, and says on the streams what the event and its answer say, for which there is
+/// room. Of a stream on which the peer's messages are not taken in any more nothing is kept.
+pub fn speak(
+    parts: &mut Reassembly,
+    streams: &mut Streams,
+    event: &Event,
+    answer: &Answer,
+    incoming: Incoming,
+)
+    requires ready { incoming.arrival ≡ ready_for incoming.is_part answer.now event.now }
+    requires place { FindsPlaceFor parts.old incoming.is_part answer.now event.now }
+    requires says { CanSay streams.old answer.now event.now
+        (arrival_for (gathered_at parts.old) answer.now event.now) }
+    requires heard { IsOfHeard (known_to streams.old) parts.old }
+    ensures marks { streams.new.marks ≡
+        marks_in (gathered_at parts.old) answer.now event.now ++ streams.old.marks }
+    ensures limits { streams.new.limits ≡ streams.old.limits }
+    ensures unfinished { (s : ℕ) → gathered_at parts.new s ≡ while_heard
+        streams.new.limits.max_streams streams.new.marks
+        (λ i. gathers answer.now event.now i (gathered_at parts.old i)) s }
+{
+    let arrival = take_in(parts, event, answer, incoming);
+    say(streams, event, answer, arrival);
+    let_go(parts, streams, event, answer);
 }

@@ -27,7 +27,7 @@ pub const CLOSING_ERROR: SplitSize = SplitSize {
 };
 
 /// The most bytes of a frame that is sent, 0 for no limit.
-#[tactic(auto, using(crate::proofs::Sizes::mtu_limit))]
+#[tactic(auto, using(crate::proofs::Framed::mtu_limit))]
 pub fn mtu(settings: &Checked) -> u32
     ensures value { result ≡ settings.now.mtu }
     ensures limit { IsMtu result }
