@@ -94,11 +94,7 @@ fn alone_in(alloc: Global, frame: &Frame) -> Result<Option<Arrival>, OutOfMemory
 }
 
 // What a frame says before it is joined to other parts.
-fn ready_in(
-    alloc: Global,
-    frame: &Frame,
-    is_part: bool,
-) -> Result<Option<Arrival>, OutOfMemory>
+fn ready_in(alloc: Global, frame: &Frame, is_part: bool) -> Result<Option<Arrival>, OutOfMemory>
     ensures { IfOk result (λ a. a ≡ ready_in is_part frame.now) }
 {
     match frame {

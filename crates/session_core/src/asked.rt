@@ -13,7 +13,7 @@ ghost use Rattle.session_core.specs.Asked.{refused_later};
 ghost use Rattle.session_core.specs.Fits.{AreLimits, HasRoom, facts_of};
 ghost use Rattle.session_core.specs.Sizes.{size_of_frames};
 
-use crate::sizes::{CLOSING_ERROR, size_spoken};
+use crate::sizes::{closing_size, size_spoken};
 use crate::state::State;
 use fragment::SplitSize;
 use rs_wire::{Call, Checked, OutOfMemory, Refusal};
@@ -110,7 +110,7 @@ fn refused_sending(settings: &Checked, state: &State, call: &Call) -> Option<Ref
 fn refused_closing(settings: &Checked, state: &State) -> Option<Refusal>
     ensures { result ≡ by_sending settings.now (facts_of state.now) Call.Close }
 {
-    if find_full(settings, state, CLOSING_ERROR) {
+    if find_full(settings, state, closing_size()) {
         return Some(Refusal::OutFull(state.queue.len()));
     }
     None
