@@ -44,7 +44,12 @@ fn a_request_in_three_fragments_gives_one_job(rt: HostRuntime) {
             (Step::Odd(1, Strange::Part(1, second)), "Handled"),
             (Step::TakeJob, "NotYet"),
             (Step::Odd(1, Strange::Part(1, LAST)), "Handled"),
-            (Step::TakeJob, "JOB"),
+            (
+                Step::TakeJob,
+                "GotJob(Asked { stream: 1, kind: Response, initial: None, message: Message { \
+                 metadata: Some(Blob { bytes: [109, 110] }), content: Blob { bytes: [97, 98, 99] } \
+                 }, complete: true })",
+            ),
             (Step::TakeJob, "NotYet"),
         ],
         &[],
