@@ -1,7 +1,6 @@
 -- How many frames and bytes a split has, from the length of the head and the message alone.
-use Rattle.std.proofs.Common.{◌≡◌, ◌<◌, ◌≤◌, ℕ, zero, suc, ◌+◌, ◌-◌, List, [], ◌∷◌, length, refl, arith, ap, inl, inr}
+use Rattle.std.proofs.Common.{◌≡◌, ◌<◌, ◌≤◌, ℕ, zero, suc, ◌+◌, ◌-◌, List, [], ◌∷◌, length, refl, arith, ap}
 use Rattle.std.proofs.lemmas.Grind.{common_steps}
-use Rattle.std.proofs.lemmas.Bool.{cases_lt}
 use Rattle.rs_wire.specs.declared.message.Message.{Message}
 use Rattle.rs_wire.specs.Message.{size_of}
 use Rattle.rs_frame.specs.declared.frame.Frame.{Frame}

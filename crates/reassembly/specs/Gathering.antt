@@ -1,5 +1,5 @@
 -- What is gathered of the messages that are not whole yet, by stream.
-use Rattle.std.specs.Prelude.{◌<◌, ℕ, nat_eq, List, Option, Some, None}
+use Rattle.std.specs.Prelude.{◌<◌, ℕ, nat_eq, Bool, List, Option, Some, None, is_some}
 use Rattle.std.specs.Map.{lookup}
 use Rattle.rs_wire.specs.declared.message.Message.{Message}
 use Rattle.fragment.specs.Joining.{Gathered, GatheringView, nothing, HasRoomFor}
@@ -20,6 +20,10 @@ held_of (Some g) = g.held
 -- what is gathered on a stream
 abbrev pub gathered_at : ReassemblyView → ℕ → Gathered
 gathered_at r s = held_of (lookup (nat_eq s) r.gatherings)
+
+-- whether a part is kept of the stream's message; it may be an empty one
+abbrev pub has_part_at : ReassemblyView → ℕ → Bool
+has_part_at r s = is_some (lookup (nat_eq s) r.gatherings)
 
 -- the gathering of a stream, or the fresh one
 abbrev pub own_or : GatheringView → Option GatheringView → GatheringView

@@ -15,3 +15,5 @@ mod table;
 
 pub use table::Reassembly;
 
+#[cfg(test)]
+mod tests;

@@ -4,7 +4,7 @@ ghost use Rattle.std.specs.Prelude.{◌≡◌, ◌<◌, ◌≤◌, ◌^◌, ◌|
 ghost use Rattle.indexmap.specs.IndexMap.{get, spare};
 ghost use Rattle.rs_wire.specs.Message.{size_of};
 ghost use Rattle.fragment.specs.Joining.{nothing, join_messages, with_part, glued_of, left_held};
-ghost use Rattle.reassembly.specs.Gathering.{gathered_at, gathering_at, HasRoom};
+ghost use Rattle.reassembly.specs.Gathering.{gathered_at, has_part_at, gathering_at, HasRoom};
 
 use fragment::{Gathering, Glued};
 use indexmap::IndexMap;
@@ -54,7 +54,8 @@ fn put(gatherings: &mut IndexMap<u32, Gathering>, stream: u32, gathering: Gather
 impl Reassembly {
     /// No part came on any stream.
     pub fn new(alloc: Global) -> Reassembly
-        ensures { (s : ℕ) → gathered_at result s ≡ nothing }
+        ensures gathered { (s : ℕ) → gathered_at result s ≡ nothing }
+        ensures parts { (s : ℕ) → has_part_at result s ≡ false }
     {
         Reassembly {
             gatherings: IndexMap::new(alloc),
@@ -64,14 +65,16 @@ impl Reassembly {
 
     /// Whether no part is kept of any stream.
     pub fn is_empty(&self) -> bool
-        ensures { result ≡ true → (s : ℕ) → gathered_at self.now s ≡ nothing }
+        ensures gathered { result ≡ true → (s : ℕ) → gathered_at self.now s ≡ nothing }
+        ensures parts { result ≡ true → (s : ℕ) → has_part_at self.now s ≡ false }
     {
         self.gatherings.is_empty()
     }
 
     /// Whether a part is kept of this stream.
     pub fn has_part(&self, stream: u32) -> bool
-        ensures { result ≡ false → gathered_at self.now stream ≡ nothing }
+        ensures value { result ≡ has_part_at self.now stream }
+        ensures gathered { result ≡ false → gathered_at self.now stream ≡ nothing }
     {
         self.gatherings.contains_key(&stream)
     }
@@ -103,6 +106,7 @@ impl Reassembly {
     /// Makes room for a part of the stream's message.
     pub fn reserve(&mut self, stream: u32, message: &Message) -> Result<(), OutOfMemory>
         ensures gathered { (s : ℕ) → gathered_at self.new s ≡ gathered_at self.old s }
+        ensures parts { (s : ℕ) → has_part_at self.new s ≡ has_part_at self.old s }
         ensures room { OnOk result (HasRoom self.new stream message.now) }
     {
         self.gatherings.reserve(1)?;
@@ -118,6 +122,8 @@ impl Reassembly {
         ensures held { result.held ≡ gathered_at self.old stream }
         ensures gathered { (s : ℕ) → gathered_at self.new s
             ≡ (if nat_eq stream s then nothing else gathered_at self.old s) }
+        ensures parts { (s : ℕ) → has_part_at self.new s
+            ≡ (if nat_eq stream s then false else has_part_at self.old s) }
         ensures place { self.old.place ≤ self.new.place }
     {
         match self.gatherings.swap_remove(&stream) {
@@ -142,8 +148,10 @@ impl Reassembly {
             (with_part (gathered_at self.old stream) message.now complete next) }
         ensures gathered { (s : ℕ) → gathered_at self.new s ≡ (if nat_eq stream s
             then left_held follows
-                (with_part (gathered_at self.old stream) message.now complete next)
+            (with_part (gathered_at self.old stream) message.now complete next)
             else gathered_at self.old s) }
+        ensures parts { (s : ℕ) → has_part_at self.new s
+            ≡ (if nat_eq stream s then follows else has_part_at self.old s) }
     {
         let mut gathering = self.remove(stream);
         gathering.push(message, complete, next);
@@ -156,8 +164,10 @@ impl Reassembly {
 
     /// Drops what is gathered on a stream, as where the stream is over.
     pub fn forget(&mut self, stream: u32)
-        ensures { (s : ℕ) → gathered_at self.new s
+        ensures gathered { (s : ℕ) → gathered_at self.new s
             ≡ (if nat_eq stream s then nothing else gathered_at self.old s) }
+        ensures parts { (s : ℕ) → has_part_at self.new s
+            ≡ (if nat_eq stream s then false else has_part_at self.old s) }
     {
         let _ = self.gatherings.swap_remove(&stream);
     }

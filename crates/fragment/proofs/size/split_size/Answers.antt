@@ -1,9 +1,7 @@
-use Rattle.std.proofs.Common.{◌≡◌, ◌<◌, ◌≤◌, ◌+◌, ℕ, length, ap, arith}
-use Rattle.rs_frame.specs.declared.frame.Frame.{Frame}
-use Rattle.position.specs.Boundaries.{pos}
-use Rattle.fragment.specs.Splitting.{IsSplittable, carried_by, carried_length, head_length, split_of}
+use Rattle.std.proofs.Common.{◌<◌, ◌≤◌, ◌+◌, ap, arith}
+use Rattle.fragment.specs.Splitting.{carried_length}
 use Rattle.fragment.specs.Views.{message_in}
-use Rattle.fragment.proofs.Sizes.{IsOf, IsLeft, left_shorter, one_cut, last_left}
+use Rattle.fragment.proofs.Sizes.{IsOf, left_shorter, one_cut, last_left}
 use Rattle.fragment.proofs.size.split_size.Goals as goal
 use Rattle.fragment.proofs.size.split_size.Goals.{then-loop-rest-test+else-length-most, else-loop-rest-test}
 
@@ -36,9 +34,9 @@ returns-clause-frames c =
       | else-loop-rest-test w ↦ λ some. omega arith
     ] in
     λ f whole message_is head_is.
-        let is : IsOf c.args.head c.args.message.now f = record { whole = whole; head_is = head_is; message_is = message_is } in
-        let all = last_left mtu f size.frames size.bytes head m fits (c.loop-rest.invariant.left f is) in
-        omega (arith, all.0)
+    let is : IsOf c.args.head c.args.message.now f = record { whole = whole; head_is = head_is; message_is = message_is } in
+    let all = last_left mtu f size.frames size.bytes head m fits (c.loop-rest.invariant.left f is) in
+    omega (arith, all.0)
 
 pub returns-clause-bytes : goal.returns-clause-bytes
 returns-clause-bytes c =
@@ -51,6 +49,6 @@ returns-clause-bytes c =
       | else-loop-rest-test w ↦ λ some. omega arith
     ] in
     λ f whole message_is head_is.
-        let is : IsOf c.args.head c.args.message.now f = record { whole = whole; head_is = head_is; message_is = message_is } in
-        let all = last_left mtu f size.frames size.bytes head m fits (c.loop-rest.invariant.left f is) in
-        omega (arith, all.1)
+    let is : IsOf c.args.head c.args.message.now f = record { whole = whole; head_is = head_is; message_is = message_is } in
+    let all = last_left mtu f size.frames size.bytes head m fits (c.loop-rest.invariant.left f is) in
+    omega (arith, all.1)

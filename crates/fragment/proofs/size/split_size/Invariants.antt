@@ -1,4 +1,4 @@
-use Rattle.std.proofs.Common.{◌≡◌, ◌<◌, ◌≤◌, ◌+◌, ◌^◌, ◌*◌}
+use Rattle.std.proofs.Common.{◌≤◌, ◌+◌, ◌^◌, ◌*◌}
 use Rattle.rs_frame.specs.declared.frame.Frame.{Frame}
 use Rattle.fragment.specs.Splitting.{carried_length}
 use Rattle.fragment.specs.Views.{message_in}
