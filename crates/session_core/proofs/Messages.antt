@@ -14,8 +14,10 @@ use Rattle.tape.specs.declared.event.Event.TheVariants as event
 use Rattle.tape.specs.declared.answer.Answer.{Answer}
 use Rattle.tape.specs.declared.answer.Answer.TheVariants as answer
 use Rattle.tape.specs.declared.entry.Entry.{Entry}
-use Rattle.fragment.specs.Joining.{Gathered, left_held, nothing}
-use Rattle.reassembly.specs.Gathering.{ReassemblyView, gathered_at}
+use Rattle.fragment.specs.Joining.{Gathered, GatheringView, nothing, with_part}
+use Rattle.std.specs.Map.{lookup}
+use Rattle.std.specs.Prelude.{is_some}
+use Rattle.reassembly.specs.Gathering.{ReassemblyView, gathered_at, has_part_at, held_of}
 use Rattle.stream_model.specs.declared.arrival.Arrival.{Arrival}
 use Rattle.stream_model.specs.declared.arrival.Arrival.TheVariants as arrival
 use Rattle.stream_model.specs.declared.stream.Limits.{Limits}
@@ -25,9 +27,9 @@ use Rattle.stream_model.specs.Kept.{kept}
 use Rattle.stream_model.specs.Known.{known as known_after, hears_on}
 use Rattle.stream_model.specs.Arriving.{heard, said}
 use Rattle.stream_model.proofs.Ids.{others_stay, same_id, turn_job}
-use Rattle.session_model.specs.Streams.{arrival_in, arrives_whole, gathers, heard_in, known, marks_in, unfinished, while_heard, with_part}
+use Rattle.session_model.specs.Streams.{arrival_in, arrives_whole, gathers, heard_in, known, marks_in, unfinished, while_heard}
 use Rattle.session_core.specs.Speaking.{arrival_for, heard_on, says}
-use Rattle.session_core.specs.Gathering.{called_on, is_that, touches}
+use Rattle.session_core.specs.Gathering.{IsOfHeard, called_on, is_that, touches}
 
 -- ---- what is said
 
@@ -94,55 +96,47 @@ untouched_hears most seen held (answer.Got d) (event.Asked (call.Take n)) s othe
 untouched_hears most seen held (answer.GotJob job) (event.Asked call.TakeJob) s other = job_apart most seen s
 untouched_hears most seen held a e s other = grind (arith, common_steps)
 
--- nor what is gathered there
-untouched_gathers : (a : Answer) (e : Event) (s : ℕ) (held : Gathered) → is_that (touches a e) s ≡ false → gathers a e s held ≡ held
-untouched_gathers a e s held other = grind (arith, common_steps)
-
 -- ---- after an event
 
--- what is gathered on a stream is taken in, and let go where its messages are not taken in any more
+no_part_by : (o : Option GatheringView) → is_some o ≡ false → held_of o ≡ nothing
+no_part_by None none = refl
+no_part_by (Some x) none = absurd (cc)
+
+-- nothing is gathered where no part is kept
+pub no_part : (parts : ReassemblyView) (s : ℕ) → has_part_at parts s ≡ false → gathered_at parts s ≡ nothing
+no_part parts s none = no_part_by (lookup (nat_eq s) parts.gatherings) none
+
+-- of a stream on which messages are not taken in any more nothing is kept, of any other all
 pub record LetGo (most : ℕ) (words : List Mark) (a : Answer) (e : Event) (mid new : ReassemblyView) : Type 0 where
   pub heard : (s : ℕ) → hears_on ((known_after most words).kept s) ≡ true → gathered_at new s ≡ gathered_at mid s
-  pub over : (s : ℕ) → is_that (touches a e) s ≡ true → hears_on ((known_after most words).kept s) ≡ false → gathered_at new s ≡ nothing
-  pub others : (s : ℕ) → is_that (touches a e) s ≡ false → gathered_at new s ≡ gathered_at mid s
+  pub over : (s : ℕ) → is_that (touches a e) s ≡ true → hears_on ((known_after most words).kept s) ≡ false → has_part_at new s ≡ false
+  pub others : (s : ℕ) → is_that (touches a e) s ≡ false → has_part_at new s ≡ has_part_at mid s
 
-kept_at : (most : ℕ) (seen : List Mark) (a : Answer) (e : Event) (old mid new : ReassemblyView)
-    → ((s : ℕ) → hears_on ((known_after most seen).kept s) ≡ false → gathered_at old s ≡ nothing)
-    → ((s : ℕ) → gathered_at mid s ≡ gathers a e s (gathered_at old s))
-    → LetGo most (marks_in (gathered_at old) a e ++ seen) a e mid new
-    → (s : ℕ) (hears touched : Bool) → hears_on ((known_after most (marks_in (gathered_at old) a e ++ seen)).kept s) ≡ hears → is_that (touches a e) s ≡ touched
-    → gathered_at new s ≡ cond hears (gathers a e s (gathered_at old s)) nothing
-kept_at most seen a e old mid new off taken go s true touched is on = go.heard s is ∙ taken s
-kept_at most seen a e old mid new off taken go s false true is on = go.over s on is
-kept_at most seen a e old mid new off taken go s false false is on =
-    let before = sym (untouched_hears most seen (gathered_at old) a e s on) ∙ is in
-    go.others s on ∙ (taken s ∙ (untouched_gathers a e s (gathered_at old s) on ∙ off s before))
+-- what an event so answered takes in and lets go
+pub record Goes (most : ℕ) (seen words : List Mark) (a : Answer) (e : Event) (old mid new : ReassemblyView) : Type 0 where
+  pub said : words ≡ marks_in (gathered_at old) a e ++ seen
+  pub before : IsOfHeard (known_after most seen) old
+  pub taken : (s : ℕ) → gathered_at mid s ≡ gathers a e s (gathered_at old s)
+  pub others : (s : ℕ) → is_that (touches a e) s ≡ false → has_part_at mid s ≡ has_part_at old s
+  pub let_go : LetGo most words a e mid new
 
-kept_by : (most : ℕ) (seen words : List Mark) (a : Answer) (e : Event) (old mid new : ReassemblyView) → words ≡ marks_in (gathered_at old) a e ++ seen
-    → ((s : ℕ) → hears_on ((known_after most seen).kept s) ≡ false → gathered_at old s ≡ nothing)
-    → ((s : ℕ) → gathered_at mid s ≡ gathers a e s (gathered_at old s))
-    → LetGo most words a e mid new
+unheard_by : (most : ℕ) (seen words : List Mark) (a : Answer) (e : Event) (old mid new : ReassemblyView) → Goes most seen words a e old mid new
+    → (s : ℕ) (touched : Bool) → is_that (touches a e) s ≡ touched → hears_on ((known_after most words).kept s) ≡ false → has_part_at new s ≡ false
+unheard_by most seen words a e old mid new goes s true on none = goes.let_go.over s on none
+unheard_by most seen words a e old mid new goes s false on none =
+    let said : hears_on ((known_after most (marks_in (gathered_at old) a e ++ seen)).kept s) ≡ false = subst (λ (w : List Mark). hears_on ((known_after most w).kept s) ≡ false) goes.said none in
+    let before = sym (untouched_hears most seen (gathered_at old) a e s on) ∙ said in
+    goes.let_go.others s on ∙ (goes.others s on ∙ goes.before s before)
+
+-- no part is kept of a stream on which no message is taken in
+pub still_heard : (most : ℕ) (seen words : List Mark) (a : Answer) (e : Event) (old mid new : ReassemblyView) → Goes most seen words a e old mid new → IsOfHeard (known_after most words) new
+still_heard most seen words a e old mid new goes s none = unheard_by most seen words a e old mid new goes s _ refl none
+
+kept_at : (most : ℕ) (seen words : List Mark) (a : Answer) (e : Event) (old mid new : ReassemblyView) → Goes most seen words a e old mid new
+    → (s : ℕ) (hears : Bool) → hears_on ((known_after most words).kept s) ≡ hears → gathered_at new s ≡ cond hears (gathers a e s (gathered_at old s)) nothing
+kept_at most seen words a e old mid new goes s true is = goes.let_go.heard s is ∙ goes.taken s
+kept_at most seen words a e old mid new goes s false is = no_part new s (still_heard most seen words a e old mid new goes s is)
+
+pub kept_parts : (most : ℕ) (seen words : List Mark) (a : Answer) (e : Event) (old mid new : ReassemblyView) → Goes most seen words a e old mid new
     → (s : ℕ) → gathered_at new s ≡ while_heard most words (λ i. gathers a e i (gathered_at old i)) s
-kept_by most seen words a e old mid new is off taken go s =
-    subst (λ (w : List Mark). gathered_at new s ≡ while_heard most w (λ i. gathers a e i (gathered_at old i)) s) (sym is)
-    (kept_at most seen a e old mid new off taken (subst (λ (w : List Mark). LetGo most w a e mid new) is go) s _ _ refl refl)
-
-pub kept_parts : (l l' : Limits) → l' ≡ l → (seen words : List Mark) (a : Answer) (e : Event) (old mid new : ReassemblyView) → words ≡ marks_in (gathered_at old) a e ++ seen
-    → ((s : ℕ) → hears_on ((known_after l.max_streams seen).kept s) ≡ false → gathered_at old s ≡ nothing)
-    → ((s : ℕ) → gathered_at mid s ≡ gathers a e s (gathered_at old s))
-    → LetGo l'.max_streams words a e mid new
-    → (s : ℕ) → gathered_at new s ≡ while_heard l'.max_streams words (λ i. gathers a e i (gathered_at old i)) s
-kept_parts l l' same seen words a e old mid new is off taken go =
-    kept_by l'.max_streams seen words a e old mid new is (subst (λ (k : Limits). (s : ℕ) → hears_on ((known_after k.max_streams seen).kept s) ≡ false → gathered_at old s ≡ nothing) (sym same) off) taken go
-
--- ---- before any event
-
--- nothing is gathered where no message is taken in
-unheard_step : (hears : Bool) (sum : Gathered) → hears ≡ false → cond hears sum nothing ≡ nothing
-unheard_step true sum none = absurd (cc)
-unheard_step false sum none = refl
-
-pub unheard : (g : Settings) (past : List Entry) (s : ℕ) → hears_on ((known g past).kept s) ≡ false → unfinished g past s ≡ nothing
-unfolding heard_in
-unheard g [] s none = refl
-unheard g (x ∷ past) s none = unheard_step _ (gathers x.answer x.event s (unfinished g past s)) none
+kept_parts most seen words a e old mid new goes s = kept_at most seen words a e old mid new goes s _ refl

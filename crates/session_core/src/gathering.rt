@@ -1,12 +1,11 @@
 //! What is gathered of messages that are not whole yet.
 
 ghost use Rattle.std.specs.Prelude.{◌≡◌, ◌++◌, ℕ, false, true, nat_eq};
-ghost use Rattle.fragment.specs.Joining.{nothing};
-ghost use Rattle.reassembly.specs.Gathering.{HasRoom, gathered_at};
+ghost use Rattle.reassembly.specs.Gathering.{HasRoom, gathered_at, has_part_at};
 ghost use Rattle.stream_model.specs.Known.{hears_on};
 ghost use Rattle.interactions.specs.Seen.{known_to};
 ghost use Rattle.session_model.specs.Streams.{arrival_in, gathers, gathers_of, marks_in, while_heard};
-ghost use Rattle.session_core.specs.Speaking.{CanSay, arrival_for};
+ghost use Rattle.session_core.specs.Speaking.{CanSay, arrival_for, heard_on};
 ghost use Rattle.session_core.specs.Gathering.{FindsPlace, FindsPlaceFor, IsOfHeard, called_on, is_that, ready_for, ready_in, touches};
 
 use crate::arrivals::Incoming;
@@ -23,8 +22,10 @@ use tape::{Answer, Event};
 fn begin(parts: &mut Reassembly, request: &Request)
     requires place { request.now.follows ≡ true →
         HasRoom parts.old request.now.stream request.now.message }
-    ensures { (s : ℕ) → gathered_at parts.new s ≡ gathers_of (Frame.Request request.now) s
-        (gathered_at parts.old s) }
+    ensures gathered { (s : ℕ) → gathered_at parts.new s ≡
+        gathers_of (Frame.Request request.now) s (gathered_at parts.old s) }
+    ensures others { (s : ℕ) → nat_eq request.now.stream s ≡ false →
+        has_part_at parts.new s ≡ has_part_at parts.old s }
 {
     if !request.follows {
         parts.forget(request.stream);
@@ -53,6 +54,8 @@ fn join(
         (Frame.Payload stream follows complete next message.now) }
     ensures gathered { (s : ℕ) → gathered_at parts.new s ≡ gathers_of
         (Frame.Payload stream follows complete next message.now) s (gathered_at parts.old s) }
+    ensures others { (s : ℕ) → nat_eq stream s ≡ false →
+        has_part_at parts.new s ≡ has_part_at parts.old s }
 {
     match parts.push(stream, follows, message, complete, next) {
         Glued::Part => None,
@@ -76,6 +79,8 @@ fn take_frame(parts: &mut Reassembly, frame: &Frame, incoming: Incoming) -> Opti
     ensures arrival { result ≡ arrival_in (gathered_at parts.old) frame.now }
     ensures gathered { (s : ℕ) → gathered_at parts.new s ≡
         gathers_of frame.now s (gathered_at parts.old s) }
+    ensures others { (s : ℕ) → is_that (heard_on frame.now) s ≡ false →
+        has_part_at parts.new s ≡ has_part_at parts.old s }
 {
     match frame {
         Frame::Request(request) => {
@@ -105,6 +110,8 @@ fn take_in(
     ensures arrival { result ≡ arrival_for (gathered_at parts.old) answer.now event.now }
     ensures gathered { (s : ℕ) → gathered_at parts.new s ≡
         gathers answer.now event.now s (gathered_at parts.old s) }
+    ensures others { (s : ℕ) → is_that (touches answer.now event.now) s ≡ false →
+        has_part_at parts.new s ≡ has_part_at parts.old s }
 {
     match (answer, event) {
         (Answer::Handled, Event::Came { frame, .. }) => take_frame(parts, frame, incoming),
@@ -140,9 +147,9 @@ fn let_stream_go(parts: &mut Reassembly, streams: &Streams, stream: u32)
     ensures heard { (s : ℕ) → hears_on ((known_to streams.now).kept s) ≡ true →
         gathered_at parts.new s ≡ gathered_at parts.old s }
     ensures over { hears_on ((known_to streams.now).kept stream) ≡ false →
-        gathered_at parts.new stream ≡ nothing }
+        has_part_at parts.new stream ≡ false }
     ensures others { (s : ℕ) → nat_eq stream s ≡ false →
-        gathered_at parts.new s ≡ gathered_at parts.old s }
+        has_part_at parts.new s ≡ has_part_at parts.old s }
 {
     if !streams.hears(stream) {
         parts.forget(stream);
@@ -155,10 +162,9 @@ fn let_go(parts: &mut Reassembly, streams: &Streams, event: &Event, answer: &Ans
     ensures heard { (s : ℕ) → hears_on ((known_to streams.now).kept s) ≡ true →
         gathered_at parts.new s ≡ gathered_at parts.old s }
     ensures over { (s : ℕ) → is_that (touches answer.now event.now) s ≡ true →
-        hears_on ((known_to streams.now).kept s) ≡ false →
-        gathered_at parts.new s ≡ nothing }
+        hears_on ((known_to streams.now).kept s) ≡ false → has_part_at parts.new s ≡ false }
     ensures others { (s : ℕ) → is_that (touches answer.now event.now) s ≡ false →
-        gathered_at parts.new s ≡ gathered_at parts.old s }
+        has_part_at parts.new s ≡ has_part_at parts.old s }
 {
     if parts.is_empty() {
         return;
@@ -188,6 +194,7 @@ pub fn speak(
     ensures unfinished { (s : ℕ) → gathered_at parts.new s ≡ while_heard
         streams.new.limits.max_streams streams.new.marks
         (λ i. gathers answer.now event.now i (gathered_at parts.old i)) s }
+    ensures heard { IsOfHeard (known_to streams.new) parts.new }
 {
     let arrival = take_in(parts, event, answer, incoming);
     say(streams, event, answer, arrival);

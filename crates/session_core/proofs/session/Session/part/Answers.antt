@@ -4,7 +4,6 @@ use Rattle.tape.specs.declared.event.Event.TheVariants as event
 use Rattle.session_model.specs.Answers.{answer_to}
 use Rattle.session_core.specs.Seen.{Seen}
 use Rattle.session_core.proofs.Standing.{after_cut, of_cut}
-use Rattle.session_core.proofs.Fitting.{of_heard}
 use Rattle.session_core.proofs.Soundness.{sound_more}
 use Rattle.session_core.proofs.session.Session.part.Goals as goal
 
@@ -22,4 +21,4 @@ unfolding pos_by
 act-requires-clause-position g c = rw c.nothing_more-prepared.ensures.made (omega (arith, c.self.invariant.made.position, c.self.invariant.plain.checked.top_position))
 
 pub act-requires-clause-heard : goal.act-requires-clause-heard
-act-requires-clause-heard g c = of_heard c.self.inside.settings c.self.inside.state c.self.inside.history c.self.invariant.fits
+act-requires-clause-heard g c = c.self.invariant.fits.heard
