@@ -9,7 +9,7 @@ use Rattle.tape.specs.declared.event.Event.TheVariants as event
 use Rattle.tape.specs.declared.answer.Answer.{Answer}
 use Rattle.tape.specs.declared.answer.Answer.TheVariants as answer
 use Rattle.fragment.specs.Joining.{nothing}
-use Rattle.reassembly.specs.Gathering.{HasRoom, ReassemblyView, gathered_at}
+use Rattle.reassembly.specs.Gathering.{HasRoom, ReassemblyView, gathered_at, has_part_at}
 use Rattle.stream_model.specs.declared.arrival.Arrival.{Arrival}
 use Rattle.stream_model.specs.Known.{Known, hears_on}
 use Rattle.session_model.specs.Streams.{arrival_in}
@@ -19,9 +19,13 @@ use Rattle.session_core.specs.Speaking.{heard_on, named}
 abbrev pub IsSameGathered : ReassemblyView → ReassemblyView → Type 0
 IsSameGathered old new = (s : ℕ) → gathered_at new s ≡ gathered_at old s
 
--- nothing is gathered where no message of the peer's is taken in
+-- parts are kept of the same streams
+abbrev pub IsSameKept : ReassemblyView → ReassemblyView → Type 0
+IsSameKept old new = (s : ℕ) → has_part_at new s ≡ has_part_at old s
+
+-- no part is kept of a stream on which no message of the peer's is taken in
 abbrev pub IsOfHeard : Known → ReassemblyView → Type 0
-IsOfHeard t parts = (s : ℕ) → hears_on (t.kept s) ≡ false → gathered_at parts s ≡ nothing
+IsOfHeard t parts = (s : ℕ) → hears_on (t.kept s) ≡ false → has_part_at parts s ≡ false
 
 -- what a frame says on a stream where nothing is gathered
 abbrev pub alone_in : Frame → Option Arrival

@@ -2,7 +2,7 @@
 
 ghost use Rattle.std.specs.Prelude.{◌≡◌, IfOk, None, OnOk, Some};
 ghost use Rattle.session_model.specs.Streams.{whole_in};
-ghost use Rattle.session_core.specs.Gathering.{FindsPlace, FindsPlaceFor, IsPartOrWhole, IsSameGathered, alone_in, ready_for, ready_in};
+ghost use Rattle.session_core.specs.Gathering.{FindsPlace, FindsPlaceFor, IsPartOrWhole, IsSameGathered, IsSameKept, alone_in, ready_for, ready_in};
 
 use reassembly::Reassembly;
 use rs_frame::{Frame, Request};
@@ -94,11 +94,7 @@ fn alone_in(alloc: Global, frame: &Frame) -> Result<Option<Arrival>, OutOfMemory
 }
 
 // What a frame says before it is joined to other parts.
-fn ready_in(
-    alloc: Global,
-    frame: &Frame,
-    is_part: bool,
-) -> Result<Option<Arrival>, OutOfMemory>
+fn ready_in(alloc: Global, frame: &Frame, is_part: bool) -> Result<Option<Arrival>, OutOfMemory>
     ensures { IfOk result (λ a. a ≡ ready_in is_part frame.now) }
 {
     match frame {
@@ -125,6 +121,7 @@ fn is_part(parts: &Reassembly, frame: &Frame) -> bool
 fn make_place(parts: &mut Reassembly, frame: &Frame, is_part: bool) -> Result<(), OutOfMemory>
     requires { IsPartOrWhole parts.old is_part frame.now }
     ensures same { IsSameGathered parts.old parts.new }
+    ensures kept { IsSameKept parts.old parts.new }
     ensures place { OnOk result (FindsPlace parts.new is_part frame.now) }
 {
     match frame {
@@ -146,6 +143,7 @@ fn incoming_in(
     frame: &Frame,
 ) -> Result<Incoming, OutOfMemory>
     ensures same { IsSameGathered parts.old parts.new }
+    ensures kept { IsSameKept parts.old parts.new }
     ensures arrival { IfOk result (λ i. i.arrival ≡ ready_in i.is_part frame.now) }
     ensures place { IfOk result (λ i. FindsPlace parts.new i.is_part frame.now) }
 {
@@ -165,6 +163,7 @@ pub fn incoming_of(
     answer: &Answer,
 ) -> Result<Incoming, OutOfMemory>
     ensures same { IsSameGathered parts.old parts.new }
+    ensures kept { IsSameKept parts.old parts.new }
     ensures arrival { IfOk result (λ i. i.arrival ≡
         ready_for i.is_part answer.now event.now) }
     ensures place { IfOk result (λ i.

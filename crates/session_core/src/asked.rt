@@ -13,7 +13,7 @@ ghost use Rattle.session_core.specs.Asked.{refused_later};
 ghost use Rattle.session_core.specs.Fits.{AreLimits, HasRoom, facts_of};
 ghost use Rattle.session_core.specs.Sizes.{size_of_frames};
 
-use crate::sizes::{CLOSING_ERROR, size_spoken};
+use crate::sizes::{closing_size, size_spoken};
 use crate::state::State;
 use fragment::SplitSize;
 use rs_wire::{Call, Checked, OutOfMemory, Refusal};
@@ -62,7 +62,7 @@ fn by_size(settings: &Checked, call: &Call) -> Option<Refusal>
 }
 
 // Frames of this size go out at once, and find no room in the queue.
-#[tactic(auto, using(crate::proofs::Sums::framed_size))]
+#[tactic(auto, using(crate::proofs::Framed::framed_size))]
 fn find_full(settings: &Checked, state: &State, size: SplitSize) -> bool
     requires few { size.frames < 2 ^ 40 }
     requires small { size.bytes < 2 ^ 60 }
@@ -110,7 +110,7 @@ fn refused_sending(settings: &Checked, state: &State, call: &Call) -> Option<Ref
 fn refused_closing(settings: &Checked, state: &State) -> Option<Refusal>
     ensures { result ≡ by_sending settings.now (facts_of state.now) Call.Close }
 {
-    if find_full(settings, state, CLOSING_ERROR) {
+    if find_full(settings, state, closing_size()) {
         return Some(Refusal::OutFull(state.queue.len()));
     }
     None

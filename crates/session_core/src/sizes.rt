@@ -1,13 +1,10 @@
 //! How many bytes the frames of a call take.
 
-ghost use Rattle.std.specs.Prelude.{◌≡◌, ◌<◌, ◌≤◌, ◌^◌, ℕ, IfSome, Some, length};
-ghost use Rattle.rs_wire.specs.Message.{size_of};
-ghost use Rattle.rs_frame.specs.declared.frame.Frame.{Frame};
-ghost use Rattle.rs_frame.specs.Spelling.{length_of, number_there};
+ghost use Rattle.std.specs.Prelude.{◌≡◌, ◌+◌, ◌<◌, ◌≤◌, ◌^◌, [], ◌∷◌, ℕ, IfSome, length};
+ghost use Rattle.rs_frame.specs.Spelling.{number_there};
 ghost use Rattle.stream_model.specs.Known.{Known};
-ghost use Rattle.stream_model.specs.Arriving.{no_message};
-ghost use Rattle.fragment.specs.Splitting.{IsMtu, IsSplittable, carried_by, head_length};
-ghost use Rattle.session_model.specs.Frames.{in_fragments, spoken};
+ghost use Rattle.fragment.specs.Splitting.{IsMtu};
+ghost use Rattle.session_model.specs.Frames.{closing_error, spoken};
 ghost use Rattle.session_model.specs.Answers.{size_in};
 ghost use Rattle.session_core.specs.Sizes.{size_of_frames, size_sent};
 
@@ -20,14 +17,8 @@ const HEADER: u32 = 6;
 /// The bytes of a code, of an initial n and of the n of REQUEST_N.
 const NUMBER: u32 = 4;
 
-/// The size of the ERROR without content that closes a session.
-pub const CLOSING_ERROR: SplitSize = SplitSize {
-    frames: 1,
-    bytes: 10,
-};
-
 /// The most bytes of a frame that is sent, 0 for no limit.
-#[tactic(auto, using(crate::proofs::Sizes::mtu_limit))]
+#[tactic(auto, using(crate::proofs::Framed::mtu_limit))]
 pub fn mtu(settings: &Checked) -> u32
     ensures value { result ≡ settings.now.mtu }
     ensures limit { IsMtu result }
@@ -40,6 +31,16 @@ fn one(bytes: u64) -> SplitSize
     ensures { result ≡ record { frames = 1; bytes = bytes } }
 {
     SplitSize { frames: 1, bytes }
+}
+
+/// The size of the ERROR without content that closes a session.
+#[tactic(auto, unfolding(position::specs::Boundaries::pos_by))]
+pub fn closing_size() -> SplitSize
+    ensures value { result ≡ size_of_frames (closing_error [] ∷ []) }
+    ensures few { result.frames < 2 ^ 40 }
+    ensures small { result.bytes < 2 ^ 60 }
+{
+    one(u64::from(HEADER + NUMBER))
 }
 
 // The bytes before the message in a request.
@@ -69,7 +70,8 @@ pub fn size_spoken(settings: &Checked, call: &Call) -> Option<SplitSize>
             ..
         } => Some(split_size(message, head(*initial), mtu)),
         Call::Next { message, .. } => Some(split_size(message, HEADER, mtu)),
-        Call::Done { .. } | Call::Cancel { .. } => Some(one(u64::from(HEADER))),
+        Call::Done { .. } => Some(one(u64::from(HEADER))),
+        Call::Cancel { .. } => Some(one(u64::from(HEADER))),
         Call::Grant { .. } => Some(one(u64::from(HEADER + NUMBER))),
         Call::Fail { content, .. } => {
             Some(one(u64::from(HEADER + NUMBER) + content.len() as u64))
