@@ -1,10 +1,7 @@
 -- What is gathered after an event.
-use Rattle.std.proofs.Common.{◌≡◌, ◌==◌, ◌++◌, ℕ, Bool, true, false, cond, List, [], ◌∷◌, Option, Some, None, option_to_list, option_map, refl, ap, sym, subst, ◌∙◌, arith}
+use Rattle.std.proofs.Common.{◌≡◌, ◌==◌, ◌++◌, ℕ, Bool, true, false, cond, List, ◌∷◌, Option, Some, None, option_to_list, option_map, refl, ap, sym, subst, ◌∙◌, arith}
 use Rattle.std.proofs.lemmas.Grind.{common_steps}
-use Rattle.std.proofs.lemmas.Bool.Decides.{nat_tests}
 use Rattle.std.specs.Prelude.{nat_eq}
-use Rattle.rs_wire.specs.declared.message.Message.{Message}
-use Rattle.rs_wire.specs.declared.settings.Settings.{Settings}
 use Rattle.rs_wire.specs.declared.call.Call.{Call}
 use Rattle.rs_wire.specs.declared.call.Call.TheVariants as call
 use Rattle.rs_frame.specs.declared.frame.Frame.{Frame}
@@ -13,21 +10,19 @@ use Rattle.tape.specs.declared.event.Event.{Event}
 use Rattle.tape.specs.declared.event.Event.TheVariants as event
 use Rattle.tape.specs.declared.answer.Answer.{Answer}
 use Rattle.tape.specs.declared.answer.Answer.TheVariants as answer
-use Rattle.tape.specs.declared.entry.Entry.{Entry}
 use Rattle.fragment.specs.Joining.{Gathered, GatheringView, nothing, with_part}
 use Rattle.std.specs.Map.{lookup}
 use Rattle.std.specs.Prelude.{is_some}
 use Rattle.reassembly.specs.Gathering.{ReassemblyView, gathered_at, has_part_at, held_of}
 use Rattle.stream_model.specs.declared.arrival.Arrival.{Arrival}
 use Rattle.stream_model.specs.declared.arrival.Arrival.TheVariants as arrival
-use Rattle.stream_model.specs.declared.stream.Limits.{Limits}
 use Rattle.stream_model.specs.Marks.{Mark, TookJob}
-use Rattle.stream_model.specs.Streams.{on, turn}
+use Rattle.stream_model.specs.Streams.{on}
 use Rattle.stream_model.specs.Kept.{kept}
 use Rattle.stream_model.specs.Known.{known as known_after, hears_on}
 use Rattle.stream_model.specs.Arriving.{heard, said}
 use Rattle.stream_model.proofs.Ids.{others_stay, same_id, turn_job}
-use Rattle.session_model.specs.Streams.{arrival_in, arrives_whole, gathers, heard_in, known, marks_in, unfinished, while_heard}
+use Rattle.session_model.specs.Streams.{arrival_in, arrives_whole, gathers, marks_in, while_heard}
 use Rattle.session_core.specs.Speaking.{arrival_for, heard_on, says}
 use Rattle.session_core.specs.Gathering.{IsOfHeard, called_on, is_that, touches}
 

@@ -1,5 +1,5 @@
 -- What an event says on the streams that means what its answer says can be said.
-use Rattle.std.proofs.Common.{◌≡◌, ◌<◌, ◌^◌, ◌==◌, ℕ, Bool, true, false, cond, List, length, Option, Some, None, IfSome, IsSome, refl, ap, subst, sym, arith}
+use Rattle.std.proofs.Common.{◌≡◌, ◌<◌, ◌^◌, ℕ, List, length, Option, Some, None, IfSome, IsSome, refl, ap, subst, sym, arith}
 use Rattle.std.proofs.lemmas.Grind.{common_steps}
 use Rattle.rs_wire.specs.Calls.{CanBeAsked}
 use Rattle.rs_wire.specs.declared.settings.Settings.{Settings}

@@ -1,5 +1,5 @@
 -- The frames that are made can be spelled.
-use Rattle.std.proofs.Common.{◌≡◌, ◌<◌, ◌^◌, Option, Some, None, IfSome}
+use Rattle.std.proofs.Common.{◌<◌, ◌^◌, Option, Some, None, IfSome}
 use Rattle.std.specs.List.{AllByRecursion}
 use Rattle.rs_wire.specs.declared.settings.Settings.{Settings}
 use Rattle.rs_wire.specs.declared.call.Call.TheVariants as call

@@ -1,5 +1,5 @@
 -- The frames of a call that is accepted.
-use Rattle.std.specs.Prelude.{◌≡◌, ℕ, false, List, [], Option, None, IfSome}
+use Rattle.std.specs.Prelude.{◌≡◌, ℕ, false, List, [], Option, None}
 use Rattle.rs_wire.specs.declared.settings.Settings.{Settings}
 use Rattle.rs_frame.specs.declared.frame.Frame.{Frame}
 use Rattle.rs_frame.specs.Spelling.{IsSpellable}

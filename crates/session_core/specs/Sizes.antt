@@ -1,5 +1,5 @@
 -- How many bytes the frames of a call take.
-use Rattle.std.specs.Prelude.{◌≡◌, ℕ, List, length, Option, Some, None}
+use Rattle.std.specs.Prelude.{ℕ, List, length, Option, Some, None}
 use Rattle.rs_frame.specs.declared.frame.Frame.{Frame}
 use Rattle.position.specs.Boundaries.{pos}
 use Rattle.fragment.specs.declared.size.SplitSize.{SplitSize}

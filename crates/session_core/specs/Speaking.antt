@@ -1,5 +1,5 @@
 -- What an event so answered says on the streams, and the room that it finds there.
-use Rattle.std.specs.Prelude.{◌≡◌, ◌==◌, ◌++◌, ℕ, if◌then◌else◌, List, [], ◌∷◌, Option, Some, None, IsSome, IfSome, option_to_list}
+use Rattle.std.specs.Prelude.{◌≡◌, ◌==◌, ℕ, if◌then◌else◌, List, [], ◌∷◌, Option, Some, None, IsSome, IfSome, option_to_list}
 use Rattle.std.specs.Option.{option_map}
 use Rattle.rs_wire.specs.Calls.{CanBeAsked}
 use Rattle.rs_wire.specs.declared.call.Call.{Call}

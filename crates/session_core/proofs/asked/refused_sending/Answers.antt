@@ -1,4 +1,4 @@
-use Rattle.std.proofs.Common.{◌≡◌, ◌∙◌, sym}
+use Rattle.std.proofs.Common.{◌∙◌, sym}
 use Rattle.session_model.specs.Frames.{spoken}
 use Rattle.session_core.specs.Fits.{facts_of}
 use Rattle.session_core.proofs.Asking.{by_size_sent}
