@@ -1,6 +1,6 @@
 -- Lines, one after the other.
 use Rattle.std.proofs.lemmas.Grind.{common_steps}
-use Rattle.std.proofs.Common.{◌≡◌, ◌≤◌, ◌<◌, ◌+◌, ℕ, List, [], length, drop, get_or, Result, OnOk, is_err, None, false, refl, ap, subst, sym, ◌∙◌, arith}
+use Rattle.std.proofs.Common.{◌≡◌, ◌==◌, ◌≤◌, ◌<◌, ◌+◌, ℕ, List, [], ◌∷◌, length, drop, get_or, Result, OnOk, is_err, None, false, refl, ap, subst, sym, ◌∙◌, arith}
 use Rattle.std.proofs.lemmas.List.{drop_all}
 use Rattle.rs_wire.specs.declared.words.Side.TheVariants.{Client, Server}
 use Rattle.rs_wire.specs.declared.settings.Settings.{Settings}
@@ -9,7 +9,7 @@ use Rattle.session_model.specs.Legal.{Fair, IsPlain, Legal}
 use Rattle.session_core.specs.Seen.{Seen}
 use Rattle.session_laws.specs.Ends.{AreEnds}
 use Rattle.cable.specs.declared.script.line.Line.{Line}
-use Rattle.cable.specs.Played.{Ends, Played, PlaysLine, PlaysLines, Sides, begins, nothing}
+use Rattle.cable.specs.Played.{Ends, Played, PlaysLine, PlaysLines, Sides, begins, nothing, opens}
 use Rattle.cable.specs.Wires.{At, Keeps, Reaches, Wires, sides_of}
 
 -- ---- the lines that are left
@@ -33,6 +33,11 @@ all_played u v lines i r past b = record { ends = b.ends; at = b.at; holds = b.h
 
 pub played_none : (v : Wires) (lines : List Line) → length lines ≡ 0 → At v nothing → Reaches v (PlaysLines (sides_of v) lines (begins (sides_of v) lines))
 played_none v lines h1 h2 = grind (arith, common_steps, none_left)
+
+-- the first line finds the connection open
+pub begins_opened : (s : Sides) (lines : List Line) → (length lines == 0) ≡ false → begins s lines ≡ opens s nothing
+begins_opened s [] some = absurd (cc)
+begins_opened s (l ∷ lines) some = refl
 
 pub some_at : (v : Wires) (Holds : Ends → Type 0) → Reaches v Holds → (r : Ends) × At v r
 some_at v Holds b = (b.ends, b.at)
