@@ -5,10 +5,10 @@ mod calls;
 mod ends;
 
 use anyhow::{Context, Result};
-use calls::{next, request};
+use calls::{done, grant, next, request, take, take_job};
 use ends::{End, accept, ask, connect, receive, send};
 use rs_chunk::split_frame;
-use rs_wire::{Amount, Blob, Call};
+use rs_wire::{Amount, Blob};
 use std::alloc::Global;
 use std::io::Print;
 
@@ -28,7 +28,7 @@ fn meet(rt: &impl Print, alloc: Global, bytes: &[u8]) -> Result<End> {
     let (setup, rest) = split_frame(bytes).context("no SETUP")?;
     let mut server = accept(rt, alloc, setup)?;
     receive(rt, alloc, "server", &mut server, rest)?;
-    ask(rt, "server", &mut server, Call::TakeJob)?;
+    ask(rt, "server", &mut server, take_job())?;
     Ok(server)
 }
 
@@ -47,16 +47,16 @@ fn send_two(rt: &impl Print, alloc: Global, server: &mut End) -> Result<Vec<u8>>
 }
 
 // The client takes what came next on the stream.
-fn take(rt: &impl Print, client: &mut End) -> Result<()> {
-    ask(rt, "client", client, Call::Take { stream: STREAM })
+fn take_next(rt: &impl Print, client: &mut End) -> Result<()> {
+    ask(rt, "client", client, take(STREAM))
 }
 
 // The client takes one of the items that came, and lets one more come.
 fn grant_one(rt: &impl Print, alloc: Global, client: &mut End, bytes: &[u8]) -> Result<Vec<u8>> {
     receive(rt, alloc, "client", client, bytes)?;
-    take(rt, client)?;
+    take_next(rt, client)?;
     let n = Amount::of(1).context("not in range")?;
-    ask(rt, "client", client, Call::Grant { stream: STREAM, n })?;
+    ask(rt, "client", client, grant(STREAM, n))?;
     send(rt, alloc, "client", client)
 }
 
@@ -64,7 +64,7 @@ fn grant_one(rt: &impl Print, alloc: Global, client: &mut End, bytes: &[u8]) -> 
 fn send_last(rt: &impl Print, alloc: Global, server: &mut End, bytes: &[u8]) -> Result<Vec<u8>> {
     receive(rt, alloc, "server", server, bytes)?;
     send_item(rt, alloc, server, b"3")?;
-    ask(rt, "server", server, Call::Done { stream: STREAM })?;
+    ask(rt, "server", server, done(STREAM))?;
     send(rt, alloc, "server", server)
 }
 
@@ -72,7 +72,7 @@ fn send_last(rt: &impl Print, alloc: Global, server: &mut End, bytes: &[u8]) -> 
 fn take_rest(rt: &impl Print, alloc: Global, client: &mut End, bytes: &[u8]) -> Result<()> {
     receive(rt, alloc, "client", client, bytes)?;
     for _ in 0..3 {
-        take(rt, client)?;
+        take_next(rt, client)?;
     }
     Ok(())
 }
