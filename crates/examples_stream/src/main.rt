@@ -23,13 +23,10 @@ fn ask_for_items(rt: &impl Print, alloc: Global, client: &mut End) -> Result<Vec
     send(rt, alloc, "client", client)
 }
 
-// SETUP opens the connection at the server, and the request comes after it.
-fn meet(rt: &impl Print, alloc: Global, bytes: &[u8]) -> Result<End> {
-    let (setup, rest) = split_frame(bytes).context("no SETUP")?;
-    let mut server = accept(rt, alloc, setup)?;
-    receive(rt, alloc, "server", &mut server, rest)?;
-    ask(rt, "server", &mut server, take_job())?;
-    Ok(server)
+// The request comes at the server, which takes the job in it.
+fn begin(rt: &impl Print, alloc: Global, server: &mut End, request: &[u8]) -> Result<()> {
+    receive(rt, alloc, "server", server, request)?;
+    ask(rt, "server", server, take_job())
 }
 
 // The server sends an item.
@@ -77,13 +74,36 @@ fn take_rest(rt: &impl Print, alloc: Global, client: &mut End, bytes: &[u8]) -> 
     Ok(())
 }
 
+// The request comes at the server, and the items cross.
+fn stream(
+    rt: &impl Print,
+    alloc: Global,
+    client: &mut End,
+    server: &mut End,
+    request: &[u8],
+) -> Result<()> {
+    begin(rt, alloc, server, request)?;
+    let two = send_two(rt, alloc, server)?;
+    let granted = grant_one(rt, alloc, client, &two)?;
+    let last = send_last(rt, alloc, server, &granted)?;
+    take_rest(rt, alloc, client, &last)
+}
+
+// What the client sent first makes the server: SETUP opens the connection, and the request follows.
+fn serve(rt: &impl Print, alloc: Global, client: &mut End, bytes: &[u8]) -> Result<()> {
+    let (setup, request) = split_frame(bytes).context("no SETUP")?;
+    let mut server = accept(rt, alloc, setup)?;
+    stream(rt, alloc, client, &mut server, request)
+}
+
+// The client asks, and is served.
+fn run(rt: &impl Print, alloc: Global, client: &mut End) -> Result<()> {
+    let asked = ask_for_items(rt, alloc, client)?;
+    serve(rt, alloc, client, &asked)
+}
+
 fn main(rt: HostRuntime) -> Result<()> {
     let alloc = rt.alloc();
     let mut client = connect(&rt, alloc)?;
-    let asked = ask_for_items(&rt, alloc, &mut client)?;
-    let mut server = meet(&rt, alloc, &asked)?;
-    let two = send_two(&rt, alloc, &mut server)?;
-    let granted = grant_one(&rt, alloc, &mut client, &two)?;
-    let last = send_last(&rt, alloc, &mut server, &granted)?;
-    take_rest(&rt, alloc, &mut client, &last)
+    run(&rt, alloc, &mut client)
 }
