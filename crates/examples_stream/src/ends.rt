@@ -2,11 +2,12 @@
 
 ghost use Rattle.std.specs.Prelude.{◌≡◌, ◌<◌, ◌^◌, IfOk, length};
 ghost use Rattle.rs_wire.specs.Calls.{CanBeAsked};
-ghost use Rattle.rs_wire.specs.Settings.{usual};
+ghost use Rattle.rs_frame.specs.Spelling.{IsSpellable};
+ghost use Rattle.rs_wire.specs.declared.words.Side.TheVariants.{Client, Server};
 
 use anyhow::{Context, Result};
 use rs_chunk::split_frame;
-use rs_frame::decode;
+use rs_frame::{Frame, decode};
 use rs_wire::{Call, Settings, Side, check};
 use session_core::Session;
 use std::alloc::Global;
@@ -24,7 +25,7 @@ pub type End = Session<Blank>;
 
 // An end at which nothing happened yet, with the defaults of its side.
 fn new_end(alloc: Global, side: Side) -> Result<End>
-    ensures { IfOk result (λ s. s.settings ≡ usual side) }
+    ensures { IfOk result (λ s. s.settings.side ≡ side) }
 {
     let settings = check(Settings::usual(alloc, side)?).map_err(|(_, fault)| fault)?;
     let session = Session::new(alloc, settings, Blank::new()).map_err(|(_, error)| error)?;
@@ -37,21 +38,36 @@ fn show(rt: &impl Print, name: &str, answer: &Answer) -> Result<()> {
     Ok(())
 }
 
+// A client opens its connection.
+fn open(client: &mut End) -> Answer
+    requires { client.old.settings.side ≡ Client }
+{
+    client.step(CALLER, &Event::opening())
+}
+
 /// A client that opened its connection.
 pub fn connect(rt: &impl Print, alloc: Global) -> Result<End> {
     let mut client = new_end(alloc, Side::Client)?;
-    let answer = client.step(CALLER, &Event::opening());
+    let answer = open(&mut client);
     show(rt, "client", &answer)?;
     Ok(client)
+}
+
+// The first frame comes at a server.
+fn open_by(server: &mut End, setup: Frame) -> Answer
+    requires side { server.old.settings.side ≡ Server }
+    requires spellable { IsSpellable setup }
+{
+    server.step(CALLER, &Event::opened_by(setup))
 }
 
 /// A server whose connection a client opened by this frame.
 pub fn accept(rt: &impl Print, alloc: Global, setup: &[u8]) -> Result<End>
     requires { length setup.now < 2 ^ 24 }
 {
+    let setup = decode(alloc, setup)?;
     let mut server = new_end(alloc, Side::Server)?;
-    let opened = Event::opened_by(decode(alloc, setup)?);
-    let answer = server.step(CALLER, &opened);
+    let answer = open_by(&mut server, setup);
     show(rt, "server", &answer)?;
     Ok(server)
 }

@@ -5,10 +5,10 @@ mod calls;
 mod ends;
 
 use anyhow::{Context, Result};
-use calls::{next, request};
+use calls::{done, grant, next, request, take, take_job};
 use ends::{End, accept, ask, connect, receive, send};
 use rs_chunk::split_frame;
-use rs_wire::{Amount, Blob, Call};
+use rs_wire::{Amount, Blob};
 use std::alloc::Global;
 use std::io::Print;
 
@@ -23,13 +23,10 @@ fn ask_for_items(rt: &impl Print, alloc: Global, client: &mut End) -> Result<Vec
     send(rt, alloc, "client", client)
 }
 
-// SETUP opens the connection at the server, and the request comes after it.
-fn meet(rt: &impl Print, alloc: Global, bytes: &[u8]) -> Result<End> {
-    let (setup, rest) = split_frame(bytes).context("no SETUP")?;
-    let mut server = accept(rt, alloc, setup)?;
-    receive(rt, alloc, "server", &mut server, rest)?;
-    ask(rt, "server", &mut server, Call::TakeJob)?;
-    Ok(server)
+// The request comes at the server, which takes the job in it.
+fn begin(rt: &impl Print, alloc: Global, server: &mut End, request: &[u8]) -> Result<()> {
+    receive(rt, alloc, "server", server, request)?;
+    ask(rt, "server", server, take_job())
 }
 
 // The server sends an item.
@@ -47,16 +44,16 @@ fn send_two(rt: &impl Print, alloc: Global, server: &mut End) -> Result<Vec<u8>>
 }
 
 // The client takes what came next on the stream.
-fn take(rt: &impl Print, client: &mut End) -> Result<()> {
-    ask(rt, "client", client, Call::Take { stream: STREAM })
+fn take_next(rt: &impl Print, client: &mut End) -> Result<()> {
+    ask(rt, "client", client, take(STREAM))
 }
 
 // The client takes one of the items that came, and lets one more come.
 fn grant_one(rt: &impl Print, alloc: Global, client: &mut End, bytes: &[u8]) -> Result<Vec<u8>> {
     receive(rt, alloc, "client", client, bytes)?;
-    take(rt, client)?;
+    take_next(rt, client)?;
     let n = Amount::of(1).context("not in range")?;
-    ask(rt, "client", client, Call::Grant { stream: STREAM, n })?;
+    ask(rt, "client", client, grant(STREAM, n))?;
     send(rt, alloc, "client", client)
 }
 
@@ -64,7 +61,7 @@ fn grant_one(rt: &impl Print, alloc: Global, client: &mut End, bytes: &[u8]) -> 
 fn send_last(rt: &impl Print, alloc: Global, server: &mut End, bytes: &[u8]) -> Result<Vec<u8>> {
     receive(rt, alloc, "server", server, bytes)?;
     send_item(rt, alloc, server, b"3")?;
-    ask(rt, "server", server, Call::Done { stream: STREAM })?;
+    ask(rt, "server", server, done(STREAM))?;
     send(rt, alloc, "server", server)
 }
 
@@ -72,18 +69,41 @@ fn send_last(rt: &impl Print, alloc: Global, server: &mut End, bytes: &[u8]) -> 
 fn take_rest(rt: &impl Print, alloc: Global, client: &mut End, bytes: &[u8]) -> Result<()> {
     receive(rt, alloc, "client", client, bytes)?;
     for _ in 0..3 {
-        take(rt, client)?;
+        take_next(rt, client)?;
     }
     Ok(())
+}
+
+// The request comes at the server, and the items cross.
+fn stream(
+    rt: &impl Print,
+    alloc: Global,
+    client: &mut End,
+    server: &mut End,
+    request: &[u8],
+) -> Result<()> {
+    begin(rt, alloc, server, request)?;
+    let two = send_two(rt, alloc, server)?;
+    let granted = grant_one(rt, alloc, client, &two)?;
+    let last = send_last(rt, alloc, server, &granted)?;
+    take_rest(rt, alloc, client, &last)
+}
+
+// What the client sent first makes the server: SETUP opens the connection, and the request follows.
+fn serve(rt: &impl Print, alloc: Global, client: &mut End, bytes: &[u8]) -> Result<()> {
+    let (setup, request) = split_frame(bytes).context("no SETUP")?;
+    let mut server = accept(rt, alloc, setup)?;
+    stream(rt, alloc, client, &mut server, request)
+}
+
+// The client asks, and is served.
+fn run(rt: &impl Print, alloc: Global, client: &mut End) -> Result<()> {
+    let asked = ask_for_items(rt, alloc, client)?;
+    serve(rt, alloc, client, &asked)
 }
 
 fn main(rt: HostRuntime) -> Result<()> {
     let alloc = rt.alloc();
     let mut client = connect(&rt, alloc)?;
-    let asked = ask_for_items(&rt, alloc, &mut client)?;
-    let mut server = meet(&rt, alloc, &asked)?;
-    let two = send_two(&rt, alloc, &mut server)?;
-    let granted = grant_one(&rt, alloc, &mut client, &two)?;
-    let last = send_last(&rt, alloc, &mut server, &granted)?;
-    take_rest(&rt, alloc, &mut client, &last)
+    run(&rt, alloc, &mut client)
 }

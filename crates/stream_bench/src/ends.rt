@@ -2,7 +2,7 @@
 
 ghost use Rattle.std.specs.Prelude.{◌≡◌, ◌<◌, ◌^◌, IfOk, length};
 ghost use Rattle.rs_wire.specs.Calls.{CanBeAsked};
-ghost use Rattle.rs_wire.specs.Settings.{usual};
+ghost use Rattle.rs_wire.specs.declared.words.Side.TheVariants.{Client, Server};
 ghost use Rattle.rs_frame.specs.Spelling.{IsSpellable};
 
 use anyhow::{Context, Result, ensure};
@@ -65,7 +65,7 @@ fn next(content: Blob) -> Call
 // An end at which nothing happened yet, with the defaults of its side.
 fn new_end<T: Tape + Drop>(alloc: Global, side: Side, tape: T) -> Result<Session<T>>
     requires { T.Tape.count tape ≡ 0 }
-    ensures { IfOk result (λ s. s.settings ≡ usual side) }
+    ensures { IfOk result (λ s. s.settings.side ≡ side) }
 {
     let settings = check(Settings::usual(alloc, side)?).map_err(|(_, fault)| fault)?;
     let session = Session::new(alloc, settings, tape).map_err(|(_, error)| error)?;
@@ -93,12 +93,19 @@ fn come<T: Tape>(end: &mut Session<T>, frame: Frame) -> Result<()>
     expect(matches!(&answer, Answer::Handled), &answer)
 }
 
+// A client opens its connection.
+fn open<T: Tape>(client: &mut Session<T>) -> Answer
+    requires { client.old.settings.side ≡ Client }
+{
+    client.step(CALLER, &Event::opening())
+}
+
 // A client that opened its connection.
 fn connect<T: Tape + Drop>(alloc: Global, tape: T) -> Result<Session<T>>
     requires { T.Tape.count tape ≡ 0 }
 {
     let mut client = new_end(alloc, Side::Client, tape)?;
-    let answer = client.step(CALLER, &Event::opening());
+    let answer = open(&mut client);
     expect(matches!(&answer, Answer::Opened(CONNECTION)), &answer)?;
     Ok(client)
 }
@@ -113,14 +120,22 @@ pub fn start<T: Tape + Drop>(alloc: Global, tape: T) -> Result<Session<T>>
     Ok(client)
 }
 
+// The first frame comes at a server.
+fn open_by<T: Tape>(server: &mut Session<T>, setup: Frame) -> Answer
+    requires side { server.old.settings.side ≡ Server }
+    requires spellable { IsSpellable setup }
+{
+    server.step(CALLER, &Event::opened_by(setup))
+}
+
 // A server whose connection a client opened by this frame.
 fn accept<T: Tape + Drop>(alloc: Global, tape: T, setup: &[u8]) -> Result<Session<T>>
     requires empty { T.Tape.count tape ≡ 0 }
     requires few { length setup.now < 2 ^ 24 }
 {
+    let setup = decode(alloc, setup)?;
     let mut server = new_end(alloc, Side::Server, tape)?;
-    let opened = Event::opened_by(decode(alloc, setup)?);
-    let answer = server.step(CALLER, &opened);
+    let answer = open_by(&mut server, setup);
     expect(matches!(&answer, Answer::Opened(CONNECTION)), &answer)?;
     Ok(server)
 }
