@@ -25,10 +25,10 @@ pub struct Caller<T: Tape> {
 }
 
 impl<T: Tape> Model for Caller<T> {
-    ghost use Rattle.conn_shared.specs.Members.{Knows};
+    ghost use Rattle.conn_shared.specs.Members.{Knowledge};
     ghost use Rattle.conn.specs.Callers.{IsThere, known_by};
 
-    ghost Value = { Knows };
+    ghost Value = { Knowledge };
 
     ghost view = { λ c. known_by c.member };
 

@@ -11,7 +11,7 @@ use Rattle.tape.specs.declared.answer.Answer.TheVariants as answer
 use Rattle.session_core.specs.Seen.{Seen, entries_after}
 use Rattle.conn_lock.specs.Callers.{once}
 use Rattle.conn_lock.proofs.Totals.{calls_append}
-use Rattle.conn_shared.specs.Members.{Follows, Gains, Knows}
+use Rattle.conn_shared.specs.Members.{Follows, Gains, Knowledge}
 use Rattle.conn_shared.specs.Calls.{IsCalled, IsStep}
 use Rattle.conn_shared.specs.Lines.{who_of}
 
@@ -34,11 +34,11 @@ follows_on names a b c p q = (
 )
 
 -- a call that found nothing yet has only seen what others did
-pub waited : (g : Settings) (me : Knows) (new : List Entry) (e : Event) (a : Answer) → a ≡ answer.NotYet → IsCalled g me e a new → Follows me.names me.front new
+pub waited : (g : Settings) (me : Knowledge) (new : List Entry) (e : Event) (a : Answer) → a ≡ answer.NotYet → IsCalled g me e a new → Follows me.names me.front new
 waited g me new e a is c = subst (Follows me.names me.front) (sym (c.step.after ∙ ap (λ b. entries_after me.number e b c.before) is)) c.follows
 
 -- a call of a caller whose front went on by entries of others since
-pub called_since : (g : Settings) (first me : Knows) (e : Event) (a : Answer) (new : List Entry) → me.names ≡ first.names → me.number ≡ first.number → Follows first.names first.front me.front → IsCalled g me e a new → IsCalled g first e a new
+pub called_since : (g : Settings) (first me : Knowledge) (e : Event) (a : Answer) (new : List Entry) → me.names ≡ first.names → me.number ≡ first.number → Follows first.names first.front me.front → IsCalled g me e a new → IsCalled g first e a new
 called_since g first me e a new names number f c = record {
   before = c.before;
   follows = follows_on first.names first.front me.front c.before f (subst (λ ns. Follows ns me.front c.before) names c.follows);

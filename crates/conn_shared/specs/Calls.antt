@@ -11,7 +11,7 @@ use Rattle.session_model.specs.Answers.{answer_to}
 use Rattle.session_model.specs.Frames.{due, drawn}
 use Rattle.session_core.specs.Seen.{IsUnlessWant, entries_after}
 use Rattle.session_core.specs.Queued.{IfDrawn}
-use Rattle.conn_shared.specs.Members.{Follows, Knows}
+use Rattle.conn_shared.specs.Members.{Follows, Knowledge}
 
 -- An event of the caller with this number, after these entries, and its answer.
 pub record IsStep (g : Settings) (number : ℕ) (before : List Entry) (e : Event) (a : Answer) (new : List Entry) : Type 0 where
@@ -21,7 +21,7 @@ pub record IsStep (g : Settings) (number : ℕ) (before : List Entry) (e : Event
   pub full : (a ≡ answer.TapeFull) ↔ (2 ^ 63 ≤ length before)
 
 -- A call of this caller, whose front becomes `new`.
-pub record IsCalled (g : Settings) (caller : Knows) (e : Event) (a : Answer) (new : List Entry) : Type 0 where
+pub record IsCalled (g : Settings) (caller : Knowledge) (e : Event) (a : Answer) (new : List Entry) : Type 0 where
   -- the entries that stood before it: the front that the caller had, and then entries of others
   pub before : List Entry
   pub follows : Follows caller.names caller.front before
@@ -33,7 +33,7 @@ AreNext g before conn a buffer =
     IfDrawn a (λ n. take n buffer ≡ take n (drop (drawn before conn) (framed_all (due g before conn))))
 
 -- A draw of this caller, into a buffer with so much room.
-pub record IsDrawCall (g : Settings) (caller : Knows) (conn room : ℕ) (a : Answer) (buffer : List ℕ) (new : List Entry) : Type 0 where
+pub record IsDrawCall (g : Settings) (caller : Knowledge) (conn room : ℕ) (a : Answer) (buffer : List ℕ) (new : List Entry) : Type 0 where
   pub before : List Entry
   pub follows : Follows caller.names caller.front before
   pub step : IsStep g caller.number before (event.Draw conn room) a new

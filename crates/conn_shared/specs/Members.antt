@@ -13,7 +13,7 @@ pub record SharedId : Type 0 where
   pub settings : Settings
 
 -- what a member knows
-pub record Knows : Type 0 where
+pub record Knowledge : Type 0 where
   pub of : SharedId
   pub number : ℕ
   -- its number, and those of the members that were joined into it
@@ -29,7 +29,7 @@ pub record Knows : Type 0 where
   pub note : Option ℕ
 
 -- the first member of a session, before anything happened
-abbrev pub first_member : SharedId → Knows
+abbrev pub first_member : SharedId → Knowledge
 first_member of = record {
   of = of;
   number = 0;
@@ -42,7 +42,7 @@ first_member of = record {
 }
 
 -- what a seat at the lock means to its member
-abbrev pub knows : Known Line → Knows
+abbrev pub knows : Known Line → Knowledge
 knows s = record {
   of = record { lock = s.lock; settings = settings_in s.front };
   number = s.number;
@@ -73,7 +73,7 @@ abbrev pub Continues : List Entry → List Entry → Type 0
 Continues old new = (later : List Entry) × (new ≡ later ++ old)
 
 -- a member that got no turn: its try missed the next ticket, or the last ticket is served
-abbrev pub IsTurnedAway : Knows → Knows → Type 0
+abbrev pub IsTurnedAway : Knowledge → Knowledge → Type 0
 IsTurnedAway old new =
     (new ≡ record old { misses = old.misses + 1; note = None })
     ⊎ (new ≡ record old { note = Some (2 ^ 64 - 1) })

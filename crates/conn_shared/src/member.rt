@@ -27,9 +27,9 @@ pub struct Member<T: Tape> {
 }
 
 impl<T: Tape> Model for Member<T> {
-    ghost use Rattle.conn_shared.specs.Members.{IsMember, Knows, knows};
+    ghost use Rattle.conn_shared.specs.Members.{IsMember, Knowledge, knows};
 
-    ghost Value = { Knows };
+    ghost Value = { Knowledge };
 
     ghost view = { λ m. knows m.seat };
 
