@@ -1,6 +1,6 @@
 //! How members come, are joined, and end.
 
-ghost use Rattle.std.specs.Prelude.{◌≡◌, ◌<◌, ◌≤◌, ◌+◌, ◌-◌, ◌↔◌, ℕ, ◌∷◌, ◌++◌, IfErr, IfOk, None, max};
+ghost use Rattle.std.specs.Prelude.{◌≡◌, ◌<◌, ◌≤◌, ◌+◌, ◌-◌, ◌↔◌, ℕ, [], ◌∷◌, ◌++◌, IfErr, IfOk, max};
 ghost use Rattle.conn_lock.specs.Callers.{all_parts, calls, longer, most_numbers, share, times};
 ghost use Rattle.conn_shared.specs.Members.{Continues, IsMember, first_member};
 ghost use Rattle.conn_shared.specs.Lines.{entries_in, settings_in, who_of};

@@ -1,4 +1,4 @@
-use Rattle.std.proofs.Common.{rules, ap, subst}
+use Rattle.std.proofs.Common.{rules, ◌∙◌, ap, subst}
 use Rattle.conn_shared.specs.Calls.{IsStep}
 use Rattle.conn_shared.specs.Lines.{entries_in}
 use Rattle.conn_shared.proofs.shared.SharedSession.refuse.Goals as goal
@@ -9,5 +9,5 @@ returns-clause-called g c = λ e.
     record {
       before = before;
       follows = search rules;
-      step = subst (λ n. IsStep c.args.self.now.settings n before e c.refuse_in.result.1 (entries_in c.refuse_in.result.0.front)) (ap (λ s. s.number) c.enter-turn.ensures.same) (c.refuse_in.ensures.step e);
+      step = subst (λ n. IsStep c.args.self.now.settings n before e c.refuse_in-seat.result.1 (entries_in c.refuse_in-seat.result.0.front)) (ap (λ s. s.number) c.enter-turn.ensures.same ∙ ap (λ k. k.number) c.into_seat.ensures.known) (c.refuse_in-seat.ensures.step e);
     }
