@@ -1,8 +1,9 @@
 //! One who calls a connection.
 
-ghost use Rattle.std.specs.Prelude.{◌≡◌, ◌<◌, ◌≤◌};
+ghost use Rattle.std.specs.Prelude.{◌≡◌, ◌<◌, ◌≤◌, None, Some};
 ghost use Rattle.conn_lock.specs.Callers.{all_parts, times};
 ghost use Rattle.session_model.specs.Legal.{Fair, Legal};
+ghost use Rattle.conn.specs.Callers.{IsThere};
 
 use conn_shared::Member;
 use std::marker::Model;
@@ -33,6 +34,29 @@ impl<T: Tape> Model for Caller<T> {
     ghost view = { λ c. known_by c.member };
 
     ghost invariant = { λ c. IsThere c.member };
+}
+
+/// Takes the member out of its caller, at the beginning of a call.
+pub(crate) fn take<T: Tape>(place: &mut Option<Member<T>>) -> Member<T>
+    requires { IsThere place.old }
+    ensures out { place.new ≡ None }
+    ensures member { place.old ≡ Some result }
+{
+    match place.take() {
+        None => unreachable!(),
+        Some(member) => member,
+    }
+}
+
+/// Gives the member back, at the end of the call. Nothing is dropped.
+pub(crate) fn give_back<T: Tape>(place: &mut Option<Member<T>>, member: Member<T>)
+    requires { place.old ≡ None }
+    ensures { place.new ≡ Some member }
+{
+    match place.replace(member) {
+        None => {}
+        Some(_) => unreachable!(),
+    }
 }
 
 impl<T: Tape> Caller<T> {

@@ -11,7 +11,7 @@ ghost use Rattle.tape.specs.declared.event.Event.TheVariants as events;
 ghost use Rattle.conn_shared.specs.Members.{Follows};
 ghost use Rattle.conn_shared.specs.Calls.{IsCalled, IsDrawCall};
 
-use crate::caller::Caller;
+use crate::caller::{Caller, give_back, take};
 use crate::connection::Connection;
 use conn_shared::Looked;
 use rs_wire::Call;
@@ -28,15 +28,11 @@ impl<T: Tape> Connection<T> {
         ensures same { caller.new ≡ record caller.old { front = caller.new.front; note = None } }
         ensures called { IsCalled self.now.settings caller.old event.now result caller.new.front }
     {
-        match caller.member.take() {
-            None => unreachable!(),
-            Some(member) => {
-                let (member, answer) = self.shared.step(rt, member, event);
-                caller.member = Some(member);
-                self.announce(&answer);
-                answer
-            }
-        }
+        let member = take(&mut caller.member);
+        let (member, answer) = self.shared.step(rt, member, event);
+        give_back(&mut caller.member, member);
+        self.announce(&answer);
+        answer
     }
 
     /// Asks something of the session. It waits for a turn.
@@ -47,15 +43,11 @@ impl<T: Tape> Connection<T> {
         ensures called { IsCalled self.now.settings caller.old
             (events.Asked call.now) result caller.new.front }
     {
-        match caller.member.take() {
-            None => unreachable!(),
-            Some(member) => {
-                let (member, answer) = self.shared.ask(rt, member, call);
-                caller.member = Some(member);
-                self.announce(&answer);
-                answer
-            }
-        }
+        let member = take(&mut caller.member);
+        let (member, answer) = self.shared.ask(rt, member, call);
+        give_back(&mut caller.member, member);
+        self.announce(&answer);
+        answer
     }
 
     /// Draws bytes that are due on a connection into the buffer, which has 1 to 4,294,967,295 bytes.
@@ -75,15 +67,11 @@ impl<T: Tape> Connection<T> {
             result buffer.new caller.new.front }
         ensures untouched { IsUntouched result buffer.old buffer.new }
     {
-        match caller.member.take() {
-            None => unreachable!(),
-            Some(member) => {
-                let (member, answer) = self.shared.draw(rt, member, conn, buffer);
-                caller.member = Some(member);
-                self.announce(&answer);
-                answer
-            }
-        }
+        let member = take(&mut caller.member);
+        let (member, answer) = self.shared.draw(rt, member, conn, buffer);
+        give_back(&mut caller.member, member);
+        self.announce(&answer);
+        answer
     }
 
     /// What the session is like. It waits for a turn and leaves no entry.
@@ -96,13 +84,9 @@ impl<T: Tape> Connection<T> {
         ensures carrying { result.carrying ≡ carrying self.now.settings caller.new.front }
         ensures cause { result.cause ≡ closed self.now.settings caller.new.front }
     {
-        match caller.member.take() {
-            None => unreachable!(),
-            Some(member) => {
-                let (member, looked) = self.shared.look(rt, member);
-                caller.member = Some(member);
-                looked
-            }
-        }
+        let member = take(&mut caller.member);
+        let (member, looked) = self.shared.look(rt, member);
+        give_back(&mut caller.member, member);
+        looked
     }
 }

@@ -5,7 +5,7 @@ ghost use Rattle.conn_lock.specs.Callers.{all_parts, calls, longer, most_numbers
 ghost use Rattle.conn_shared.specs.Lines.{who_of};
 ghost use Rattle.conn_shared.specs.Members.{Continues, first_member};
 
-use crate::caller::Caller;
+use crate::caller::{Caller, give_back, take};
 use crate::connection::Connection;
 use conn_lock::SplitFault;
 use session_core::Session;
@@ -45,20 +45,18 @@ impl<T: Tape> Connection<T> {
         ensures kept { IfErr result (λ f. caller.new.parts ≡ caller.old.parts) }
         ensures found { caller.old.found ≤ caller.new.found }
     {
-        match caller.member.take() {
-            None => unreachable!(),
-            Some(member) => match self.shared.split(rt, member) {
-                Ok((member, other)) => {
-                    caller.member = Some(member);
-                    Ok(Caller {
-                        member: Some(other),
-                    })
-                }
-                Err((member, fault)) => {
-                    caller.member = Some(member);
-                    Err(fault)
-                }
-            },
+        let member = take(&mut caller.member);
+        match self.shared.split(rt, member) {
+            Ok((member, other)) => {
+                give_back(&mut caller.member, member);
+                Ok(Caller {
+                    member: Some(other),
+                })
+            }
+            Err((member, fault)) => {
+                give_back(&mut caller.member, member);
+                Err(fault)
+            }
         }
     }
 
@@ -80,11 +78,12 @@ impl<T: Tape> Connection<T> {
         ensures distinct { (x : ℕ) → times x caller.new.names ≤ 1 }
         ensures at_most_all { caller.new.parts ≤ all_parts }
     {
-        match (caller.member.take(), other.member) {
-            (Some(first), Some(second)) => {
-                caller.member = Some(self.shared.join(first, second));
+        match other.member {
+            None => unreachable!(),
+            Some(second) => {
+                let first = take(&mut caller.member);
+                give_back(&mut caller.member, self.shared.join(first, second));
             }
-            _ => unreachable!(),
         }
     }
 

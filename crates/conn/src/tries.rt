@@ -9,7 +9,7 @@ ghost use Rattle.tape.specs.declared.event.Event.TheVariants as events;
 ghost use Rattle.conn_shared.specs.Members.{IsTurnedAway};
 ghost use Rattle.conn_shared.specs.Calls.{IsCalled, IsDrawCall};
 
-use crate::caller::Caller;
+use crate::caller::{Caller, give_back, take};
 use crate::connection::Connection;
 use rs_wire::Call;
 use tape::{Answer, Event, Tape};
@@ -36,15 +36,11 @@ impl<T: Tape> Connection<T> {
             IsCalled self.now.settings caller.old event.now a caller.new.front) }
         ensures turned_away { IfNone result (IsTurnedAway caller.old caller.new) }
     {
-        match caller.member.take() {
-            None => unreachable!(),
-            Some(member) => {
-                let (member, answer) = self.shared.try_step(member, event);
-                caller.member = Some(member);
-                self.announce_try(&answer);
-                answer
-            }
-        }
+        let member = take(&mut caller.member);
+        let (member, answer) = self.shared.try_step(member, event);
+        give_back(&mut caller.member, member);
+        self.announce_try(&answer);
+        answer
     }
 
     /// Asks as [`call`](Connection::call) does, but waits for nobody. `None` is as of
@@ -58,15 +54,11 @@ impl<T: Tape> Connection<T> {
             (events.Asked call.now) a caller.new.front) }
         ensures turned_away { IfNone result (IsTurnedAway caller.old caller.new) }
     {
-        match caller.member.take() {
-            None => unreachable!(),
-            Some(member) => {
-                let (member, answer) = self.shared.try_ask(member, call);
-                caller.member = Some(member);
-                self.announce_try(&answer);
-                answer
-            }
-        }
+        let member = take(&mut caller.member);
+        let (member, answer) = self.shared.try_ask(member, call);
+        give_back(&mut caller.member, member);
+        self.announce_try(&answer);
+        answer
     }
 
     /// Draws as [`draw`](Connection::draw) does, but waits for nobody. `None` is as of
@@ -83,14 +75,10 @@ impl<T: Tape> Connection<T> {
         ensures turned_away { IfNone result (IsTurnedAway caller.old caller.new) }
         ensures kept { IfNone result (buffer.new ≡ buffer.old) }
     {
-        match caller.member.take() {
-            None => unreachable!(),
-            Some(member) => {
-                let (member, answer) = self.shared.try_draw(member, conn, buffer);
-                caller.member = Some(member);
-                self.announce_try(&answer);
-                answer
-            }
-        }
+        let member = take(&mut caller.member);
+        let (member, answer) = self.shared.try_draw(member, conn, buffer);
+        give_back(&mut caller.member, member);
+        self.announce_try(&answer);
+        answer
     }
 }
