@@ -267,24 +267,29 @@ fn bring_all<R: Abort + Wait, T: Tape>(
     unreachable!()
 }
 
-// Carries the bytes of one way until everything was taken.
-fn carry<R: Abort + Wait, T: Tape>(
-    rt: &R,
-    alloc: Global,
-    gate: &Gate,
-    from: &Connection<T>,
+// One way between two connections: what the one caller draws, the other brings.
+#[derive(Drop)]
+struct Way<'a, T: Tape> {
+    from: &'a Connection<T>,
     drawer: Caller<T>,
-    to: &Connection<T>,
+    to: &'a Connection<T>,
     bringer: Caller<T>,
-)
-    requires from { drawer.of ≡ from.now }
-    requires to { bringer.of ≡ to.now }
+}
+
+// Carries the bytes of one way until everything was taken.
+fn carry<R: Abort + Wait, T: Tape>(rt: &R, alloc: Global, gate: &Gate, way: Way<'_, T>)
+    requires from { way.drawer.of ≡ way.from.now }
+    requires to { way.bringer.of ≡ way.to.now }
 {
     if !gate.enter() {
         return;
     }
-    let mut drawer = drawer;
-    let mut bringer = bringer;
+    let Way {
+        from,
+        mut drawer,
+        to,
+        mut bringer,
+    } = way;
     let mut reader = Reader::new(alloc, to.max_in());
     let mut buffer = [0; 4096];
     for _ in rt.forever() {
@@ -315,6 +320,53 @@ fn two_more<R: Abort + Wait, T: Tape>(
     (first, second)
 }
 
+// Takes the items and sends them, in two threads.
+fn take_and_send<R: Abort + Threads + Wait + Sync, T: Tape + Send>(
+    rt: &R,
+    alloc: Global,
+    gate: &Gate,
+    client: &Connection<T>,
+    asker: Caller<T>,
+    server: &Connection<T>,
+    answerer: Caller<T>,
+) -> bool
+    requires client { asker.of ≡ client.now }
+    requires server { answerer.of ≡ server.now }
+{
+    let (taken, ()) = join(
+        rt,
+        || -> bool
+            requires { asker.of ≡ client.now }
+        { take_items(rt, gate, client, asker) },
+        || -> ()
+            requires { answerer.of ≡ server.now }
+        { send_items(rt, alloc, gate, server, answerer) },
+    );
+    taken
+}
+
+// Carries the bytes of both ways, in two threads.
+fn carry_both<R: Abort + Threads + Wait + Sync, T: Tape + Send>(
+    rt: &R,
+    alloc: Global,
+    gate: &Gate,
+    there: Way<'_, T>,
+    back: Way<'_, T>,
+)
+    requires there { (there.drawer.of ≡ there.from.now) × (there.bringer.of ≡ there.to.now) }
+    requires back { (back.drawer.of ≡ back.from.now) × (back.bringer.of ≡ back.to.now) }
+{
+    join(
+        rt,
+        || -> ()
+            requires { (there.drawer.of ≡ there.from.now) × (there.bringer.of ≡ there.to.now) }
+        { carry(rt, alloc, gate, there) },
+        || -> ()
+            requires { (back.drawer.of ≡ back.from.now) × (back.bringer.of ≡ back.to.now) }
+        { carry(rt, alloc, gate, back) },
+    );
+}
+
 // Whether the items cross, by four threads.
 fn cross<R: Abort + Threads + Wait + Sync, T: Tape + Send>(
     rt: &R,
@@ -329,38 +381,31 @@ fn cross<R: Abort + Threads + Wait + Sync, T: Tape + Send>(
 {
     let mut asker = asker;
     let mut answerer = answerer;
-    let (drawer, bringer) = two_more(rt, client, &mut asker);
-    let (theirs, back) = two_more(rt, server, &mut answerer);
+    let (drawer, back) = two_more(rt, client, &mut asker);
+    let (bringer, theirs) = two_more(rt, server, &mut answerer);
+    let there = Way {
+        from: client,
+        drawer,
+        to: server,
+        bringer,
+    };
+    let back = Way {
+        from: server,
+        drawer: theirs,
+        to: client,
+        bringer: back,
+    };
     let gate = Gate::new();
-    let ((taken, ()), ((), ())) = join(
+    let (taken, ()) = join(
         rt,
-        || -> (bool, ())
+        || -> bool
             requires { (asker.of ≡ client.now) × (answerer.of ≡ server.now) }
-        {
-            join(
-                rt,
-                || -> bool
-                    requires { asker.of ≡ client.now }
-                { take_items(rt, &gate, client, asker) },
-                || -> ()
-                    requires { answerer.of ≡ server.now }
-                { send_items(rt, alloc, &gate, server, answerer) },
-            )
-        },
-        || -> ((), ())
-            requires client { (drawer.of ≡ client.now) × (bringer.of ≡ client.now) }
-            requires server { (theirs.of ≡ server.now) × (back.of ≡ server.now) }
-        {
-            join(
-                rt,
-                || -> ()
-                    requires { (drawer.of ≡ client.now) × (theirs.of ≡ server.now) }
-                { carry(rt, alloc, &gate, client, drawer, server, theirs) },
-                || -> ()
-                    requires { (bringer.of ≡ client.now) × (back.of ≡ server.now) }
-                { carry(rt, alloc, &gate, server, back, client, bringer) },
-            )
-        },
+        { take_and_send(rt, alloc, &gate, client, asker, server, answerer) },
+        || -> ()
+            requires there { (there.drawer.of ≡ there.from.now)
+                × (there.bringer.of ≡ there.to.now) }
+            requires back { (back.drawer.of ≡ back.from.now) × (back.bringer.of ≡ back.to.now) }
+        { carry_both(rt, alloc, &gate, there, back) },
     );
     taken
 }
