@@ -1,0 +1,76 @@
+//! A connection: a shared session with its bell.
+
+ghost use Rattle.std.specs.Prelude.{◌≡◌, [], IfErr, IfOk};
+ghost use Rattle.conn_shared.specs.Members.{first_member};
+
+use crate::caller::Caller;
+use bell::Bell;
+use conn_shared::SharedSession;
+use rs_wire::OutOfMemory;
+use session_core::Session;
+use std::alloc::Global;
+use std::marker::Model;
+use tape::{Answer, Tape};
+
+/// A session that threads share by reference. Contracts see which connection it is, and its settings.
+#[derive(Drop)]
+pub struct Connection<T: Tape> {
+    /// The session under its lock.
+    pub(crate) shared: SharedSession<T>,
+    /// How many bytes a frame that comes may have, of the session's settings.
+    pub(crate) max_in: u32,
+    /// It rings after each turn that left an entry other than that of a draw.
+    pub(crate) bell: Bell,
+}
+
+impl<T: Tape> Model for Connection<T> {
+    ghost use Rattle.std.specs.Prelude.{◌≡◌};
+    ghost use Rattle.conn_shared.specs.Members.{SharedId};
+
+    ghost Value = { SharedId };
+
+    ghost view = { λ c. c.shared };
+
+    ghost invariant = { λ c. c.max_in ≡ c.shared.settings.max_in };
+}
+
+impl<T: Tape> Connection<T> {
+    /// A connection round a session of which nothing happened yet, and its first caller, with the
+    /// number 0 and all 2^62 parts. The session comes back where there was no memory.
+    pub fn new(
+        alloc: Global,
+        session: Session<T>,
+    ) -> Result<(Connection<T>, Caller<T>), (Session<T>, OutOfMemory)>
+        requires { session.entries ≡ [] }
+        ensures settings { IfOk result (λ r. r.0.settings ≡ session.settings) }
+        ensures first { IfOk result (λ r. r.1 ≡ first_member r.0) }
+        ensures kept { IfErr result (λ r. r.0 ≡ session) }
+    {
+        let max_in = session.settings().settings().max_in;
+        let (shared, member) = SharedSession::new(alloc, session)?;
+        Ok((
+            Connection {
+                shared,
+                max_in,
+                bell: Bell::new(),
+            },
+            Caller {
+                member: Some(member),
+            },
+        ))
+    }
+
+    /// How many bytes a frame that comes may have, from 64 to 16,777,215.
+    pub fn max_in(&self) -> u32
+        ensures { result ≡ self.now.settings.max_in }
+    {
+        self.max_in
+    }
+
+    /// Rings where others may wait for what an event so answered left. Nobody waits for a draw.
+    pub(crate) fn announce(&self, answer: &Answer) {
+        if answer.leaves_entry() && answer.drawn().is_none() {
+            self.bell.ring();
+        }
+    }
+}

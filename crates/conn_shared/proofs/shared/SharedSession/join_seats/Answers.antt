@@ -1,0 +1,42 @@
+use Rattle.std.proofs.Common.{◌∙◌, ap, subst}
+use mathlib.Core.List.{IsPrefix}
+use Rattle.session_model.specs.Legal.{Fair, Legal}
+use Rattle.conn_lock.specs.Callers.{longer}
+use Rattle.conn_shared.specs.Lines.{entries_in, settings_in}
+use Rattle.conn_shared.proofs.Lines.{entries-noted, goes_on, longer_fronts}
+use Rattle.conn_shared.proofs.Seated.{fair_by, legal_by, of_longer, seated}
+use Rattle.conn_shared.proofs.shared.SharedSession.join_seats.Goals as goal
+
+pub returns-clause-front : goal.returns-clause-front
+returns-clause-front g c =
+    let a = c.requires.members.0 in
+    let b = c.requires.members.1 in
+    let s = c.requires.settings in
+    ap (λ k. entries_in k.front) c.join.ensures.both ∙ (ap entries_in (longer_fronts _ c.args.seat.front c.args.other.front a.lined b.lined s.0 s.1) ∙ entries-noted _)
+
+pub returns-clause-settings : goal.returns-clause-settings
+returns-clause-settings g c =
+    let a = c.requires.members.0 in
+    let b = c.requires.members.1 in
+    let s = c.requires.settings in
+    ap (λ k. settings_in k.front) c.join.ensures.both ∙ ap settings_in (longer_fronts _ c.args.seat.front c.args.other.front a.lined b.lined s.0 s.1)
+
+pub returns-clause-member : goal.returns-clause-member
+returns-clause-member g c =
+    let a = c.requires.members.0 in
+    let b = c.requires.members.1 in
+    let s = c.requires.settings in
+    let h = c.args.self.now.settings in
+    let xs = entries_in c.args.seat.front in
+    let ys = entries_in c.args.other.front in
+    seated h (longer xs ys) c.join.result
+    (ap (λ k. k.front) c.join.ensures.both ∙ longer_fronts h c.args.seat.front c.args.other.front a.lined b.lined s.0 s.1)
+    (of_longer (Legal h) xs ys (legal_by h c.args.seat s.0 a) (legal_by h c.args.other s.1 b))
+    (of_longer (Fair h) xs ys (fair_by h c.args.seat s.0 a) (fair_by h c.args.other s.1 b))
+
+pub returns-clause-fronts : goal.returns-clause-fronts
+returns-clause-fronts g c =
+    let whole = c.join.result.front in (
+      goes_on _ _ whole (subst (λ f. IsPrefix f whole) c.requires.members.0.lined c.join.ensures.fronts.0),
+      goes_on _ _ whole (subst (λ f. IsPrefix f whole) c.requires.members.1.lined c.join.ensures.fronts.1),
+    )

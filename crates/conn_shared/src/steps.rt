@@ -1,0 +1,104 @@
+//! Steps that wait for a turn.
+
+ghost use Rattle.std.specs.Prelude.{◌≡◌, ◌<◌, ◌^◌, None, length};
+ghost use Rattle.rs_wire.specs.Calls.{CanBeAsked};
+ghost use Rattle.session_model.specs.Frames.{queued};
+ghost use Rattle.session_model.specs.Legal.{CanBring};
+ghost use Rattle.session_model.specs.Life.{carrying, closed, live};
+ghost use Rattle.session_core.specs.Queued.{IsUntouched};
+ghost use Rattle.session_core.specs.Seen.{IsNoDrawEvent};
+ghost use Rattle.tape.specs.declared.event.Event.{Event as Happening};
+ghost use Rattle.tape.specs.declared.event.Event.TheVariants as events;
+ghost use Rattle.conn_shared.specs.Members.{Follows};
+ghost use Rattle.conn_shared.specs.Calls.{IsCalled, IsDrawCall};
+
+use crate::looked::Looked;
+use crate::member::Member;
+use crate::shared::SharedSession;
+use rs_wire::Call;
+use std::sync::Wait;
+use tape::{Answer, Event, Tape};
+
+impl<T: Tape> SharedSession<T> {
+    /// Brings an event, which is no draw. It waits for a turn. An opening has a first frame exactly on
+    /// a server, and frames can be spelled.
+    pub fn step<R: Wait>(
+        &self,
+        rt: &R,
+        member: Member<T>,
+        event: &Event,
+    ) -> (Member<T>, Answer)
+        requires of { member.of ≡ self.now }
+        requires fair { CanBring self.now.settings event.now }
+        requires no_draw { IsNoDrawEvent event.now }
+        ensures same { result.0 ≡ record member { front = result.0.front; note = None } }
+        ensures called { IsCalled self.now.settings member event.now result.1 result.0.front }
+    {
+        let turn = self.enter(rt, member.into_seat());
+        let (seat, answer) = self.step_in(turn, event);
+        (Member { seat }, answer)
+    }
+
+    // The answer to an event that there was no memory to copy. It waits for a turn.
+    fn refuse<R: Wait>(&self, rt: &R, member: Member<T>) -> (Member<T>, Answer)
+        requires of { member.of ≡ self.now }
+        ensures same { result.0 ≡ record member { front = result.0.front; note = None } }
+        ensures called { (e : Happening) →
+            IsCalled self.now.settings member e result.1 result.0.front }
+    {
+        let turn = self.enter(rt, member.into_seat());
+        let (seat, answer) = self.refuse_in(turn);
+        (Member { seat }, answer)
+    }
+
+    /// Asks something of the session. It waits for a turn.
+    pub fn ask<R: Wait>(&self, rt: &R, member: Member<T>, call: &Call) -> (Member<T>, Answer)
+        requires of { member.of ≡ self.now }
+        requires askable { CanBeAsked call.now }
+        ensures same { result.0 ≡ record member { front = result.0.front; note = None } }
+        ensures called { IsCalled self.now.settings member
+            (events.Asked call.now) result.1 result.0.front }
+    {
+        match call.copy(self.alloc) {
+            Ok(asked) => self.step(rt, member, &Event::Asked(asked)),
+            Err(_) => self.refuse(rt, member),
+        }
+    }
+
+    /// Draws bytes that are due on a connection into the buffer, which has 1 to 4,294,967,295 bytes.
+    /// It waits for a turn.
+    pub fn draw<R: Wait>(
+        &self,
+        rt: &R,
+        member: Member<T>,
+        conn: u64,
+        buffer: &mut [u8],
+    ) -> (Member<T>, Answer)
+        requires of { member.of ≡ self.now }
+        requires some { 0 < length buffer.old }
+        requires few { length buffer.old < 2 ^ 32 }
+        ensures same { result.0 ≡ record member { front = result.0.front; note = None } }
+        ensures drawn { IsDrawCall self.now.settings member conn (length buffer.old)
+            result.1 buffer.new result.0.front }
+        ensures untouched { IsUntouched result.1 buffer.old buffer.new }
+    {
+        let turn = self.enter(rt, member.into_seat());
+        let (seat, answer) = self.draw_in(turn, conn, buffer);
+        (Member { seat }, answer)
+    }
+
+    /// What the session is like. It waits for a turn and leaves no entry.
+    pub fn look<R: Wait>(&self, rt: &R, member: Member<T>) -> (Member<T>, Looked)
+        requires of { member.of ≡ self.now }
+        ensures same { result.0 ≡ record member { front = result.0.front; note = None } }
+        ensures follows { Follows member.names member.front result.0.front }
+        ensures live { result.1.live ≡ live result.0.front }
+        ensures queued { result.1.queued ≡ queued self.now.settings result.0.front }
+        ensures carrying { result.1.carrying ≡ carrying self.now.settings result.0.front }
+        ensures cause { result.1.cause ≡ closed self.now.settings result.0.front }
+    {
+        let turn = self.enter(rt, member.into_seat());
+        let (seat, looked) = self.look_in(turn);
+        (Member { seat }, looked)
+    }
+}

@@ -1,0 +1,133 @@
+//! The session under the lock.
+
+ghost use Rattle.std.specs.Prelude.{◌≡◌, ◌<◌, ◌^◌, ℕ, IfErr, IfOk, length};
+ghost use Rattle.session_model.specs.Frames.{queued};
+ghost use Rattle.session_model.specs.Life.{carrying, closed, live};
+ghost use Rattle.session_model.specs.Legal.{CanBring, Fair, Legal};
+ghost use Rattle.session_core.specs.Queued.{IsUntouched};
+ghost use Rattle.session_core.specs.Seen.{IsNoDrawEvent};
+ghost use Rattle.conn_shared.specs.Members.{Gains};
+ghost use Rattle.conn_shared.specs.Calls.{AreNext, IsStep};
+ghost use Rattle.tape.specs.declared.event.Event.{Event as Happening};
+ghost use Rattle.tape.specs.declared.event.Event.TheVariants as events;
+
+use crate::line::Line;
+use crate::looked::Looked;
+use conn_lock::Stands;
+use session_core::Session;
+use std::alloc::Global;
+use std::marker::Model;
+use tape::{Answer, Event, Tape};
+
+/// How many entries a tape has at most.
+const FULL: u64 = 1 << 63;
+
+/// A session under the lock. It is on the heap, so that a turn moves one pointer.
+#[derive(Drop)]
+pub(crate) struct Stored<T: Tape> {
+    session: Box<Session<T>>,
+}
+
+impl<T: Tape> Model for Stored<T> {
+    ghost use Rattle.session_core.specs.Seen.{Seen};
+
+    ghost Value = { Seen };
+
+    ghost view = { λ s. s.session.value };
+}
+
+impl<T: Tape> Stands for Stored<T> {
+    ghost use Rattle.conn_shared.specs.Lines.{lines_of, number_of};
+
+    type Entry = Line;
+
+    ghost list = { lines_of };
+
+    ghost number = { number_of };
+}
+
+impl<T: Tape> Stored<T> {
+    /// The session on the heap. It comes back where there was no memory.
+    pub(crate) fn new(alloc: Global, session: Session<T>) -> Result<Stored<T>, Session<T>>
+        ensures ok { IfOk result (λ s. s ≡ session) }
+        ensures err { IfErr result (λ s. s ≡ session) }
+    {
+        match Box::new(alloc, session) {
+            Ok(session) => Ok(Stored { session }),
+            Err(failed) => Err(failed.value),
+        }
+    }
+
+    /// The session again.
+    pub(crate) fn into_session(self) -> Session<T>
+        ensures { result ≡ self }
+    {
+        let Stored { session } = self;
+        Box::into_inner(session)
+    }
+
+    /// One step of the session.
+    pub(crate) fn step(&mut self, who: u32, event: &Event) -> Answer
+        requires fair { CanBring self.old.settings event.now }
+        requires no_draw { IsNoDrawEvent event.now }
+        ensures step { IsStep self.old.settings who self.old.entries event.now result self.new.entries }
+        ensures own { Gains who self.old.entries self.new.entries }
+        ensures settings { self.new.settings ≡ self.old.settings }
+        ensures legal { Legal self.new.settings self.new.entries }
+        ensures fair { Fair self.new.settings self.new.entries }
+    {
+        let answer = self.session.step(who, event);
+        self.session.legal();
+        answer
+    }
+
+    /// One draw of the session.
+    pub(crate) fn draw(&mut self, who: u32, conn: u64, buffer: &mut [u8]) -> Answer
+        requires some { 0 < length buffer.old }
+        requires few { length buffer.old < 2 ^ 32 }
+        ensures step { IsStep self.old.settings who self.old.entries
+            (events.Draw conn (length buffer.old)) result self.new.entries }
+        ensures bytes { AreNext self.old.settings self.old.entries conn result buffer.new }
+        ensures untouched { IsUntouched result buffer.old buffer.new }
+        ensures own { Gains who self.old.entries self.new.entries }
+        ensures settings { self.new.settings ≡ self.old.settings }
+        ensures legal { Legal self.new.settings self.new.entries }
+        ensures fair { Fair self.new.settings self.new.entries }
+    {
+        let answer = self.session.draw(who, conn, buffer);
+        self.session.legal();
+        answer
+    }
+
+    /// The answer to an event that there was no memory to copy.
+    pub(crate) fn refuse(&self) -> Answer
+        ensures step { (who : ℕ) (e : Happening) →
+            IsStep self.now.settings who self.now.entries e result self.now.entries }
+        ensures legal { Legal self.now.settings self.now.entries }
+        ensures fair { Fair self.now.settings self.now.entries }
+    {
+        self.session.legal();
+        if self.session.tape().count() >= FULL {
+            return Answer::TapeFull;
+        }
+        Answer::OutOfMemory
+    }
+
+    /// What the session is like now.
+    pub(crate) fn look(&self) -> Looked
+        ensures live { result.live ≡ live self.now.entries }
+        ensures queued { result.queued ≡ queued self.now.settings self.now.entries }
+        ensures carrying { result.carrying ≡ carrying self.now.settings self.now.entries }
+        ensures cause { result.cause ≡ closed self.now.settings self.now.entries }
+        ensures legal { Legal self.now.settings self.now.entries }
+        ensures fair { Fair self.now.settings self.now.entries }
+    {
+        self.session.legal();
+        Looked {
+            live: self.session.live(),
+            queued: self.session.queued(),
+            carrying: self.session.carrying(),
+            cause: self.session.cause().copied(),
+        }
+    }
+}
