@@ -1,6 +1,6 @@
 //! Connections to try, and what the trials bring to them.
 
-ghost use Rattle.std.specs.Prelude.{◌≡◌, IfOk, None, false};
+ghost use Rattle.std.specs.Prelude.{◌≡◌};
 ghost use Rattle.rs_wire.specs.declared.words.Side.TheVariants.{Server};
 ghost use Rattle.rs_wire.specs.Settings.{usual};
 ghost use Rattle.session_model.specs.Legal.{CanBring};
@@ -12,28 +12,29 @@ use rs_wire::{Amount, Blob, Kind, Message, OutOfMemory, Settings, Side, check};
 use session_core::Session;
 use std::alloc::Global;
 use std::process::Abort;
-use std::test::Fail;
 use tape::{Event, Tape};
 
 /// A connection round a session of which nothing happened yet, and its first caller.
-pub fn connected<T: Tape + Drop>(
+pub fn connected<R: Abort, T: Tape + Drop>(
+    rt: &R,
     alloc: Global,
     side: Side,
     tape: T,
-) -> Result<(Connection<T>, Caller<T>), Fail>
+) -> (Connection<T>, Caller<T>)
     requires empty { T.count tape ≡ 0 }
-    ensures of { IfOk result (λ r. r.1.of ≡ r.0) }
-    ensures settings { IfOk result (λ r. r.0.settings ≡ usual side) }
+    ensures of { result.1.of ≡ result.0 }
+    ensures settings { result.0.settings ≡ usual side }
 {
-    let Ok(settings) = check(Settings::usual(alloc, side)?) else {
-        return Err(Fail::from("the settings are right"));
+    let settings = Settings::usual(alloc, side).expect(rt, "there is memory");
+    let Ok(settings) = check(settings) else {
+        panic!(rt; "the settings are right");
     };
     let Ok(session) = Session::new(alloc, settings, tape) else {
-        return Err(Fail::from("there is memory"));
+        panic!(rt; "there is memory");
     };
     match Connection::new(alloc, session) {
-        Ok(made) => Ok(made),
-        Err(_) => Err(Fail::from("there is memory")),
+        Ok(made) => made,
+        Err(_) => panic!(rt; "there is memory"),
     }
 }
 

@@ -16,7 +16,6 @@ use std::alloc::Global;
 use std::process::Abort;
 use std::sync::Wait;
 use std::sync::atomic::{AtomicU64, Ordering};
-use std::test::Fail;
 use std::thread::{self, Threads, join};
 use tape::{Answer, Blank, Event, Tape};
 
@@ -410,13 +409,23 @@ fn cross<R: Abort + Threads + Wait + Sync, T: Tape + Send>(
     taken
 }
 
+// Opens both ends, asks for a stream, and lets its items cross.
+fn cross_all<R: Abort + Threads + Wait + Sync, T: Tape + Drop + Send>(
+    rt: &R,
+    alloc: Global,
+    near: T,
+    far: T,
+)
+    requires empty { (T.count near ≡ 0) × (T.count far ≡ 0) }
+{
+    let (client, mut asker) = connected(rt, alloc, Side::Client, near);
+    let (server, mut answerer) = connected(rt, alloc, Side::Server, far);
+    open_both(rt, alloc, &client, &mut asker, &server, &mut answerer);
+    request(rt, alloc, &client, &mut asker);
+    assert!(rt; cross(rt, alloc, &client, asker, &server, answerer));
+}
+
 #[test]
-fn every_item_crosses_in_order(rt: HostRuntime) -> Result<(), Fail> {
-    let alloc = rt.alloc();
-    let (client, mut asker) = connected(alloc, Side::Client, Blank::new())?;
-    let (server, mut answerer) = connected(alloc, Side::Server, Blank::new())?;
-    open_both(&rt, alloc, &client, &mut asker, &server, &mut answerer);
-    request(&rt, alloc, &client, &mut asker);
-    assert!(rt; cross(&rt, alloc, &client, asker, &server, answerer));
-    Ok(())
+fn every_item_crosses_in_order(rt: HostRuntime) {
+    cross_all(&rt, rt.alloc(), Blank::new(), Blank::new());
 }

@@ -12,9 +12,8 @@ use std::alloc::Global;
 use std::process::Abort;
 use std::sync::Wait;
 use std::sync::atomic::{AtomicU64, Ordering};
-use std::test::Fail;
 use std::thread::{self, Threads, join};
-use tape::{Answer, Blank, Entry, Event, Kept, Tape};
+use tape::{Answer, Blank, Event, Kept, Tape};
 
 /// How often each of two callers asks.
 const TIMES: u32 = 100;
@@ -68,44 +67,42 @@ fn ask_in_two<R: Threads + Wait + Sync, T: Tape + Send>(
     caller
 }
 
-// As many calls of each of two callers, whose ids rise by two from 1.
-fn check_calls<R: Abort>(rt: &R, entries: &[Entry]) {
-    let mut next = 1u32;
+// Checks the calls on a tape: as many of each of two callers, whose ids rise by two from 1.
+fn check_calls<R: Abort, T: Tape>(rt: &R, tape: &T) {
+    assert_eq!(rt; tape.count(), 1 + 2 * u64::from(TIMES));
     let mut calls = [0u32; 2];
-    for entry in entries {
-        assert_eq!(rt; entry.answer, Answer::Started(next));
+    for number in 0..2 * TIMES {
+        let entry = tape.entry(1 + u64::from(number)).expect(rt, "an entry");
+        assert_eq!(rt; entry.answer, Answer::Started(2 * number + 1));
         assert!(rt; entry.who < 2);
         let caller = entry.who as usize;
         calls[caller] = calls[caller].wrapping_add(1);
-        next = next.wrapping_add(2);
     }
     assert_eq!(rt; calls, [TIMES, TIMES]);
 }
 
-#[test]
-fn two_threads_share_one_list(rt: HostRuntime) -> Result<(), Fail> {
-    let call = Call::fire_and_forget(Blob::from_slice(rt.alloc(), b"hi")?);
-    let tape = Kept::new(rt.alloc());
-    let (connection, mut caller) = connected(rt.alloc(), Side::Client, tape)?;
-    let opened = connection.event(&rt, &mut caller, &Event::opening());
+// Opens a client, asks by two callers, and closes it.
+fn share<R: Abort + Threads + Wait + Sync, T: Tape + Drop + Send>(rt: &R, alloc: Global, tape: T)
+    requires empty { T.count tape ≡ 0 }
+{
+    let hi = Blob::from_slice(alloc, b"hi").expect(rt, "there is memory");
+    let (connection, mut caller) = connected(rt, alloc, Side::Client, tape);
+    let opened = connection.event(rt, &mut caller, &Event::opening());
     assert_eq!(rt; opened, Answer::Opened(1));
-    let other = connection
-        .split(&rt, &mut caller)
-        .ok()
-        .ok_or("there are parts")?;
+    let other = connection.split(rt, &mut caller).expect(rt, "there are parts");
     let Err((connection, caller)) = connection.close(caller) else {
-        return Err(Fail::from("the other's parts are missing"));
+        panic!(rt; "the other's parts are missing");
     };
-    let caller = ask_in_two(&rt, &connection, caller, other, &call);
-    let session = connection.close(caller).ok().ok_or("all parts are there")?;
-    let tape = session.into_tape();
-    let [first, calls @ ..] = tape.entries() else {
-        return Err(Fail::from("the tape has entries"));
+    let caller = ask_in_two(rt, &connection, caller, other, &Call::fire_and_forget(hi));
+    let Ok(session) = connection.close(caller) else {
+        panic!(rt; "all parts are there");
     };
-    assert_eq!(rt; first.answer, Answer::Opened(1));
-    assert_eq!(rt; calls.len(), 200);
-    check_calls(&rt, calls);
-    Ok(())
+    check_calls(rt, session.tape());
+}
+
+#[test]
+fn two_threads_share_one_list(rt: HostRuntime) {
+    share(&rt, rt.alloc(), Kept::new(rt.alloc()));
 }
 
 // Waits for all requests, and counts those that it has got.
@@ -174,17 +171,23 @@ fn wait_in_two<R: Abort + Threads + Wait + Sync, T: Tape + Send>(
     got.load(Ordering::SeqCst)
 }
 
-#[test]
-fn a_waiter_wakes(rt: HostRuntime) -> Result<(), Fail> {
-    let alloc = rt.alloc();
-    let (connection, mut caller) = connected(alloc, Side::Server, Blank::new())?;
-    let opened = connection.event(&rt, &mut caller, &opening(&rt, alloc));
+// Opens a server, and lets one caller wait for what another brings.
+fn wait_and_bring<R: Abort + Threads + Wait + Sync, T: Tape + Drop + Send>(
+    rt: &R,
+    alloc: Global,
+    tape: T,
+)
+    requires empty { T.count tape ≡ 0 }
+{
+    let (connection, mut caller) = connected(rt, alloc, Side::Server, tape);
+    let opened = connection.event(rt, &mut caller, &opening(rt, alloc));
     assert_eq!(rt; opened, Answer::Opened(1));
-    let other = connection
-        .split(&rt, &mut caller)
-        .ok()
-        .ok_or("there are parts")?;
-    let got = wait_in_two(&rt, alloc, &connection, caller, other);
+    let other = connection.split(rt, &mut caller).expect(rt, "there are parts");
+    let got = wait_in_two(rt, alloc, &connection, caller, other);
     assert_eq!(rt; got, u64::from(REQUESTS));
-    Ok(())
+}
+
+#[test]
+fn a_waiter_wakes(rt: HostRuntime) {
+    wait_and_bring(&rt, rt.alloc(), Blank::new());
 }
