@@ -5,19 +5,17 @@ ghost use Rattle.rs_wire.specs.Calls.{CanBeAsked};
 ghost use Rattle.rs_wire.specs.declared.words.Side.TheVariants.{Client, Server};
 ghost use Rattle.rs_frame.specs.Spelling.{IsSpellable};
 
+use crate::calls::{next, request, take_item, take_job};
 use anyhow::{Context, Result, ensure};
 use rs_chunk::split_frame;
 use rs_frame::{Frame, decode};
-use rs_wire::{Amount, Blob, Call, Delivery, Kind, Message, Settings, Side, check};
+use rs_wire::{Blob, Call, Delivery, Settings, Side, check};
 use session_core::Session;
 use std::alloc::Global;
 use tape::{Answer, Event, Tape};
 
 /// The bytes of an item.
 const ITEM: &[u8; 16] = b"an item of bytes";
-
-/// The most items that a request grants, 2^31 - 1.
-const MOST: u32 = 2_147_483_647;
 
 /// How many bytes a draw moves at most.
 pub const ROOM: usize = 16_384;
@@ -30,37 +28,6 @@ const STREAM: u32 = 1;
 
 /// The number of the one caller, at both ends.
 const CALLER: u32 = 0;
-
-// Content without metadata.
-fn plain(content: Blob) -> Message {
-    Message {
-        metadata: None,
-        content,
-    }
-}
-
-// A stream of as many items as can be granted.
-fn request(content: Blob) -> Call
-    ensures { CanBeAsked result }
-{
-    Call::Request {
-        kind: Kind::Stream,
-        initial: Amount::of(MOST),
-        message: plain(content),
-        complete: false,
-    }
-}
-
-// An item on the stream.
-fn next(content: Blob) -> Call
-    ensures { CanBeAsked result }
-{
-    Call::Next {
-        stream: STREAM,
-        message: plain(content),
-        complete: false,
-    }
-}
 
 // An end at which nothing happened yet, with the defaults of its side.
 fn new_end<T: Tape + Drop>(alloc: Global, side: Side, tape: T) -> Result<Session<T>>
@@ -114,8 +81,9 @@ fn connect<T: Tape + Drop>(alloc: Global, tape: T) -> Result<Session<T>>
 pub fn start<T: Tape + Drop>(alloc: Global, tape: T) -> Result<Session<T>>
     requires { T.Tape.count tape ≡ 0 }
 {
+    let call = request(Blob::from_vec(Vec::new(alloc)));
     let mut client = connect(alloc, tape)?;
-    let answer = ask(&mut client, request(Blob::from_vec(Vec::new(alloc))));
+    let answer = ask(&mut client, call);
     expect(matches!(&answer, Answer::Started(STREAM)), &answer)?;
     Ok(client)
 }
@@ -128,8 +96,8 @@ fn open_by<T: Tape>(server: &mut Session<T>, setup: Frame) -> Answer
     server.step(CALLER, &Event::opened_by(setup))
 }
 
-// A server whose connection a client opened by this frame.
-fn accept<T: Tape + Drop>(alloc: Global, tape: T, setup: &[u8]) -> Result<Session<T>>
+/// A server whose connection a client opened by this frame.
+pub fn accept<T: Tape + Drop>(alloc: Global, tape: T, setup: &[u8]) -> Result<Session<T>>
     requires empty { T.Tape.count tape ≡ 0 }
     requires few { length setup.now < 2 ^ 24 }
 {
@@ -140,17 +108,21 @@ fn accept<T: Tape + Drop>(alloc: Global, tape: T, setup: &[u8]) -> Result<Sessio
     Ok(server)
 }
 
-/// A server that took the job, from the bytes of SETUP and of the request.
-pub fn meet<T: Tape + Drop>(alloc: Global, tape: T, bytes: &[u8]) -> Result<Session<T>>
-    requires { T.Tape.count tape ≡ 0 }
-{
-    let (setup, rest) = split_frame(bytes).context("no SETUP")?;
-    let (request, _) = split_frame(rest).context("no request")?;
-    let mut server = accept(alloc, tape, setup)?;
-    come(&mut server, decode(alloc, request)?)?;
-    let answer = ask(&mut server, Call::TakeJob);
-    expect(matches!(&answer, Answer::GotJob(_)), &answer)?;
-    Ok(server)
+/// The bytes come at an end, frame by frame.
+pub fn receive<T: Tape>(alloc: Global, end: &mut Session<T>, bytes: &[u8]) -> Result<()> {
+    let mut rest = bytes;
+    while let Some((frame, after)) = split_frame(rest) {
+        come(end, decode(alloc, frame)?)?;
+        rest = after;
+    }
+    Ok(())
+}
+
+/// The request comes at the server, which takes the job in it.
+pub fn begin<T: Tape>(alloc: Global, server: &mut Session<T>, bytes: &[u8]) -> Result<()> {
+    receive(alloc, server, bytes)?;
+    let answer = ask(server, take_job());
+    expect(matches!(&answer, Answer::GotJob(_)), &answer)
 }
 
 /// What is queued at an end goes into the buffer, as far as there is room: how many bytes.
@@ -163,7 +135,7 @@ pub fn draw<T: Tape>(end: &mut Session<T>, buffer: &mut [u8; ROOM]) -> Result<us
 // The server sends an item.
 fn send_one<T: Tape>(alloc: Global, server: &mut Session<T>) -> Result<()> {
     let content = Blob::from_slice(alloc, ITEM)?;
-    let answer = ask(server, next(content));
+    let answer = ask(server, next(STREAM, content));
     expect(matches!(&answer, Answer::Done), &answer)
 }
 
@@ -175,19 +147,9 @@ pub fn send<T: Tape>(alloc: Global, server: &mut Session<T>, items: u32) -> Resu
     Ok(())
 }
 
-/// The bytes come at the client, frame by frame.
-pub fn receive<T: Tape>(alloc: Global, client: &mut Session<T>, bytes: &[u8]) -> Result<()> {
-    let mut rest = bytes;
-    while let Some((frame, after)) = split_frame(rest) {
-        come(client, decode(alloc, frame)?)?;
-        rest = after;
-    }
-    Ok(())
-}
-
 // The client takes an item.
 fn take_one<T: Tape>(client: &mut Session<T>) -> Result<()> {
-    let answer = ask(client, Call::Take { stream: STREAM });
+    let answer = ask(client, take_item(STREAM));
     expect(matches!(&answer, Answer::Got(Delivery::Item(_))), &answer)
 }
 
