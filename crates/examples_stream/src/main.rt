@@ -18,11 +18,8 @@ use std::io::Print;
 /// The one stream, which the client opens.
 const STREAM: u32 = 1;
 
-// The client connects and asks for the stream, of which two items may come at first.
-fn start(rt: &impl Print, alloc: Global, client: &mut End) -> Result<Vec<u8>>
-    requires { client.old.settings.side ≡ Client }
-{
-    connect(rt, client)?;
+// The client asks for the stream, of which two items may come at first.
+fn ask_for_items(rt: &impl Print, alloc: Global, client: &mut End) -> Result<Vec<u8>> {
     let initial = Amount::of(2).context("not in range")?;
     let content = Blob::from_slice(alloc, b"count")?;
     ask(rt, "client", client, request(content, initial))?;
@@ -89,7 +86,8 @@ fn run(rt: &impl Print, alloc: Global, client: &mut End, server: &mut End) -> Re
     requires client { client.old.settings.side ≡ Client }
     requires server { server.old.settings.side ≡ Server }
 {
-    let asked = start(rt, alloc, client)?;
+    connect(rt, client)?;
+    let asked = ask_for_items(rt, alloc, client)?;
     meet(rt, alloc, server, &asked)?;
     let two = send_two(rt, alloc, server)?;
     let granted = grant_one(rt, alloc, client, &two)?;

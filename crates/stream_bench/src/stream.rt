@@ -1,10 +1,12 @@
 //! A stream in rounds, and the time that its items take.
 
 ghost use Rattle.std.specs.Prelude.{◌≡◌, ◌<◌};
+ghost use Rattle.rs_wire.specs.declared.words.Side.TheVariants.{Client, Server};
 
-use crate::ends::{ROOM, accept, begin, draw, receive, send, start, take};
+use crate::ends::{ROOM, accept, connect, draw, new_end, receive, send, start, take, take_request};
 use anyhow::{Context, Result};
 use rs_chunk::split_frame;
+use rs_wire::Side;
 use session_core::Session;
 use std::alloc::Global;
 use std::time::{Clock, Instant};
@@ -124,39 +126,47 @@ fn rounds<T: Tape, R: Clock>(
     Ok(all)
 }
 
-// The request comes at the server, and the items cross.
-fn begun<T: Tape, R: Clock>(
+// SETUP connects the server, and the request comes after it. The server takes the job.
+fn meet<T: Tape>(alloc: Global, server: &mut Session<T>, bytes: &[u8]) -> Result<()>
+    requires { server.old.settings.side ≡ Server }
+{
+    let (setup, rest) = split_frame(bytes).context("no SETUP")?;
+    accept(alloc, server, setup)?;
+    receive(alloc, server, rest)?;
+    take_request(server)
+}
+
+// The client asks, and the server takes the job.
+fn begin<T: Tape>(
+    alloc: Global,
+    client: &mut Session<T>,
+    server: &mut Session<T>,
+    buffer: &mut [u8; ROOM],
+) -> Result<()>
+    requires { server.old.settings.side ≡ Server }
+{
+    start(alloc, client)?;
+    let count = draw(client, buffer)?;
+    let bytes = buffer.get(..count).context("more than fits")?;
+    meet(alloc, server, bytes)
+}
+
+// Runs a stream between two ends at which nothing happened yet.
+fn run_between<T: Tape, R: Clock>(
     rt: &R,
     alloc: Global,
     client: &mut Session<T>,
     server: &mut Session<T>,
-    request: &[u8],
     run: Run,
 ) -> Result<Took>
-    requires { 0 < run.batch }
-{
-    let mut buffer = [0; ROOM];
-    begin(alloc, server, request)?;
-    rounds(rt, alloc, client, server, &mut buffer, run)
-}
-
-// What the client sent first makes the server: SETUP opens the connection, and the request follows.
-fn serve<T: Tape + Drop, R: Clock>(
-    rt: &R,
-    alloc: Global,
-    client: &mut Session<T>,
-    tape: T,
-    run: Run,
-) -> Result<Took>
-    requires empty { T.Tape.count tape ≡ 0 }
+    requires client { client.old.settings.side ≡ Client }
+    requires server { server.old.settings.side ≡ Server }
     requires some { 0 < run.batch }
 {
     let mut buffer = [0; ROOM];
-    let count = draw(client, &mut buffer)?;
-    let bytes = buffer.get(..count).context("more than fits")?;
-    let (setup, request) = split_frame(bytes).context("no SETUP")?;
-    let mut server = accept(alloc, tape, setup)?;
-    begun(rt, alloc, client, &mut server, request, run)
+    connect(client)?;
+    begin(alloc, client, server, &mut buffer)?;
+    rounds(rt, alloc, client, server, &mut buffer, run)
 }
 
 /// Runs a stream between two new ends with these tapes.
@@ -171,6 +181,7 @@ pub fn stream<T: Tape + Drop, R: Clock>(
     requires server { T.Tape.count at_server ≡ 0 }
     requires some { 0 < run.batch }
 {
-    let mut client = start(alloc, at_client)?;
-    serve(rt, alloc, &mut client, at_server, run)
+    let mut client = new_end(alloc, Side::Client, at_client)?;
+    let mut server = new_end(alloc, Side::Server, at_server)?;
+    run_between(rt, alloc, &mut client, &mut server, run)
 }
