@@ -34,3 +34,31 @@ pub fn next(stream: u32, content: Blob) -> Call
         complete: false,
     }
 }
+
+/// Sends nothing more on a stream.
+pub fn done(stream: u32) -> Call
+    ensures { CanBeAsked result }
+{
+    Call::Done { stream }
+}
+
+/// Lets `n` more items come on a stream.
+pub fn grant(stream: u32, n: Amount) -> Call
+    ensures { CanBeAsked result }
+{
+    Call::Grant { stream, n }
+}
+
+/// Takes what came next on a stream.
+pub fn take(stream: u32) -> Call
+    ensures { CanBeAsked result }
+{
+    Call::Take { stream }
+}
+
+/// Takes a request of the peer's.
+pub fn take_job() -> Call
+    ensures { CanBeAsked result }
+{
+    Call::TakeJob
+}

@@ -1,14 +1,17 @@
 //! Two ends of a session in one process: a stream of three items, two of which may come at first.
 #![tactic(auto)]
 
+ghost use Rattle.std.specs.Prelude.{◌≡◌};
+ghost use Rattle.rs_wire.specs.declared.words.Side.TheVariants.{Client, Server};
+
 mod calls;
 mod ends;
 
 use anyhow::{Context, Result};
-use calls::{next, request};
-use ends::{End, accept, ask, connect, receive, send};
+use calls::{done, grant, next, request, take, take_job};
+use ends::{End, accept, ask, connect, new_end, receive, send};
 use rs_chunk::split_frame;
-use rs_wire::{Amount, Blob, Call};
+use rs_wire::{Amount, Blob, Side};
 use std::alloc::Global;
 use std::io::Print;
 
@@ -23,13 +26,14 @@ fn ask_for_items(rt: &impl Print, alloc: Global, client: &mut End) -> Result<Vec
     send(rt, alloc, "client", client)
 }
 
-// SETUP opens the connection at the server, and the request comes after it.
-fn meet(rt: &impl Print, alloc: Global, bytes: &[u8]) -> Result<End> {
+// SETUP connects the server, and the request comes after it. The server takes the job.
+fn meet(rt: &impl Print, alloc: Global, server: &mut End, bytes: &[u8]) -> Result<()>
+    requires { server.old.settings.side ≡ Server }
+{
     let (setup, rest) = split_frame(bytes).context("no SETUP")?;
-    let mut server = accept(rt, alloc, setup)?;
-    receive(rt, alloc, "server", &mut server, rest)?;
-    ask(rt, "server", &mut server, Call::TakeJob)?;
-    Ok(server)
+    accept(rt, alloc, server, setup)?;
+    receive(rt, alloc, "server", server, rest)?;
+    ask(rt, "server", server, take_job())
 }
 
 // The server sends an item.
@@ -47,16 +51,16 @@ fn send_two(rt: &impl Print, alloc: Global, server: &mut End) -> Result<Vec<u8>>
 }
 
 // The client takes what came next on the stream.
-fn take(rt: &impl Print, client: &mut End) -> Result<()> {
-    ask(rt, "client", client, Call::Take { stream: STREAM })
+fn take_next(rt: &impl Print, client: &mut End) -> Result<()> {
+    ask(rt, "client", client, take(STREAM))
 }
 
 // The client takes one of the items that came, and lets one more come.
 fn grant_one(rt: &impl Print, alloc: Global, client: &mut End, bytes: &[u8]) -> Result<Vec<u8>> {
     receive(rt, alloc, "client", client, bytes)?;
-    take(rt, client)?;
+    take_next(rt, client)?;
     let n = Amount::of(1).context("not in range")?;
-    ask(rt, "client", client, Call::Grant { stream: STREAM, n })?;
+    ask(rt, "client", client, grant(STREAM, n))?;
     send(rt, alloc, "client", client)
 }
 
@@ -64,7 +68,7 @@ fn grant_one(rt: &impl Print, alloc: Global, client: &mut End, bytes: &[u8]) -> 
 fn send_last(rt: &impl Print, alloc: Global, server: &mut End, bytes: &[u8]) -> Result<Vec<u8>> {
     receive(rt, alloc, "server", server, bytes)?;
     send_item(rt, alloc, server, b"3")?;
-    ask(rt, "server", server, Call::Done { stream: STREAM })?;
+    ask(rt, "server", server, done(STREAM))?;
     send(rt, alloc, "server", server)
 }
 
@@ -72,18 +76,28 @@ fn send_last(rt: &impl Print, alloc: Global, server: &mut End, bytes: &[u8]) -> 
 fn take_rest(rt: &impl Print, alloc: Global, client: &mut End, bytes: &[u8]) -> Result<()> {
     receive(rt, alloc, "client", client, bytes)?;
     for _ in 0..3 {
-        take(rt, client)?;
+        take_next(rt, client)?;
     }
     Ok(())
 }
 
+// The whole stream, between two ends at which nothing happened yet.
+fn run(rt: &impl Print, alloc: Global, client: &mut End, server: &mut End) -> Result<()>
+    requires client { client.old.settings.side ≡ Client }
+    requires server { server.old.settings.side ≡ Server }
+{
+    connect(rt, client)?;
+    let asked = ask_for_items(rt, alloc, client)?;
+    meet(rt, alloc, server, &asked)?;
+    let two = send_two(rt, alloc, server)?;
+    let granted = grant_one(rt, alloc, client, &two)?;
+    let last = send_last(rt, alloc, server, &granted)?;
+    take_rest(rt, alloc, client, &last)
+}
+
 fn main(rt: HostRuntime) -> Result<()> {
     let alloc = rt.alloc();
-    let mut client = connect(&rt, alloc)?;
-    let asked = ask_for_items(&rt, alloc, &mut client)?;
-    let mut server = meet(&rt, alloc, &asked)?;
-    let two = send_two(&rt, alloc, &mut server)?;
-    let granted = grant_one(&rt, alloc, &mut client, &two)?;
-    let last = send_last(&rt, alloc, &mut server, &granted)?;
-    take_rest(&rt, alloc, &mut client, &last)
+    let mut client = new_end(alloc, Side::Client)?;
+    let mut server = new_end(alloc, Side::Server)?;
+    run(&rt, alloc, &mut client, &mut server)
 }
