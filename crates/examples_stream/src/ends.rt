@@ -2,6 +2,7 @@
 
 ghost use Rattle.std.specs.Prelude.{◌≡◌, ◌<◌, ◌^◌, IfOk, length};
 ghost use Rattle.rs_wire.specs.Calls.{CanBeAsked};
+ghost use Rattle.rs_wire.specs.Settings.{usual};
 ghost use Rattle.tape.specs.declared.event.Event.TheVariants as events;
 ghost use Rattle.session_model.specs.Legal.{CanBring};
 ghost use Rattle.session_core.specs.Seen.{IsNoDrawEvent};
@@ -10,7 +11,7 @@ ghost use Rattle.rs_wire.specs.declared.words.Side.TheVariants.{Client, Server};
 use anyhow::{Context, Result};
 use rs_chunk::split_frame;
 use rs_frame::decode;
-use rs_wire::{Call, Settings, Side, check};
+use rs_wire::{Call, Checked, Settings, Side, check};
 use session_core::Session;
 use std::alloc::Global;
 use std::io::Print;
@@ -28,11 +29,19 @@ const ROOM: usize = 1_024;
 /// An end, with a tape that only counts what happens.
 pub type End = Session<Blank>;
 
+// The defaults of a side.
+fn defaults(alloc: Global, side: Side) -> Result<Checked>
+    ensures { IfOk result (λ s. s ≡ usual side) }
+{
+    let settings = check(Settings::usual(alloc, side)?).map_err(|(_, fault)| fault)?;
+    Ok(settings)
+}
+
 /// An end at which nothing happened yet, with the defaults of its side.
 pub fn new_end(alloc: Global, side: Side) -> Result<End>
     ensures { IfOk result (λ s. s.settings.side ≡ side) }
 {
-    let settings = check(Settings::usual(alloc, side)?).map_err(|(_, fault)| fault)?;
+    let settings = defaults(alloc, side)?;
     let session = Session::new(alloc, settings, Blank::new()).map_err(|(_, error)| error)?;
     Ok(session)
 }
