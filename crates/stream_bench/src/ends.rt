@@ -2,6 +2,7 @@
 
 ghost use Rattle.std.specs.Prelude.{◌≡◌, ◌<◌, ◌^◌, IfOk, length};
 ghost use Rattle.rs_wire.specs.Calls.{CanBeAsked};
+ghost use Rattle.rs_wire.specs.Settings.{usual};
 ghost use Rattle.rs_wire.specs.declared.words.Side.TheVariants.{Client, Server};
 ghost use Rattle.tape.specs.declared.event.Event.TheVariants as events;
 ghost use Rattle.session_model.specs.Legal.{CanBring};
@@ -11,7 +12,7 @@ use crate::calls::{next, request, take_item, take_job};
 use anyhow::{Context, Result, ensure};
 use rs_chunk::split_frame;
 use rs_frame::decode;
-use rs_wire::{Blob, Call, Delivery, Settings, Side, check};
+use rs_wire::{Blob, Call, Checked, Delivery, Settings, Side, check};
 use session_core::Session;
 use std::alloc::Global;
 use tape::{Answer, Event, Tape};
@@ -31,12 +32,20 @@ const STREAM: u32 = 1;
 /// The number of the one caller, at both ends.
 const CALLER: u32 = 0;
 
+// The defaults of a side.
+fn defaults(alloc: Global, side: Side) -> Result<Checked>
+    ensures { IfOk result (λ s. s ≡ usual side) }
+{
+    let settings = check(Settings::usual(alloc, side)?).map_err(|(_, fault)| fault)?;
+    Ok(settings)
+}
+
 /// An end at which nothing happened yet, with the defaults of its side.
 pub fn new_end<T: Tape + Drop>(alloc: Global, side: Side, tape: T) -> Result<Session<T>>
     requires { T.Tape.count tape ≡ 0 }
     ensures { IfOk result (λ s. s.settings.side ≡ side) }
 {
-    let settings = check(Settings::usual(alloc, side)?).map_err(|(_, fault)| fault)?;
+    let settings = defaults(alloc, side)?;
     let session = Session::new(alloc, settings, tape).map_err(|(_, error)| error)?;
     Ok(session)
 }
