@@ -7,16 +7,24 @@ ghost use Rattle.rs_wire.specs.Settings.{usual};
 use anyhow::Context;
 use rs_chunk::split_frame;
 use rs_frame::decode;
-use rs_wire::{Blob, Call, Settings, Side, check};
+use rs_wire::{Blob, Call, Checked, Settings, Side, check};
 use session_core::Session;
 use std::alloc::Global;
 use tape::{Event, Kept};
+
+// The defaults of a side.
+fn defaults(alloc: Global, side: Side) -> Result<Checked, anyhow::Error>
+    ensures { IfOk result (λ s. s ≡ usual side) }
+{
+    let settings = check(Settings::usual(alloc, side)?).map_err(|(_, fault)| fault)?;
+    Ok(settings)
+}
 
 // A session of which nothing happened yet, with the defaults of its side.
 fn end(alloc: Global, side: Side) -> Result<Session<Kept>, anyhow::Error>
     ensures { IfOk result (λ s. s.settings ≡ usual side) }
 {
-    let settings = check(Settings::usual(alloc, side)?).map_err(|(_, fault)| fault)?;
+    let settings = defaults(alloc, side)?;
     let session = Session::new(alloc, settings, Kept::new(alloc)).map_err(|(_, error)| error)?;
     Ok(session)
 }

@@ -2,13 +2,16 @@
 
 ghost use Rattle.std.specs.Prelude.{◌≡◌, ◌<◌, ◌^◌, IfOk, length};
 ghost use Rattle.rs_wire.specs.Calls.{CanBeAsked};
-ghost use Rattle.rs_frame.specs.Spelling.{IsSpellable};
+ghost use Rattle.rs_wire.specs.Settings.{usual};
+ghost use Rattle.tape.specs.declared.event.Event.TheVariants as events;
+ghost use Rattle.session_model.specs.Legal.{CanBring};
+ghost use Rattle.session_core.specs.Seen.{IsNoDrawEvent};
 ghost use Rattle.rs_wire.specs.declared.words.Side.TheVariants.{Client, Server};
 
 use anyhow::{Context, Result};
 use rs_chunk::split_frame;
-use rs_frame::{Frame, decode};
-use rs_wire::{Call, Settings, Side, check};
+use rs_frame::decode;
+use rs_wire::{Call, Checked, Settings, Side, check};
 use session_core::Session;
 use std::alloc::Global;
 use std::io::Print;
@@ -20,14 +23,25 @@ const CONNECTION: u64 = 1;
 /// The number of the one caller, at both ends.
 const CALLER: u32 = 0;
 
+/// How many bytes a draw moves at most.
+const ROOM: usize = 1_024;
+
 /// An end, with a tape that only counts what happens.
 pub type End = Session<Blank>;
 
-// An end at which nothing happened yet, with the defaults of its side.
-fn new_end(alloc: Global, side: Side) -> Result<End>
-    ensures { IfOk result (λ s. s.settings.side ≡ side) }
+// The defaults of a side.
+fn defaults(alloc: Global, side: Side) -> Result<Checked>
+    ensures { IfOk result (λ s. s ≡ usual side) }
 {
     let settings = check(Settings::usual(alloc, side)?).map_err(|(_, fault)| fault)?;
+    Ok(settings)
+}
+
+/// An end at which nothing happened yet, with the defaults of its side.
+pub fn new_end(alloc: Global, side: Side) -> Result<End>
+    ensures { IfOk result (λ s. s.settings.side ≡ side) }
+{
+    let settings = defaults(alloc, side)?;
     let session = Session::new(alloc, settings, Blank::new()).map_err(|(_, error)| error)?;
     Ok(session)
 }
@@ -38,45 +52,44 @@ fn show(rt: &impl Print, name: &str, answer: &Answer) -> Result<()> {
     Ok(())
 }
 
-// A client opens its connection.
-fn open(client: &mut End) -> Answer
+// Something happens at an end.
+fn tell(end: &mut End, event: Event) -> Answer
+    requires fair { CanBring end.old.settings event }
+    requires no_draw { IsNoDrawEvent event }
+{
+    end.step(CALLER, &event)
+}
+
+// A caller asks something.
+fn asked(call: Call) -> Event
+    ensures { result ≡ events.Asked call }
+{
+    Event::Asked(call)
+}
+
+/// A client opens its connection.
+pub fn connect(rt: &impl Print, client: &mut End) -> Result<()>
     requires { client.old.settings.side ≡ Client }
 {
-    client.step(CALLER, &Event::opening())
+    let answer = tell(client, Event::opening());
+    show(rt, "client", &answer)
 }
 
-/// A client that opened its connection.
-pub fn connect(rt: &impl Print, alloc: Global) -> Result<End> {
-    let mut client = new_end(alloc, Side::Client)?;
-    let answer = open(&mut client);
-    show(rt, "client", &answer)?;
-    Ok(client)
-}
-
-// The first frame comes at a server.
-fn open_by(server: &mut End, setup: Frame) -> Answer
+/// The first frame opens a server's connection.
+pub fn accept(rt: &impl Print, alloc: Global, server: &mut End, setup: &[u8]) -> Result<()>
     requires side { server.old.settings.side ≡ Server }
-    requires spellable { IsSpellable setup }
-{
-    server.step(CALLER, &Event::opened_by(setup))
-}
-
-/// A server whose connection a client opened by this frame.
-pub fn accept(rt: &impl Print, alloc: Global, setup: &[u8]) -> Result<End>
-    requires { length setup.now < 2 ^ 24 }
+    requires few { length setup.now < 2 ^ 24 }
 {
     let setup = decode(alloc, setup)?;
-    let mut server = new_end(alloc, Side::Server)?;
-    let answer = open_by(&mut server, setup);
-    show(rt, "server", &answer)?;
-    Ok(server)
+    let answer = tell(server, Event::opened_by(setup));
+    show(rt, "server", &answer)
 }
 
 /// A caller at an end asks something.
 pub fn ask(rt: &impl Print, name: &str, end: &mut End, call: Call) -> Result<()>
     requires { CanBeAsked call }
 {
-    let answer = end.step(CALLER, &Event::Asked(call));
+    let answer = tell(end, asked(call));
     show(rt, name, &answer)
 }
 
@@ -84,8 +97,8 @@ pub fn ask(rt: &impl Print, name: &str, end: &mut End, call: Call) -> Result<()>
 fn come(rt: &impl Print, alloc: Global, name: &str, end: &mut End, frame: &[u8]) -> Result<()>
     requires { length frame.now < 2 ^ 24 }
 {
-    let arrived = Event::arrived(CONNECTION, decode(alloc, frame)?);
-    let answer = end.step(CALLER, &arrived);
+    let frame = decode(alloc, frame)?;
+    let answer = tell(end, Event::arrived(CONNECTION, frame));
     show(rt, name, &answer)
 }
 
@@ -107,10 +120,10 @@ pub fn receive(
 
 /// The bytes that wait at an end, for the other one.
 pub fn send(rt: &impl Print, alloc: Global, name: &str, end: &mut End) -> Result<Vec<u8>> {
-    let mut buffer = [0; 1024];
-    let answer = end.draw(CALLER, CONNECTION, &mut buffer);
+    let mut bytes = vec![in alloc; 0; ROOM]?;
+    let answer = end.draw(CALLER, CONNECTION, &mut bytes);
     show(rt, name, &answer)?;
-    let count = answer.drawn().context("nothing waits")? as usize;
-    let bytes = buffer.get(..count).context("more than fits")?;
-    Ok(Vec::from_slice(alloc, bytes)?)
+    let count = answer.drawn().context("nothing waits")?;
+    bytes.truncate(count as usize);
+    Ok(bytes)
 }

@@ -1,14 +1,17 @@
 //! Two ends of a session in one process: a stream of three items, two of which may come at first.
 #![tactic(auto)]
 
+ghost use Rattle.std.specs.Prelude.{◌≡◌};
+ghost use Rattle.rs_wire.specs.declared.words.Side.TheVariants.{Client, Server};
+
 mod calls;
 mod ends;
 
 use anyhow::{Context, Result};
 use calls::{done, grant, next, request, take, take_job};
-use ends::{End, accept, ask, connect, receive, send};
+use ends::{End, accept, ask, connect, new_end, receive, send};
 use rs_chunk::split_frame;
-use rs_wire::{Amount, Blob};
+use rs_wire::{Amount, Blob, Side};
 use std::alloc::Global;
 use std::io::Print;
 
@@ -23,9 +26,13 @@ fn ask_for_items(rt: &impl Print, alloc: Global, client: &mut End) -> Result<Vec
     send(rt, alloc, "client", client)
 }
 
-// The request comes at the server, which takes the job in it.
-fn begin(rt: &impl Print, alloc: Global, server: &mut End, request: &[u8]) -> Result<()> {
-    receive(rt, alloc, "server", server, request)?;
+// SETUP connects the server, and the request comes after it. The server takes the job.
+fn meet(rt: &impl Print, alloc: Global, server: &mut End, bytes: &[u8]) -> Result<()>
+    requires { server.old.settings.side ≡ Server }
+{
+    let (setup, rest) = split_frame(bytes).context("no SETUP")?;
+    accept(rt, alloc, server, setup)?;
+    receive(rt, alloc, "server", server, rest)?;
     ask(rt, "server", server, take_job())
 }
 
@@ -74,36 +81,23 @@ fn take_rest(rt: &impl Print, alloc: Global, client: &mut End, bytes: &[u8]) -> 
     Ok(())
 }
 
-// The request comes at the server, and the items cross.
-fn stream(
-    rt: &impl Print,
-    alloc: Global,
-    client: &mut End,
-    server: &mut End,
-    request: &[u8],
-) -> Result<()> {
-    begin(rt, alloc, server, request)?;
+// The whole stream, between two ends at which nothing happened yet.
+fn run(rt: &impl Print, alloc: Global, client: &mut End, server: &mut End) -> Result<()>
+    requires client { client.old.settings.side ≡ Client }
+    requires server { server.old.settings.side ≡ Server }
+{
+    connect(rt, client)?;
+    let asked = ask_for_items(rt, alloc, client)?;
+    meet(rt, alloc, server, &asked)?;
     let two = send_two(rt, alloc, server)?;
     let granted = grant_one(rt, alloc, client, &two)?;
     let last = send_last(rt, alloc, server, &granted)?;
     take_rest(rt, alloc, client, &last)
 }
 
-// What the client sent first makes the server: SETUP opens the connection, and the request follows.
-fn serve(rt: &impl Print, alloc: Global, client: &mut End, bytes: &[u8]) -> Result<()> {
-    let (setup, request) = split_frame(bytes).context("no SETUP")?;
-    let mut server = accept(rt, alloc, setup)?;
-    stream(rt, alloc, client, &mut server, request)
-}
-
-// The client asks, and is served.
-fn run(rt: &impl Print, alloc: Global, client: &mut End) -> Result<()> {
-    let asked = ask_for_items(rt, alloc, client)?;
-    serve(rt, alloc, client, &asked)
-}
-
 fn main(rt: HostRuntime) -> Result<()> {
     let alloc = rt.alloc();
-    let mut client = connect(&rt, alloc)?;
-    run(&rt, alloc, &mut client)
+    let mut client = new_end(alloc, Side::Client)?;
+    let mut server = new_end(alloc, Side::Server)?;
+    run(&rt, alloc, &mut client, &mut server)
 }

@@ -2,22 +2,23 @@
 
 ghost use Rattle.std.specs.Prelude.{◌≡◌, ◌<◌, ◌^◌, IfOk, length};
 ghost use Rattle.rs_wire.specs.Calls.{CanBeAsked};
+ghost use Rattle.rs_wire.specs.Settings.{usual};
 ghost use Rattle.rs_wire.specs.declared.words.Side.TheVariants.{Client, Server};
-ghost use Rattle.rs_frame.specs.Spelling.{IsSpellable};
+ghost use Rattle.tape.specs.declared.event.Event.TheVariants as events;
+ghost use Rattle.session_model.specs.Legal.{CanBring};
+ghost use Rattle.session_core.specs.Seen.{IsNoDrawEvent};
 
+use crate::calls::{next, request, take_item, take_job};
 use anyhow::{Context, Result, ensure};
 use rs_chunk::split_frame;
-use rs_frame::{Frame, decode};
-use rs_wire::{Amount, Blob, Call, Delivery, Kind, Message, Settings, Side, check};
+use rs_frame::decode;
+use rs_wire::{Blob, Call, Checked, Delivery, Settings, Side, check};
 use session_core::Session;
 use std::alloc::Global;
 use tape::{Answer, Event, Tape};
 
 /// The bytes of an item.
 const ITEM: &[u8; 16] = b"an item of bytes";
-
-/// The most items that a request grants, 2^31 - 1.
-const MOST: u32 = 2_147_483_647;
 
 /// How many bytes a draw moves at most.
 pub const ROOM: usize = 16_384;
@@ -31,43 +32,20 @@ const STREAM: u32 = 1;
 /// The number of the one caller, at both ends.
 const CALLER: u32 = 0;
 
-// Content without metadata.
-fn plain(content: Blob) -> Message {
-    Message {
-        metadata: None,
-        content,
-    }
-}
-
-// A stream of as many items as can be granted.
-fn request(content: Blob) -> Call
-    ensures { CanBeAsked result }
+// The defaults of a side.
+fn defaults(alloc: Global, side: Side) -> Result<Checked>
+    ensures { IfOk result (λ s. s ≡ usual side) }
 {
-    Call::Request {
-        kind: Kind::Stream,
-        initial: Amount::of(MOST),
-        message: plain(content),
-        complete: false,
-    }
+    let settings = check(Settings::usual(alloc, side)?).map_err(|(_, fault)| fault)?;
+    Ok(settings)
 }
 
-// An item on the stream.
-fn next(content: Blob) -> Call
-    ensures { CanBeAsked result }
-{
-    Call::Next {
-        stream: STREAM,
-        message: plain(content),
-        complete: false,
-    }
-}
-
-// An end at which nothing happened yet, with the defaults of its side.
-fn new_end<T: Tape + Drop>(alloc: Global, side: Side, tape: T) -> Result<Session<T>>
+/// An end at which nothing happened yet, with the defaults of its side.
+pub fn new_end<T: Tape + Drop>(alloc: Global, side: Side, tape: T) -> Result<Session<T>>
     requires { T.Tape.count tape ≡ 0 }
     ensures { IfOk result (λ s. s.settings.side ≡ side) }
 {
-    let settings = check(Settings::usual(alloc, side)?).map_err(|(_, fault)| fault)?;
+    let settings = defaults(alloc, side)?;
     let session = Session::new(alloc, settings, tape).map_err(|(_, error)| error)?;
     Ok(session)
 }
@@ -78,79 +56,75 @@ fn expect(is_right: bool, answer: &Answer) -> Result<()> {
     Ok(())
 }
 
+// Something happens at an end.
+fn tell<T: Tape>(end: &mut Session<T>, event: Event) -> Answer
+    requires fair { CanBring end.old.settings event }
+    requires no_draw { IsNoDrawEvent event }
+{
+    end.step(CALLER, &event)
+}
+
+// A caller asks something.
+fn asked(call: Call) -> Event
+    ensures { result ≡ events.Asked call }
+{
+    Event::Asked(call)
+}
+
 // A caller at an end asks something.
 fn ask<T: Tape>(end: &mut Session<T>, call: Call) -> Answer
     requires { CanBeAsked call }
 {
-    end.step(CALLER, &Event::Asked(call))
+    tell(end, asked(call))
 }
 
 // A frame after the first comes at an end.
-fn come<T: Tape>(end: &mut Session<T>, frame: Frame) -> Result<()>
-    requires { IsSpellable frame }
+fn come<T: Tape>(alloc: Global, end: &mut Session<T>, frame: &[u8]) -> Result<()>
+    requires { length frame.now < 2 ^ 24 }
 {
-    let answer = end.step(CALLER, &Event::arrived(CONNECTION, frame));
+    let frame = decode(alloc, frame)?;
+    let answer = tell(end, Event::arrived(CONNECTION, frame));
     expect(matches!(&answer, Answer::Handled), &answer)
 }
 
-// A client opens its connection.
-fn open<T: Tape>(client: &mut Session<T>) -> Answer
+/// A client opens its connection.
+pub fn connect<T: Tape>(client: &mut Session<T>) -> Result<()>
     requires { client.old.settings.side ≡ Client }
 {
-    client.step(CALLER, &Event::opening())
+    let answer = tell(client, Event::opening());
+    expect(matches!(&answer, Answer::Opened(CONNECTION)), &answer)
 }
 
-// A client that opened its connection.
-fn connect<T: Tape + Drop>(alloc: Global, tape: T) -> Result<Session<T>>
-    requires { T.Tape.count tape ≡ 0 }
-{
-    let mut client = new_end(alloc, Side::Client, tape)?;
-    let answer = open(&mut client);
-    expect(matches!(&answer, Answer::Opened(CONNECTION)), &answer)?;
-    Ok(client)
+/// The client asks for the stream.
+pub fn start<T: Tape>(alloc: Global, client: &mut Session<T>) -> Result<()> {
+    let answer = ask(client, request(Blob::from_vec(Vec::new(alloc))));
+    expect(matches!(&answer, Answer::Started(STREAM)), &answer)
 }
 
-/// A client that asked for the stream.
-pub fn start<T: Tape + Drop>(alloc: Global, tape: T) -> Result<Session<T>>
-    requires { T.Tape.count tape ≡ 0 }
-{
-    let mut client = connect(alloc, tape)?;
-    let answer = ask(&mut client, request(Blob::from_vec(Vec::new(alloc))));
-    expect(matches!(&answer, Answer::Started(STREAM)), &answer)?;
-    Ok(client)
-}
-
-// The first frame comes at a server.
-fn open_by<T: Tape>(server: &mut Session<T>, setup: Frame) -> Answer
+/// The first frame opens a server's connection.
+pub fn accept<T: Tape>(alloc: Global, server: &mut Session<T>, setup: &[u8]) -> Result<()>
     requires side { server.old.settings.side ≡ Server }
-    requires spellable { IsSpellable setup }
-{
-    server.step(CALLER, &Event::opened_by(setup))
-}
-
-// A server whose connection a client opened by this frame.
-fn accept<T: Tape + Drop>(alloc: Global, tape: T, setup: &[u8]) -> Result<Session<T>>
-    requires empty { T.Tape.count tape ≡ 0 }
     requires few { length setup.now < 2 ^ 24 }
 {
     let setup = decode(alloc, setup)?;
-    let mut server = new_end(alloc, Side::Server, tape)?;
-    let answer = open_by(&mut server, setup);
-    expect(matches!(&answer, Answer::Opened(CONNECTION)), &answer)?;
-    Ok(server)
+    let answer = tell(server, Event::opened_by(setup));
+    expect(matches!(&answer, Answer::Opened(CONNECTION)), &answer)
 }
 
-/// A server that took the job, from the bytes of SETUP and of the request.
-pub fn meet<T: Tape + Drop>(alloc: Global, tape: T, bytes: &[u8]) -> Result<Session<T>>
-    requires { T.Tape.count tape ≡ 0 }
-{
-    let (setup, rest) = split_frame(bytes).context("no SETUP")?;
-    let (request, _) = split_frame(rest).context("no request")?;
-    let mut server = accept(alloc, tape, setup)?;
-    come(&mut server, decode(alloc, request)?)?;
-    let answer = ask(&mut server, Call::TakeJob);
-    expect(matches!(&answer, Answer::GotJob(_)), &answer)?;
-    Ok(server)
+/// The bytes come at an end, frame by frame.
+pub fn receive<T: Tape>(alloc: Global, end: &mut Session<T>, bytes: &[u8]) -> Result<()> {
+    let mut rest = bytes;
+    while let Some((frame, after)) = split_frame(rest) {
+        come(alloc, end, frame)?;
+        rest = after;
+    }
+    Ok(())
+}
+
+/// The server takes the job.
+pub fn take_request<T: Tape>(server: &mut Session<T>) -> Result<()> {
+    let answer = ask(server, take_job());
+    expect(matches!(&answer, Answer::GotJob(_)), &answer)
 }
 
 /// What is queued at an end goes into the buffer, as far as there is room: how many bytes.
@@ -163,7 +137,7 @@ pub fn draw<T: Tape>(end: &mut Session<T>, buffer: &mut [u8; ROOM]) -> Result<us
 // The server sends an item.
 fn send_one<T: Tape>(alloc: Global, server: &mut Session<T>) -> Result<()> {
     let content = Blob::from_slice(alloc, ITEM)?;
-    let answer = ask(server, next(content));
+    let answer = ask(server, next(STREAM, content));
     expect(matches!(&answer, Answer::Done), &answer)
 }
 
@@ -175,19 +149,9 @@ pub fn send<T: Tape>(alloc: Global, server: &mut Session<T>, items: u32) -> Resu
     Ok(())
 }
 
-/// The bytes come at the client, frame by frame.
-pub fn receive<T: Tape>(alloc: Global, client: &mut Session<T>, bytes: &[u8]) -> Result<()> {
-    let mut rest = bytes;
-    while let Some((frame, after)) = split_frame(rest) {
-        come(client, decode(alloc, frame)?)?;
-        rest = after;
-    }
-    Ok(())
-}
-
 // The client takes an item.
 fn take_one<T: Tape>(client: &mut Session<T>) -> Result<()> {
-    let answer = ask(client, Call::Take { stream: STREAM });
+    let answer = ask(client, take_item(STREAM));
     expect(matches!(&answer, Answer::Got(Delivery::Item(_))), &answer)
 }
 

@@ -1,13 +1,15 @@
-//! Times an item of a stream, of 16 bytes: from the call at the server to the answer to its frame at
-//! the client, and until the client took it, over tapes that keep no entries and over ones that do.
+//! Times an item of a stream, of 16 bytes: from the call at the server to the answer to its frame
+//! at the client, and until the client took it, over tapes that keep no entries and over ones that
+//! do.
 //!
 //! With a word, as `times`, it prints nanoseconds an item: for items that cross one by one, and for
 //! batches of which each crosses at once. With none it prints how many items the client took of
 //! short streams, so that its output is always the same.
 #![tactic(auto)]
 
-ghost use Rattle.std.specs.Prelude.{◌≡◌, ◌<◌};
+ghost use Rattle.std.specs.Prelude.{◌<◌};
 
+mod calls;
 mod ends;
 mod stream;
 
@@ -15,37 +17,21 @@ use anyhow::Result;
 use std::alloc::Global;
 use std::time::Clock;
 use std::{env, io};
-use stream::{Ends, ROUND, Run, Took};
-use tape::{Blank, Kept, Tape};
-
-// A stream between two new ends with these tapes.
-fn timed<T: Tape + Drop, R: Clock>(
-    rt: &R,
-    alloc: Global,
-    client: T,
-    server: T,
-    run: Run,
-) -> Result<Took>
-    requires client { T.Tape.count client ≡ 0 }
-    requires server { T.Tape.count server ≡ 0 }
-    requires some { 0 < run.batch }
-{
-    let mut ends = Ends::new(alloc, client, server)?;
-    ends.run(rt, alloc, run)
-}
+use stream::{ROUND, Run, Took, stream};
+use tape::{Blank, Kept};
 
 // A stream over tapes that keep no entries.
 fn blank<R: Clock>(rt: &R, alloc: Global, run: Run) -> Result<Took>
     requires { 0 < run.batch }
 {
-    timed(rt, alloc, Blank::new(), Blank::new(), run)
+    stream(rt, alloc, Blank::new(), Blank::new(), run)
 }
 
 // A stream over tapes that keep their entries.
 fn kept<R: Clock>(rt: &R, alloc: Global, run: Run) -> Result<Took>
     requires { 0 < run.batch }
 {
-    timed(rt, alloc, Kept::new(alloc), Kept::new(alloc), run)
+    stream(rt, alloc, Kept::new(alloc), Kept::new(alloc), run)
 }
 
 fn tell(rt: &impl io::Print, tape: &str, run: Run, took: Took, timed: bool) -> io::Result<()> {
