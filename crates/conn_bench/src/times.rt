@@ -107,7 +107,10 @@ pub fn time_calls<R: Threads + Wait + Sync + Clock>(
         Crowd::Four => call_in_four(rt, &connection, caller, call, times)?,
     };
     let nanos = since(rt, start, u64::from(times) * u64::from(crowd.count()))?;
-    let session = connection.close(caller).ok().context("a caller is missing")?;
+    let session = connection
+        .close(caller)
+        .ok()
+        .context("a caller is missing")?;
     let entries = session.tape().count();
     Ok(Timed { nanos, entries })
 }

@@ -22,12 +22,7 @@ use tape::{Answer, Event, Tape};
 impl<T: Tape> SharedSession<T> {
     /// Brings an event, which is no draw. It waits for a turn. An opening has a first frame exactly on
     /// a server, and frames can be spelled.
-    pub fn step<R: Wait>(
-        &self,
-        rt: &R,
-        member: Member<T>,
-        event: &Event,
-    ) -> (Member<T>, Answer)
+    pub fn step<R: Wait>(&self, rt: &R, member: Member<T>, event: &Event) -> (Member<T>, Answer)
         requires of { member.of ≡ self.now }
         requires fair { CanBring self.now.settings event.now }
         requires no_draw { IsNoDrawEvent event.now }

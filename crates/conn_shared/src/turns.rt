@@ -12,8 +12,8 @@ ghost use Rattle.conn_shared.specs.Members.{Follows, Gains, IsMember};
 ghost use Rattle.conn_shared.specs.Calls.{AreNext, IsStep};
 ghost use Rattle.conn_shared.specs.Lines.{entries_in, lines_with, settings_in};
 
-use crate::shared::SharedSession;
 use crate::looked::Looked;
+use crate::shared::SharedSession;
 use crate::stored::Stored;
 use conn_lock::{Seat, Turn};
 use std::sync::Wait;

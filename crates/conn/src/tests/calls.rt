@@ -36,12 +36,14 @@ fn a_call_is_refused_by_the_session(rt: HostRuntime) {
 // Whether the answer is the job of a fire-and-forget of `hi` on stream 1.
 fn is_the_job(answer: &Answer) -> bool {
     match answer {
-        Answer::GotJob(Job::Asked {
-            stream: 1,
-            kind: Kind::Fnf,
-            message,
-            ..
-        }) => message.content.as_slice() == b"hi".as_slice(),
+        Answer::GotJob(
+            Job::Asked {
+                stream: 1,
+                kind: Kind::Fnf,
+                message,
+                ..
+            },
+        ) => message.content.as_slice() == b"hi".as_slice(),
         _ => false,
     }
 }

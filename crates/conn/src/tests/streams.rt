@@ -314,8 +314,14 @@ fn two_more<R: Abort + Wait, T: Tape>(
     ensures same { caller.new.of ≡ connection.now }
     ensures of { (result.0.of ≡ connection.now) × (result.1.of ≡ connection.now) }
 {
-    let first = connection.split(rt, caller).ok().expect(rt, "there are parts");
-    let second = connection.split(rt, caller).ok().expect(rt, "there are parts");
+    let first = connection
+        .split(rt, caller)
+        .ok()
+        .expect(rt, "there are parts");
+    let second = connection
+        .split(rt, caller)
+        .ok()
+        .expect(rt, "there are parts");
     (first, second)
 }
 

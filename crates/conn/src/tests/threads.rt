@@ -89,7 +89,9 @@ fn share<R: Abort + Threads + Wait + Sync, T: Tape + Drop + Send>(rt: &R, alloc:
     let (connection, mut caller) = connected(rt, alloc, Side::Client, tape);
     let opened = connection.event(rt, &mut caller, &Event::opening());
     assert_eq!(rt; opened, Answer::Opened(1));
-    let other = connection.split(rt, &mut caller).expect(rt, "there are parts");
+    let other = connection
+        .split(rt, &mut caller)
+        .expect(rt, "there are parts");
     let Err((connection, caller)) = connection.close(caller) else {
         panic!(rt; "the other's parts are missing");
     };
@@ -182,7 +184,9 @@ fn wait_and_bring<R: Abort + Threads + Wait + Sync, T: Tape + Drop + Send>(
     let (connection, mut caller) = connected(rt, alloc, Side::Server, tape);
     let opened = connection.event(rt, &mut caller, &opening(rt, alloc));
     assert_eq!(rt; opened, Answer::Opened(1));
-    let other = connection.split(rt, &mut caller).expect(rt, "there are parts");
+    let other = connection
+        .split(rt, &mut caller)
+        .expect(rt, "there are parts");
     let got = wait_in_two(rt, alloc, &connection, caller, other);
     assert_eq!(rt; got, u64::from(REQUESTS));
 }
