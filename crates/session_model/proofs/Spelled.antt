@@ -8,7 +8,8 @@ use Rattle.byteorder.specs.Endian.{big_bytes}
 use Rattle.rs_wire.specs.Message.{size_of}
 use Rattle.rs_wire.specs.Words.{rule_word}
 use Rattle.rs_wire.specs.Calls.{CanBeAsked}
-use Rattle.rs_wire.specs.Settings.{IsChecked, fault_of, is_between}
+use Rattle.rs_wire.specs.Ranges.{is_between}
+use Rattle.rs_wire.specs.Settings.{IsChecked, fault_of}
 use Rattle.rs_wire.specs.declared.fault.Rule.{Rule}
 use Rattle.rs_wire.specs.declared.words.Kind.{Kind}
 use Rattle.rs_wire.specs.declared.message.Message.{Message}
