@@ -1,5 +1,5 @@
 -- When an entry makes no frame: before the session is begun, and after it is closed.
-use Rattle.std.proofs.Common.{◌≡◌, ℕ, false, [], option_to_list, Option, Some, None, refl, arith}
+use Rattle.std.proofs.Common.{◌≡◌, ℕ, false, [], Option, Some, None, refl, arith}
 use Rattle.std.proofs.lemmas.Grind.{common_steps}
 use Rattle.rs_wire.specs.declared.call.Call.{Call}
 use Rattle.rs_wire.specs.declared.call.Call.TheVariants as call
