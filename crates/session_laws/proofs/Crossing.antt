@@ -3,6 +3,7 @@ use Rattle.std.proofs.Common.{◌≡◌, ◌<◌, ℕ, true, false, zero, suc, L
 use Rattle.std.proofs.lemmas.Grind.{common_steps}
 use Rattle.std.proofs.lemmas.List.{take_at}
 use Rattle.rs_wire.specs.declared.settings.Settings.{Settings}
+use Rattle.rs_wire.specs.Settings.{IsChecked}
 use Rattle.rs_frame.specs.declared.frame.Frame.{Frame}
 use Rattle.tape.specs.declared.entry.Entry.{Entry}
 use Rattle.position.specs.Boundaries.{pos, IsBoundary}
@@ -22,6 +23,7 @@ use Rattle.session_laws.proofs.Got.{heard, begins, whole}
 
 -- an end with its entries, which does not resume
 record IsEnd (g : Settings) (past : List Entry) : Type 0 where
+  checked : IsChecked g
   legal : Legal g past
   once : g.resume ≡ false
 
@@ -38,14 +40,14 @@ begins_made g h A B c a b crossed =
     none_or_some (accepted B) (IsPrefix (handled B) (made g A))
     (λ none. rw (none_handled h B b.legal none) (prefix_nil (made g A)))
     (λ some.
-    let heard_begins = prefix_trans (heard B) (counting (due g A c)) (made g A) (crossed some) (due_begins g A c a.legal a.once) in
+    let heard_begins = prefix_trans (heard B) (counting (due g A c)) (made g A) (crossed some) (due_begins g A c a.checked a.legal a.once) in
     prefix_trans (handled B) (heard B) (made g A) (begins h B b.legal b.once) heard_begins)
 
 client_end : (g h : Settings) (C S : List Entry) → AreEnds g h C S → IsEnd g C
-client_end g h C S e = record { legal = e.client_legal; once = e.client_plain.no_resumption }
+client_end g h C S e = record { checked = e.client_plain.checked; legal = e.client_legal; once = e.client_plain.no_resumption }
 
 server_end : (g h : Settings) (C S : List Entry) → AreEnds g h C S → IsEnd h S
-server_end g h C S e = record { legal = e.server_legal; once = e.server_plain.no_resumption }
+server_end g h C S e = record { checked = e.server_plain.checked; legal = e.server_legal; once = e.server_plain.no_resumption }
 
 -- what came at the server on an opening begins what was due there at the client
 crossed_up : (g h : Settings) (C S : List Entry) (pair : ℕ → ℕ) (d : ℕ) → AreJoined g h C S pair → IsOpening S d
@@ -95,7 +97,7 @@ all_handled : (g h : Settings) (A B : List Entry) (c d : ℕ) → IsEnd g A → 
     → closed h B ≡ None → came B d ≡ due g A c → handled B ≡ made g A
 all_handled g h A B c d a b at_a at_b free same =
     let here : is_live (accepted A) c ≡ true = let at = accepted_is g A c a.legal at_a in let none = none_accepted g A a.legal in grind (arith, common_steps) in
-    let owed : counting (due g A c) ≡ made g A = rw (due_at g A c a.legal a.once, here) refl in
+    let owed : counting (due g A c) ≡ made g A = rw (due_at g A c a.checked a.legal a.once, here) refl in
     whole h B b.legal b.once free ∙ (ap (λ n. counting (came B n)) (sym (accepted_is h B d b.legal at_b)) ∙ (ap counting same ∙ owed))
 
 pub drained_up : (g h : Settings) (C S : List Entry) (c d : ℕ) → AreEnds g h C S → AreDrained g h C S c d → handled S ≡ made g C

@@ -4,6 +4,7 @@ use Rattle.std.specs.List.{filter}
 use Rattle.std.proofs.lemmas.Grind.{common_steps}
 use Rattle.std.proofs.lemmas.List.Elements.{filter-append}
 use Rattle.rs_wire.specs.declared.settings.Settings.{Settings}
+use Rattle.rs_wire.specs.Settings.{IsChecked}
 use Rattle.rs_frame.specs.declared.frame.Frame.{Frame}
 use Rattle.rs_frame.specs.Spelling.{is_resumable}
 use Rattle.tape.specs.declared.event.Event.{Event}
@@ -58,30 +59,30 @@ counting_owes : (g : Settings) (past : List Entry) (c : ℕ) (a : Answer) (e : E
 counting_owes g past c a e lines = grind (arith, common_steps)
 
 -- what counts of the frames due after an entry
-due_more : (g : Settings) (past : List Entry) (c : ℕ) (a : Answer) (e : Event) → Legal g past → g.resume ≡ false → Means g (facts g past) e a
+due_more : (g : Settings) (past : List Entry) (c : ℕ) (a : Answer) (e : Event) → IsChecked g → Legal g past → g.resume ≡ false → Means g (facts g past) e a
     → owed (made g past) (accepted past) c ++ counting (owes g past c a e) ≡ owed (made g past ++ makes g (known g past) a e) (accepted_after a (accepted past)) c
 unfolding facts
-due_more g past c (answer.Opened n) (event.Open first taken) legal once means =
+due_more g past c (answer.Opened n) (event.Open first taken) checked legal once means =
     let fresh = means.fresh in
-    rw (fresh_made g past legal fresh, fresh_none past fresh, counting_owes g past c (answer.Opened n) (event.Open first taken) (lines_count g (facts g past) (event.Open first taken) (answer.Opened n) means)) (grind (arith, common_steps))
-due_more g past c (answer.Opened n) e legal once means = absurd means
-due_more g past c answer.Parted e legal once means = grind (arith, common_steps)
-due_more g past c a e legal once means =
-    rw (counting_owes g past c a e (lines_count g (facts g past) e a means)) (owed_more (made g past) (makes g (known g past) a e) (live past) (accepted past) c (made_there g past a e legal once means))
+    rw (fresh_made g past legal fresh, fresh_none past fresh, counting_owes g past c (answer.Opened n) (event.Open first taken) (lines_count g (facts g past) (event.Open first taken) (answer.Opened n) checked means)) (grind (arith, common_steps))
+due_more g past c (answer.Opened n) e checked legal once means = absurd means
+due_more g past c answer.Parted e checked legal once means = grind (arith, common_steps)
+due_more g past c a e checked legal once means =
+    rw (counting_owes g past c a e (lines_count g (facts g past) e a checked means)) (owed_more (made g past) (makes g (known g past) a e) (live past) (accepted past) c (made_there g past a e legal once means))
 
-pub due_at : (g : Settings) (past : List Entry) (c : ℕ) → Legal g past → g.resume ≡ false → counting (due g past c) ≡ owed (made g past) (accepted past) c
+pub due_at : (g : Settings) (past : List Entry) (c : ℕ) → IsChecked g → Legal g past → g.resume ≡ false → counting (due g past c) ≡ owed (made g past) (accepted past) c
 unfolding Legal made due live accepted facts
-due_at g [] c legal once = grind (arith, common_steps)
-due_at g (x ∷ past) c legal once =
+due_at g [] c checked legal once = grind (arith, common_steps)
+due_at g (x ∷ past) c checked legal once =
     filter-append is_resumable (due g past c) (owes g past c x.answer x.event)
-    ∙ (ap (λ fs. fs ++ counting (owes g past c x.answer x.event)) (due_at g past c legal.0 once)
-    ∙ due_more g past c x.answer x.event legal.0 once (last_means g x past legal))
+    ∙ (ap (λ fs. fs ++ counting (owes g past c x.answer x.event)) (due_at g past c checked legal.0 once)
+    ∙ due_more g past c x.answer x.event checked legal.0 once (last_means g x past legal))
 
 chosen_begins : (here : Bool) (fs : List Frame) → IsPrefix (if here then fs else []) fs
 chosen_begins true fs = prefix_refl fs
 chosen_begins false fs = prefix_nil fs
 
 -- on any connection it is a prefix of all that was made
-pub due_begins : (g : Settings) (past : List Entry) (c : ℕ) → Legal g past → g.resume ≡ false → IsPrefix (counting (due g past c)) (made g past)
-due_begins g past c legal once =
-    rw (due_at g past c legal once) (chosen_begins (is_live (accepted past) c) (made g past))
+pub due_begins : (g : Settings) (past : List Entry) (c : ℕ) → IsChecked g → Legal g past → g.resume ≡ false → IsPrefix (counting (due g past c)) (made g past)
+due_begins g past c checked legal once =
+    rw (due_at g past c checked legal once) (chosen_begins (is_live (accepted past) c) (made g past))

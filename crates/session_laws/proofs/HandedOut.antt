@@ -15,6 +15,7 @@ use Rattle.tape.specs.declared.event.Event.TheVariants as event
 use Rattle.tape.specs.declared.answer.Answer.{Answer}
 use Rattle.tape.specs.declared.answer.Answer.TheVariants as answer
 use Rattle.tape.specs.declared.entry.Entry.{Entry}
+use Rattle.fragment.specs.Joining.{Gathered}
 use Rattle.stream_model.specs.Marks.{Opening, Step, Payload, RequestN, Cancel, Fail, Mark, Opens, Sent, Got, Took, TookJob}
 use Rattle.stream_model.specs.Turns.{Word, Said, Taken, Turn, is_role, is_whole, other}
 use Rattle.stream_model.specs.Streams.{brings_job, goes_on, has_room, is_admitted, jobs, jobs_in, jobs_taken, jobs_waiting, late_job, one_if, opening_job, turn}
@@ -22,7 +23,7 @@ use Rattle.stream_model.specs.Known.{front_of, known as known_after}
 use Rattle.stream_model.specs.Fair.{Fair as FairMarks, Fits}
 use Rattle.stream_model.proofs.Ids.{fresh, others_stay, same_id, turn_got, turn_job, turn_opened, turn_sent, turn_took}
 use Rattle.stream_model.proofs.Jobs.{jobs_after, jobs_more}
-use Rattle.session_model.specs.Streams.{marks_in, words}
+use Rattle.session_model.specs.Streams.{heard_in, marks_in, unfinished, words}
 use Rattle.session_model.specs.Answers.{facts}
 use Rattle.session_model.specs.Legal.{Fair, Legal}
 use Rattle.session_model.specs.Means.{Means}
@@ -162,31 +163,31 @@ taken_more most seen got j first h =
     (append_assoc got (j ∷ []) waits.0 ∙ (ap (λ (l : List Job). got ++ l) (sym waits.1) ∙ (h ∙ sym (append-nil (jobs most seen)))))
 
 -- an answer that hands out no job takes none
-quiet_marks : (a : Answer) (e : Event) → got_in a ≡ [] → AllByRecursion (λ m. jobs_in m ≡ 0) (marks_in a e)
-quiet_marks a e none = grind (arith, common_steps)
+quiet_marks : (held : ℕ → Gathered) (a : Answer) (e : Event) → got_in a ≡ [] → AllByRecursion (λ m. jobs_in m ≡ 0) (marks_in held a e)
+quiet_marks held a e none = grind (arith, common_steps)
 
-quiet_more : (g : Settings) (past : List Entry) (a : Answer) (e : Event) → got_in a ≡ [] → FairMarks g.max_streams (marks_in a e ++ words past) → jobs_got past ++ jobs_waiting g.max_streams (words past) ≡ jobs g.max_streams (words past)
-    → (jobs_got past ++ got_in a) ++ jobs_waiting g.max_streams (marks_in a e ++ words past) ≡ jobs g.max_streams (marks_in a e ++ words past)
+quiet_more : (g : Settings) (past : List Entry) (a : Answer) (e : Event) → got_in a ≡ [] → FairMarks g.max_streams (marks_in (unfinished g past) a e ++ words g past) → jobs_got past ++ jobs_waiting g.max_streams (words g past) ≡ jobs g.max_streams (words g past)
+    → (jobs_got past ++ got_in a) ++ jobs_waiting g.max_streams (marks_in (unfinished g past) a e ++ words g past) ≡ jobs g.max_streams (marks_in (unfinished g past) a e ++ words g past)
 quiet_more g past a e none fair h =
-    rw (none, append-nil (jobs_got past)) (all_added g.max_streams (marks_in a e) (words past) (jobs_got past) fair (quiet_marks a e none) h)
+    rw (none, append-nil (jobs_got past)) (all_added g.max_streams (marks_in (unfinished g past) a e) (words g past) (jobs_got past) fair (quiet_marks (unfinished g past) a e none) h)
 
-entry_more : (g : Settings) (past : List Entry) (a : Answer) (e : Event) → Means g (facts g past) e a → FairMarks g.max_streams (marks_in a e ++ words past) → jobs_got past ++ jobs_waiting g.max_streams (words past) ≡ jobs g.max_streams (words past)
-    → (jobs_got past ++ got_in a) ++ jobs_waiting g.max_streams (marks_in a e ++ words past) ≡ jobs g.max_streams (marks_in a e ++ words past)
+entry_more : (g : Settings) (past : List Entry) (a : Answer) (e : Event) → Means g (facts g past) e a → FairMarks g.max_streams (marks_in (unfinished g past) a e ++ words g past) → jobs_got past ++ jobs_waiting g.max_streams (words g past) ≡ jobs g.max_streams (words g past)
+    → (jobs_got past ++ got_in a) ++ jobs_waiting g.max_streams (marks_in (unfinished g past) a e ++ words g past) ≡ jobs g.max_streams (marks_in (unfinished g past) a e ++ words g past)
 unfolding facts known_after
-entry_more g past (answer.GotJob job) (event.Asked call.TakeJob) means fair h = taken_more g.max_streams (words past) (jobs_got past) job means h
+entry_more g past (answer.GotJob job) (event.Asked call.TakeJob) means fair h = taken_more g.max_streams (words g past) (jobs_got past) job means h
 entry_more g past (answer.GotJob job) e means fair h = absurd means
 entry_more g past a e means fair h = quiet_more g past a e refl fair h
 
-pub handed_out_first : (g : Settings) (past : List Entry) → IsLawful g past → jobs_got past ++ jobs_waiting g.max_streams (words past) ≡ jobs g.max_streams (words past)
-unfolding Legal Fair words jobs_got jobs jobs_taken jobs_waiting
+pub handed_out_first : (g : Settings) (past : List Entry) → IsLawful g past → jobs_got past ++ jobs_waiting g.max_streams (words g past) ≡ jobs g.max_streams (words g past)
+unfolding Legal Fair heard_in jobs_got jobs jobs_taken jobs_waiting
 handed_out_first g [] h = refl
 handed_out_first g (x ∷ past) h =
     entry_more g past x.answer x.event (last_means g x past h.legal) (legal_fair g (x ∷ past) h.legal h.fair) (handed_out_first g past (record { legal = h.legal.0; fair = h.fair.0 }))
 
 pub handed_out_once : (g : Settings) (past : List Entry) (s : ℕ) → IsLawful g past → jobs_on s (jobs_got past) ≤ 1
 handed_out_once g past s h =
-    let all = jobs_once g.max_streams (words past) s (legal_fair g past h.legal h.fair) in
-    let most = one_at_most (whole_turn (turn g.max_streams (words past) s)) in
-    let both = jobs_on_both s (jobs_got past) (jobs_waiting g.max_streams (words past)) in
+    let all = jobs_once g.max_streams (words g past) s (legal_fair g past h.legal h.fair) in
+    let most = one_at_most (whole_turn (turn g.max_streams (words g past) s)) in
+    let both = jobs_on_both s (jobs_got past) (jobs_waiting g.max_streams (words g past)) in
     let same = ap (jobs_on s) (handed_out_first g past h) in
     omega (arith, all, most, both, same)

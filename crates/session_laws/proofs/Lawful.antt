@@ -12,7 +12,7 @@ use Rattle.stream_model.proofs.ForGood.{over_for_good}
 use Rattle.stream_model.proofs.Lawful.{each_stream}
 use Rattle.stream_model.proofs.Places.{live_within}
 use Rattle.session_model.specs.Lists.{IsPrefix}
-use Rattle.session_model.specs.Streams.{marks_in, words}
+use Rattle.session_model.specs.Streams.{heard_in, marks_in, unfinished, words}
 use Rattle.session_model.specs.Legal.{Fair, Legal}
 use Rattle.session_model.proofs.Fairness.{legal_fair}
 use Rattle.session_laws.specs.Streams.{IsLawful, IsStream, stream}
@@ -22,17 +22,17 @@ unfolding Legal Fair
 before_lawful g [] past h = h
 before_lawful g (x ∷ more) past h = before_lawful g more past (record { legal = h.legal.0; fair = h.fair.0 })
 
-pub fair_marks : (g : Settings) (past : List Entry) → IsLawful g past → FairMarks g.max_streams (words past)
+pub fair_marks : (g : Settings) (past : List Entry) → IsLawful g past → FairMarks g.max_streams (words g past)
 fair_marks g past h = legal_fair g past h.legal h.fair
 
 pub laws_of : (g : Settings) (past : List Entry) (s : ℕ) (t : Turn) → IsStream g past s t → Laws t
-laws_of g past s t is = each_stream g.max_streams (words past) (fair_marks g past is.lawful) s t is.there
+laws_of g past s t is = each_stream g.max_streams (words g past) (fair_marks g past is.lawful) s t is.there
 
 pub taken_prefix : (g : Settings) (past : List Entry) (s : ℕ) (t : Turn) → IsStream g past s t → IsPrefix (taken t.words) (delivered t.opening t.words)
 taken_prefix g past s t is = (waiting t.opening t.words, (laws_of g past s t is).taken)
 
-pub within_limit : (g : Settings) (past : List Entry) → IsLawful g past → live g.max_streams (words past) ≤ g.max_streams
-within_limit g past h = live_within g.max_streams (words past) (fair_marks g past h)
+pub within_limit : (g : Settings) (past : List Entry) → IsLawful g past → live g.max_streams (words g past) ≤ g.max_streams
+within_limit g past h = live_within g.max_streams (words g past) (fair_marks g past h)
 
 -- a way that is over is over after more marks
 over_marks : (most : ℕ) (more seen : List Mark) (s : ℕ) (w : Way) → FairMarks most (more ++ seen) → IsOver (turn most seen s) w → IsOver (turn most (more ++ seen) s) w
@@ -41,8 +41,8 @@ over_marks most [] seen s w fair is = is
 over_marks most (m ∷ more) seen s w fair is = over_for_good most (more ++ seen) m fair s w (over_marks most more seen s w fair.0 is)
 
 pub over_later : (g : Settings) (more past : List Entry) (s : ℕ) (w : Way) → IsLawful g (more ++ past) → IsOver (stream g past s) w → IsOver (stream g (more ++ past) s) w
-unfolding Legal Fair words
+unfolding Legal Fair heard_in
 over_later g [] past s w h is = is
 over_later g (x ∷ more) past s w h is =
     let earlier : IsLawful g (more ++ past) = record { legal = h.legal.0; fair = h.fair.0 } in
-    over_marks g.max_streams (marks_in x.answer x.event) (words (more ++ past)) s w (fair_marks g (x ∷ (more ++ past)) h) (over_later g more past s w earlier is)
+    over_marks g.max_streams (marks_in (unfinished g (more ++ past)) x.answer x.event) (words g (more ++ past)) s w (fair_marks g (x ∷ (more ++ past)) h) (over_later g more past s w earlier is)

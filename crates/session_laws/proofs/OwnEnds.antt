@@ -15,7 +15,7 @@ use Rattle.stream_model.specs.Laws.{own_end}
 use Rattle.stream_model.proofs.Delivered.{dropped}
 use Rattle.stream_model.proofs.Ids.{fresh, turn_sent}
 use Rattle.stream_model.proofs.Streams.{fair_words, fits_here}
-use Rattle.session_model.specs.Streams.{marks_in, words}
+use Rattle.session_model.specs.Streams.{heard_in, marks_in, unfinished, words}
 use Rattle.session_model.specs.Legal.{Fair, Legal}
 use Rattle.session_laws.specs.Streams.{EndsReceiving, IsLawful, stream}
 use Rattle.session_laws.proofs.Lawful.{fair_marks}
@@ -64,23 +64,23 @@ marks_on most (m ∷ more) seen s before fair ended =
     ] refl
 
 entries_on : (g : Settings) (more past : List Entry) (s : ℕ) (before : List Delivery) → IsLawful g (more ++ past) → EndedAt before (stream g past s) → EndedAt before (stream g (more ++ past) s)
-unfolding Legal Fair words
+unfolding Legal Fair heard_in
 entries_on g [] past s before h ended = ended
 entries_on g (x ∷ more) past s before h ended =
     let earlier : IsLawful g (more ++ past) = record { legal = h.legal.0; fair = h.fair.0 } in
-    marks_on g.max_streams (marks_in x.answer x.event) (words (more ++ past)) s before (fair_marks g (x ∷ (more ++ past)) h) (entries_on g more past s before earlier ended)
+    marks_on g.max_streams (marks_in (unfinished g (more ++ past)) x.answer x.event) (words g (more ++ past)) s before (fair_marks g (x ∷ (more ++ past)) h) (entries_on g more past s before earlier ended)
 
 same_role : (r : Role) → is_role r r ≡ true
 same_role Requester = refl
 same_role Responder = refl
 
 ended_now : (g : Settings) (past : List Entry) (x : Entry) (s : ℕ) (t : Turn) → EndsReceiving g past x s t → EndedAt (taken t.words) (stream g (x ∷ past) s)
-unfolding words own_end taken
+unfolding heard_in own_end taken
 ended_now g past x s t e =
-    let after = turn_sent g.max_streams (words past) s e.step in
+    let after = turn_sent g.max_streams (words g past) s e.step in
     let going : goes_on (stream g past s) (λ role. Said role e.step) ≡ Some (record { opening = t.opening; words = Said t.opening.role e.step ∷ t.words }) = ap (λ o. goes_on o (λ role. Said role e.step)) e.there in
     let mine = same_role t.opening.role in
-    subst (λ marks. EndedAt (taken t.words) (turn g.max_streams (marks ++ words past) s)) (sym e.own)
+    subst (λ marks. EndedAt (taken t.words) (turn g.max_streams (marks ++ words g past) s)) (sym e.own)
     (subst (EndedAt (taken t.words)) (sym (after ∙ going)) (rw (e.receiving, mine, e.last) (grind (arith, common_steps)), refl))
 
 ended_later : (g : Settings) (more past : List Entry) (x : Entry) (s : ℕ) (t u : Turn) → IsLawful g (more ++ x ∷ past) → EndsReceiving g past x s t → stream g (more ++ x ∷ past) s ≡ Some u
@@ -94,4 +94,4 @@ takes_no_more g more past x s t u h e is = (ended_later g more past x s t u h e 
 pub nothing_waits : (g : Settings) (more past : List Entry) (x : Entry) (s : ℕ) (t u : Turn) → IsLawful g (more ++ x ∷ past) → EndsReceiving g past x s t → stream g (more ++ x ∷ past) s ≡ Some u
     → waiting u.opening u.words ≡ []
 nothing_waits g more past x s t u h e is =
-    dropped u.opening u.words (fair_words g.max_streams (words (more ++ x ∷ past)) s u (fair_marks g (more ++ x ∷ past) h) is) (ended_later g more past x s t u h e is).0
+    dropped u.opening u.words (fair_words g.max_streams (words g (more ++ x ∷ past)) s u (fair_marks g (more ++ x ∷ past) h) is) (ended_later g more past x s t u h e is).0
