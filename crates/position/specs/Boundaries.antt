@@ -1,6 +1,6 @@
 -- Positions: bytes of resumable frames, without their length fields (RSocket 1.0, "Resuming Operation"). The oldest
 -- frame is the first. What is defined by a length `len` is so of frames and of their bytes alike.
-use Rattle.std.specs.Prelude.{◌≡◌, ℕ, ◌+◌, ◌-◌, ◌==◌, nat_le, max, if◌then◌else◌, List, [], ◌∷◌, take}
+use Rattle.std.specs.Prelude.{◌≡◌, ℕ, ◌+◌, ◌-◌, ◌==◌, ◌||◌, ◌&&◌, Bool, nat_le, max, if◌then◌else◌, List, [], ◌∷◌, take}
 use Rattle.rs_frame.specs.declared.frame.Frame.{Frame}
 use Rattle.rs_frame.specs.Spelling.{length_of}
 
