@@ -26,7 +26,7 @@ join-nothing : (held : Gathered) → join held nothing ≡ held
 join-nothing held =
     same_gathered _ _ (same_message _ _ (grind (arith, common_steps)) (append-nil held.message.content)) (or-false held.complete) (or-false held.next)
 
-messages_assoc : (a b c : Message) → join_messages (join_messages a b) c ≡ join_messages a (join_messages b c)
+pub messages_assoc : (a b c : Message) → join_messages (join_messages a b) c ≡ join_messages a (join_messages b c)
 messages_assoc a b c = same_message _ _ (grind (arith, common_steps)) (append_assoc a.content b.content c.content)
 
 join-assoc : (a b c : Gathered) → join (join a b) c ≡ join a (join b c)
@@ -42,7 +42,7 @@ size-join a b = grind (arith, common_steps, length-append)
 
 -- ---- one cut
 
-cut_parts : (room : ℕ) (m : Message) → join_messages (first_part room m) (left_part room m) ≡ m
+pub cut_parts : (room : ℕ) (m : Message) → join_messages (first_part room m) (left_part room m) ≡ m
 cut_parts room m =
     same_message (join_messages (first_part room m) (left_part room m)) m
     (grind (arith, common_steps, nat_tests, take_all, take-append-drop)) (take-append-drop (room - field_length m.metadata) m.content)

@@ -11,5 +11,6 @@ pub mod Crossing
 pub mod Lawful
 pub mod OwnEnds
 pub mod ReadWords
+pub mod ReadFragments
 pub mod ReadStreams
 pub mod HandedOut

@@ -2,7 +2,7 @@
 use Rattle.std.proofs.Common.{◌≡◌, ◌<◌, ◌%◌, ◌==◌, ◌&&◌, ◌||◌, ℕ, zero, suc, Bool, true, false, cond, ltb, List, [], ◌∷◌, ◌++◌, map, Option, Some, None, option_to_list, refl, append-nil, ap, subst, sym, ◌∙◌, arith}
 use Rattle.std.proofs.lemmas.Grind.{common_steps}
 use Rattle.std.proofs.lemmas.Bool.{eqb-true}
-use Rattle.std.proofs.lemmas.List.{append_assoc}
+use Rattle.std.proofs.Math.Path.{fun_ext}
 use Rattle.std.specs.Option.{option_map}
 use Rattle.rs_wire.specs.declared.words.Role.{Role}
 use Rattle.rs_wire.specs.declared.words.Role.TheVariants.{Requester, Responder}
@@ -21,18 +21,20 @@ use Rattle.tape.specs.declared.answer.Answer.{Answer}
 use Rattle.tape.specs.declared.answer.Answer.TheVariants as answer
 use Rattle.tape.specs.declared.entry.Entry.{Entry}
 use Rattle.stream_model.specs.declared.stream.Stream.{Stream}
+use Rattle.fragment.specs.Joining.{Gathered, nothing}
+use Rattle.fragment.specs.Splitting.{follows_of}
 use Rattle.stream_model.specs.declared.arrival.Arrival.{Arrival}
 use Rattle.stream_model.specs.declared.arrival.Arrival.TheVariants as arrival
 use Rattle.stream_model.specs.Marks.{Opening, Step, Payload, RequestN, Cancel, Fail, Mark, Opens, Sent, Got, Took, TookJob}
 use Rattle.stream_model.specs.Turns.{Taken, Turn, is_over, is_response, is_role}
 use Rattle.stream_model.specs.Streams.{count_to, highest, higher, is_admitted, is_live, live, on, top, turn}
 use Rattle.stream_model.specs.Kept.{kept, stream_of}
-use Rattle.stream_model.specs.Known.{known as known_after, is_open_response}
-use Rattle.stream_model.specs.Arriving.{heard, theirs}
+use Rattle.stream_model.specs.Known.{known as known_after, hears_on, is_open_response}
+use Rattle.stream_model.specs.Arriving.{heard, no_message, said, theirs}
 use Rattle.stream_model.specs.Fair.{Fair as FairMarks}
 use Rattle.stream_model.proofs.Ids.{highest_opens, highest_said, others_stay, same_id, still_none, turn_got, turn_job, turn_opened, turn_sent, turn_took}
-use Rattle.session_model.specs.Frames.{Mark as Seen, Sent as Made, Got as Handled, marks, seen, turned_away}
-use Rattle.session_model.specs.Streams.{arrival_in, is_turned_away, known, marks_in, words}
+use Rattle.session_model.specs.Frames.{Mark as Seen, Sent as Made, Got as Handled, in_fragments, marks, request_frame, seen, sent_as, spoken, turned_away}
+use Rattle.session_model.specs.Streams.{Heard, arrival_in, gathers_of, heard_in, is_turned_away, known, marks_in, more_heard, unfinished, while_heard, words}
 use Rattle.session_model.specs.Answers.{facts}
 use Rattle.session_model.specs.Legal.{Fair, Legal}
 use Rattle.session_model.specs.Means.{Does, Means}
@@ -40,8 +42,9 @@ use Rattle.session_model.proofs.Fairness.{legal_fair}
 use Rattle.session_model.proofs.Meaning.{last_means}
 use Rattle.session_model.proofs.Refusals.{names, unrefused}
 use Rattle.session_laws.specs.Streams.{IsLawful, stream}
-use Rattle.session_laws.specs.Read.{framed, framed_step, framed_words, read, says}
-use Rattle.session_laws.proofs.ReadWords.{framed_own, framed_peers, framed_taken, same_live}
+use Rattle.session_laws.specs.Read.{Reading, framed, framed_step, framed_words, more_read, nothing_read, own_in, read, reading, reads}
+use Rattle.session_laws.proofs.ReadFragments.{IsMasked, Says, frame_says}
+use Rattle.session_laws.proofs.ReadWords.{framed_own, framed_peers, framed_taken, same_hears, same_live}
 
 -- ---- two lists of marks that tell the same streams: those of the entries, and those of the frames
 
@@ -131,10 +134,80 @@ same_stray most W R s step none h = record {
   ids = λ p. highest_said p R (Sent s step) refl ∙ h.ids p;
 }
 
--- ---- the entries
+-- ---- what is kept of messages that are not whole: the same in both
 
-no_change : (o : Opening) (step : Step) → framed_step o o.role step ≡ framed_step o o.role step
-no_change o step = refl
+twice : (b : Bool) (x y : Gathered) → cond b (cond b x y) y ≡ cond b x y
+twice true x y = refl
+twice false x y = refl
+
+mask_again : (most : ℕ) (W : List Mark) (gathered : ℕ → Gathered) → while_heard most W (while_heard most W gathered) ≡ while_heard most W gathered
+mask_again most W gathered = fun_ext (λ s. twice (hears_on ((known_after most W).kept s)) (gathered s) nothing)
+
+mask_same : (most : ℕ) (W R : List Mark) (gathered : ℕ → Gathered) → Same most W R → while_heard most R gathered ≡ while_heard most W gathered
+unfolding known_after
+mask_same most W R gathered h =
+    fun_ext (λ s. ap (λ (b : Bool). cond b (gathered s) nothing) (ap (λ (t : Option Turn). hears_on (kept t)) (h.turns s) ∙ same_hears (turn most W s)))
+
+-- what was heard and said on the streams, and what was read of the frames
+record IsRead (most : ℕ) (h : Heard) (r : Reading) : Type 0 where
+  told : Same most h.words r.marks
+  held : r.unfinished ≡ h.unfinished
+  masked : IsMasked most r
+  none : (s : ℕ) → r.begun s ≡ None
+
+-- after these words, where nothing more is gathered
+abbrev on_with : ℕ → Heard → List Mark → Heard
+on_with most h W = record { words = W; unfinished = while_heard most W h.unfinished }
+
+-- an entry of which no frame tells
+quiet : (most : ℕ) (h : Heard) (r : Reading) (W : List Mark) → IsRead most h r → Same most W r.marks → IsRead most (on_with most h W) r
+quiet most h r W is same = record {
+  told = same;
+  held = sym is.masked ∙ (mask_same most W r.marks r.unfinished same ∙ ap (while_heard most W) is.held);
+  masked = is.masked;
+  none = is.none;
+}
+
+-- a frame that was made, in its fragments
+said_more : (most : ℕ) (h : Heard) (r after : Reading) (W own : List Mark) → IsRead most h r → Says most r after own → Same most W (own ++ r.marks) → IsRead most (on_with most h W) after
+said_more most h r after W own is says same = record {
+  told = subst (Same most W) (sym says.marks) same;
+  held = says.unfinished ∙ (mask_same most W (own ++ r.marks) r.unfinished same ∙ ap (while_heard most W) is.held);
+  masked = rw (says.marks, says.unfinished) (mask_again most (own ++ r.marks) r.unfinished);
+  none = says.none;
+}
+
+-- a frame that tells nothing
+said_no_more : (most : ℕ) (h : Heard) (r after : Reading) (own : List Mark) → IsRead most h r → Says most r after own → Same most h.words (own ++ r.marks) → IsRead most h after
+said_no_more most h r after own is says same =
+    let more = said_more most h r after h.words own is says same in
+    let before = quiet most h r h.words is is.told in record {
+      told = more.told;
+      held = more.held ∙ (sym before.held ∙ is.held);
+      masked = more.masked;
+      none = more.none;
+    }
+
+-- what was heard and said, after a frame of the peer's
+abbrev on_after : ℕ → Heard → Frame → Heard
+on_after most h f = on_with most (record { words = h.words; unfinished = λ s. gathers_of f s (h.unfinished s) }) (option_to_list (option_map heard (arrival_in h.unfinished f)) ++ h.words)
+
+-- a frame that was handled
+heard_more : (most : ℕ) (h : Heard) (r : Reading) (f : Frame) → IsRead most h r
+    → Same most (option_to_list (option_map heard (arrival_in h.unfinished f)) ++ h.words) (option_to_list (option_map heard (arrival_in h.unfinished f)) ++ r.marks)
+    → IsRead most (on_after most h f) (reads most r (Handled f))
+heard_more most h r f is same =
+    let said = option_to_list (option_map heard (arrival_in h.unfinished f)) in
+    let gathered : ℕ → Gathered = λ s. gathers_of f s (h.unfinished s) in
+    let at : IsRead most (on_after most h f) (more_read most (said ++ r.marks) gathered r.begun) = record {
+      told = same;
+      held = mask_same most (said ++ h.words) (said ++ r.marks) gathered same;
+      masked = mask_again most (said ++ r.marks) gathered;
+      none = is.none;
+    } in
+    subst (λ (u : ℕ → Gathered). IsRead most (on_after most h f) (more_read most (option_to_list (option_map heard (arrival_in u f)) ++ r.marks) (λ s. gathers_of f s (u s)) r.begun)) (sym is.held) at
+
+-- ---- the entries
 
 open_response : (u : Turn) → is_over u ≡ false → is_open_response (kept (Some u)) ≡ is_response u.opening.kind
 unfolding stream_of
@@ -161,20 +234,30 @@ next_framed g past s m c f is u there =
     let still = not_over (is_over u) u f refl k in
     rw (there, open_response u still, own_role u.opening.role, and_true (is_response u.opening.kind)) refl
 
-done_same : (g : Settings) (past : List Entry) (R : List Mark) (asked : Call) → Does g (facts g past) (event.Asked asked) → Same g.max_streams (words past) R
-    → Same g.max_streams (marks_in answer.Done (event.Asked asked) ++ words past) (read (marks g (known g past) answer.Done (event.Asked asked)) ++ R)
-unfolding read facts
-done_same g past R (call.Request kind initial message complete) does h = absurd does
-done_same g past R (call.Next s m c) does h =
+-- after a call that is not refused, and whose frame goes out in fragments
+frame_more : (g : Settings) (past : List Entry) (r : Reading) (f : Frame) (W : List Mark) → follows_of f ≡ false → IsRead g.max_streams (heard_in g past) r → Same g.max_streams W (option_to_list (own_in f) ++ r.marks)
+    → IsRead g.max_streams (on_with g.max_streams (heard_in g past) W) (reading g.max_streams r (map Made (in_fragments g.mtu f)))
+frame_more g past r f W whole is same =
+    said_more g.max_streams (heard_in g past) r _ W _ is (frame_says g.max_streams g.mtu r f whole is.masked is.none) same
+
+done_read : (g : Settings) (past : List Entry) (r : Reading) (asked : Call) → Does g (facts g past) (event.Asked asked) → IsRead g.max_streams (heard_in g past) r
+    → IsRead g.max_streams (on_with g.max_streams (heard_in g past) (said 0 asked ++ words g past)) (reading g.max_streams r (map Made (sent_as g (spoken (known g past) 0 asked))))
+unfolding facts reading
+done_read g past r (call.Request kind initial message complete) does is = absurd does
+done_read g past r (call.Next s m c) does is =
     let n = names (known g past) s _ (unrefused g (facts g past) (call.Next s m c) does).state in
-    same_sent g.max_streams (words past) R s _ _ (next_framed g past s m c n.stream n.kept) h
-done_same g past R (call.Done s) does h = same_sent g.max_streams (words past) R s _ _ (λ u there. refl) h
-done_same g past R (call.Grant s n) does h = same_sent g.max_streams (words past) R s _ _ (λ u there. refl) h
-done_same g past R (call.Cancel s) does h = same_sent g.max_streams (words past) R s _ _ (λ u there. refl) h
-done_same g past R (call.Fail s code content) does h = same_sent g.max_streams (words past) R s _ _ (λ u there. refl) h
-done_same g past R (call.Take s) does h = absurd does
-done_same g past R call.TakeJob does h = absurd does
-done_same g past R call.Close does h = h
+    frame_more g past r (frame.Payload s false (c || is_open_response ((known g past).kept s)) true m) _ refl is (same_sent g.max_streams (words g past) r.marks s _ _ (next_framed g past s m c n.stream n.kept) is.told)
+done_read g past r (call.Done s) does is =
+    frame_more g past r (frame.Payload s false true false no_message) _ refl is (same_sent g.max_streams (words g past) r.marks s _ _ (λ u there. refl) is.told)
+done_read g past r (call.Grant s n) does is =
+    frame_more g past r (frame.RequestN s n) _ refl is (same_sent g.max_streams (words g past) r.marks s _ _ (λ u there. refl) is.told)
+done_read g past r (call.Cancel s) does is =
+    frame_more g past r (frame.Cancel s) _ refl is (same_sent g.max_streams (words g past) r.marks s _ _ (λ u there. refl) is.told)
+done_read g past r (call.Fail s code content) does is =
+    frame_more g past r (frame.Error s code content) _ refl is (same_sent g.max_streams (words g past) r.marks s _ _ (λ u there. refl) is.told)
+done_read g past r (call.Take s) does is = absurd does
+done_read g past r call.TakeJob does is = absurd does
+done_read g past r call.Close does is = quiet g.max_streams (heard_in g past) r (words g past) is is.told
 
 heard_same : (most : ℕ) (W R : List Mark) (o : Option Arrival) → FairMarks most (option_to_list (option_map heard o) ++ W) → Same most W R
     → Same most (option_to_list (option_map heard o) ++ W) (option_to_list (option_map heard o) ++ R)
@@ -186,72 +269,86 @@ heard_same most W R (Some (arrival.Granted s n)) fair h = same_got most W R s (R
 heard_same most W R (Some (arrival.Canceled s)) fair h = same_got most W R s Cancel h
 heard_same most W R (Some (arrival.Failed s code content)) fair h = same_got most W R s (Fail code content) h
 
-unseen : (f : Frame) → is_resumable f ≡ false → arrival_in f ≡ None
-unseen f off = grind (arith, common_steps)
+-- after a frame that counts and was handled
+counted_read : (most : ℕ) (h : Heard) (r : Reading) (f : Frame) → FairMarks most (option_to_list (option_map heard (arrival_in h.unfinished f)) ++ h.words) → IsRead most h r
+    → IsRead most (on_after most h f) (reads most r (Handled f))
+counted_read most h r f fair is = heard_more most h r f is (heard_same most h.words r.marks (arrival_in h.unfinished f) fair is.told)
 
--- a frame that is handled says the same in both, whether it counts or not
-came_same : (most : ℕ) (W R : List Mark) (f : Frame) (b : Bool) → is_resumable f ≡ b → FairMarks most (option_to_list (option_map heard (arrival_in f)) ++ W) → Same most W R
-    → Same most (option_to_list (option_map heard (arrival_in f)) ++ W) (read (map Handled (cond b (f ∷ []) [])) ++ R)
-unfolding read
-came_same most W R f true is fair h = heard_same most W R (arrival_in f) fair h
-came_same most W R f false is fair h = subst (λ (o : Option Arrival). Same most (option_to_list (option_map heard o) ++ W) R) (sym (unseen f is)) h
+-- any other says nothing on the streams
+unseen : (gathered : ℕ → Gathered) (f : Frame) → is_resumable f ≡ false → arrival_in gathered f ≡ None
+unseen gathered f off = grind (arith, common_steps)
+
+ungathered : (f : Frame) (s : ℕ) (held : Gathered) → is_resumable f ≡ false → gathers_of f s held ≡ held
+ungathered f s held off = grind (arith, common_steps)
+
+uncounted : (most : ℕ) (h : Heard) (f : Frame) → is_resumable f ≡ false → on_after most h f ≡ on_with most h h.words
+uncounted most h f off =
+    rw (unseen h.unfinished f off) (ap (λ (u : ℕ → Gathered). on_with most (record { words = h.words; unfinished = u }) h.words) (fun_ext (λ s. ungathered f s (h.unfinished s) off)))
+
+came_read : (most : ℕ) (h : Heard) (r : Reading) (f : Frame) (b : Bool) → is_resumable f ≡ b → FairMarks most (option_to_list (option_map heard (arrival_in h.unfinished f)) ++ h.words) → IsRead most h r
+    → IsRead most (on_after most h f) (reading most r (map Handled (cond b (f ∷ []) [])))
+unfolding reading
+came_read most h r f true is fair before = counted_read most h r f fair before
+came_read most h r f false is fair before = rw (uncounted most h f is) (quiet most h r h.words before before.told)
 
 -- a request that is turned away has no stream
-none_there : (g : Settings) (past : List Entry) (r : Request) (o : Opening) → highest (r.stream % 2) (words past) < r.stream → is_turned_away g (known g past) r ≡ true → o.role ≡ Responder → o.kind ≡ r.kind
-    → turn g.max_streams (Opens r.stream o ∷ words past) r.stream ≡ None
+none_there : (g : Settings) (past : List Entry) (q : Request) (o : Opening) → highest (q.stream % 2) (words g past) < q.stream → is_turned_away g (known g past) q ≡ true → o.role ≡ Responder → o.kind ≡ q.kind
+    → turn g.max_streams (Opens q.stream o ∷ words g past) q.stream ≡ None
 unfolding known_after
-none_there g past r o below away role kind = rw (turn_opened g.max_streams (words past) r.stream o below, role, kind) (grind (arith, common_steps))
+none_there g past q o below away role kind = rw (turn_opened g.max_streams (words g past) q.stream o below, role, kind) (grind (arith, common_steps))
 
-handled_request : (g : Settings) (past : List Entry) (R : List Mark) (r : Request) (b : Bool) → is_turned_away g (known g past) r ≡ b
-    → FairMarks g.max_streams (option_to_list (option_map heard (arrival_in (frame.Request r))) ++ words past) → Same g.max_streams (words past) R
-    → Same g.max_streams (option_to_list (option_map heard (arrival_in (frame.Request r))) ++ words past)
-    (read (Handled (frame.Request r) ∷ map Made (cond b (turned_away r.stream ∷ []) [])) ++ R)
-unfolding read FairMarks
-handled_request g past R r false is fair h = heard_same g.max_streams (words past) R (arrival_in (frame.Request r)) fair h
-handled_request g past R r true is fair h =
-    same_stray g.max_streams _ _ r.stream _ (none_there g past r _ fair.1.fresh is refl refl) (heard_same g.max_streams (words past) R (arrival_in (frame.Request r)) fair h)
+request_read : (g : Settings) (past : List Entry) (r : Reading) (q : Request) (b : Bool) → is_turned_away g (known g past) q ≡ b
+    → FairMarks g.max_streams (option_to_list (option_map heard (arrival_in (unfinished g past) (frame.Request q))) ++ words g past) → IsRead g.max_streams (heard_in g past) r
+    → IsRead g.max_streams (on_after g.max_streams (heard_in g past) (frame.Request q)) (reading g.max_streams r (Handled (frame.Request q) ∷ map Made (cond b (turned_away q.stream ∷ []) [])))
+unfolding reading FairMarks
+request_read g past r q false away fair is = counted_read g.max_streams (heard_in g past) r (frame.Request q) fair is
+request_read g past r q true away fair is =
+    let now = counted_read g.max_streams (heard_in g past) r (frame.Request q) fair is in
+    said_no_more g.max_streams _ _ _ _ now (frame_says g.max_streams 0 _ (turned_away q.stream) refl now.masked now.none)
+    (same_stray g.max_streams _ _ q.stream _ (none_there g past q _ fair.1.fresh away refl refl) now.told)
 
-handled_same : (g : Settings) (past : List Entry) (R : List Mark) (conn : ℕ) (f : Frame)
-    → FairMarks g.max_streams (option_to_list (option_map heard (arrival_in f)) ++ words past) → Same g.max_streams (words past) R
-    → Same g.max_streams (option_to_list (option_map heard (arrival_in f)) ++ words past) (read (marks g (known g past) answer.Handled (event.Came conn f)) ++ R)
-handled_same g past R conn (frame.Request r) fair h = handled_request g past R r (is_turned_away g (known g past) r) refl fair h
-handled_same g past R conn f fair h =
+handled_read : (g : Settings) (past : List Entry) (r : Reading) (conn : ℕ) (f : Frame)
+    → FairMarks g.max_streams (option_to_list (option_map heard (arrival_in (unfinished g past) f)) ++ words g past) → IsRead g.max_streams (heard_in g past) r
+    → IsRead g.max_streams (on_after g.max_streams (heard_in g past) f) (reading g.max_streams r (marks g (known g past) answer.Handled (event.Came conn f)))
+handled_read g past r conn (frame.Request q) fair is = request_read g past r q (is_turned_away g (known g past) q) refl fair is
+handled_read g past r conn f fair is =
     let only : marks g (known g past) answer.Handled (event.Came conn f) ≡ map Handled (cond (is_resumable f) (f ∷ []) []) = append-nil _ in
-    rw (only) (came_same g.max_streams (words past) R f (is_resumable f) refl fair h)
+    rw (only) (came_read g.max_streams (heard_in g past) r f (is_resumable f) refl fair is)
 
-entry_same : (g : Settings) (past : List Entry) (R : List Mark) (a : Answer) (e : Event) → Means g (facts g past) e a → FairMarks g.max_streams (marks_in a e ++ words past) → Same g.max_streams (words past) R
-    → Same g.max_streams (marks_in a e ++ words past) (read (marks g (known g past) a e) ++ R)
-unfolding read FairMarks
-entry_same g past R (answer.Started id) (event.Asked (call.Request kind initial message complete)) means fair h = same_opens g.max_streams (words past) R id _ fair.1.fresh h
-entry_same g past R (answer.Started id) e means fair h = absurd means
-entry_same g past R answer.Done (event.Asked asked) means fair h = done_same g past R asked means h
-entry_same g past R answer.Done e means fair h = absurd means
-entry_same g past R (answer.Got d) (event.Asked (call.Take s)) means fair h = same_took g.max_streams (words past) R s d h
-entry_same g past R (answer.Got d) e means fair h = absurd means
-entry_same g past R (answer.GotJob job) (event.Asked call.TakeJob) means fair h = same_job g.max_streams (words past) R h
-entry_same g past R (answer.GotJob job) e means fair h = absurd means
-entry_same g past R answer.Handled (event.Came conn f) means fair h = handled_same g past R conn f fair h
-entry_same g past R answer.Handled e means fair h = absurd means
-entry_same g past R a e means fair h = h
+entry_read : (g : Settings) (past : List Entry) (r : Reading) (a : Answer) (e : Event) → Means g (facts g past) e a → FairMarks g.max_streams (marks_in (unfinished g past) a e ++ words g past) → IsRead g.max_streams (heard_in g past) r
+    → IsRead g.max_streams (more_heard g.max_streams (marks_in (unfinished g past) a e ++ words g past) (heard_in g past) a e) (reading g.max_streams r (marks g (known g past) a e))
+unfolding reading FairMarks
+entry_read g past r (answer.Started id) (event.Asked (call.Request kind initial message complete)) means fair is =
+    frame_more g past r (request_frame id kind initial message complete) _ refl is (same_opens g.max_streams (words g past) r.marks id _ fair.1.fresh is.told)
+entry_read g past r (answer.Started id) e means fair is = absurd means
+entry_read g past r answer.Done (event.Asked asked) means fair is = done_read g past r asked means is
+entry_read g past r answer.Done e means fair is = absurd means
+entry_read g past r (answer.Got d) (event.Asked (call.Take s)) means fair is = quiet g.max_streams (heard_in g past) r _ is (same_took g.max_streams (words g past) r.marks s d is.told)
+entry_read g past r (answer.Got d) e means fair is = absurd means
+entry_read g past r (answer.GotJob job) (event.Asked call.TakeJob) means fair is = quiet g.max_streams (heard_in g past) r _ is (same_job g.max_streams (words g past) r.marks is.told)
+entry_read g past r (answer.GotJob job) e means fair is = absurd means
+entry_read g past r answer.Handled (event.Came conn f) means fair is = handled_read g past r conn f fair is
+entry_read g past r answer.Handled e means fair is = absurd means
+entry_read g past r a e means fair is = quiet g.max_streams (heard_in g past) r (words g past) is is.told
 
-read_more : (older newer : List Seen) → read (older ++ newer) ≡ read newer ++ read older
-unfolding read
-read_more [] newer = sym (append-nil (read newer))
-read_more (m ∷ older) newer = ap (λ (l : List Mark). l ++ says m) (read_more older newer) ∙ append_assoc (read newer) (read older) (says m)
+read_on : (most : ℕ) (r : Reading) (older newer : List Seen) → reading most r (older ++ newer) ≡ reading most (reading most r older) newer
+unfolding reading
+read_on most r [] newer = refl
+read_on most r (m ∷ older) newer = read_on most (reads most r m) older newer
 
-frames_same : (g : Settings) (past : List Entry) → IsLawful g past → Same g.max_streams (words past) (read (seen g past))
-unfolding Legal Fair seen words read turn
-frames_same g [] h = record { turns = λ s. refl; ids = λ p. refl }
-frames_same g (x ∷ past) h =
+frames_read : (g : Settings) (past : List Entry) → IsLawful g past → IsRead g.max_streams (heard_in g past) (reading g.max_streams nothing_read (seen g past))
+unfolding Legal Fair seen heard_in reading turn known_after
+frames_read g [] h = record { told = record { turns = λ s. refl; ids = λ p. refl }; held = refl; masked = refl; none = λ s. refl }
+frames_read g (x ∷ past) h =
     let before : IsLawful g past = record { legal = h.legal.0; fair = h.fair.0 } in
     let fair = legal_fair g (x ∷ past) h.legal h.fair in
-    rw (read_more (seen g past) (marks g (known g past) x.answer x.event))
-    (entry_same g past (read (seen g past)) x.answer x.event (last_means g x past h.legal) fair (frames_same g past before))
+    rw (read_on g.max_streams nothing_read (seen g past) (marks g (known g past) x.answer x.event))
+    (entry_read g past (reading g.max_streams nothing_read (seen g past)) x.answer x.event (last_means g x past h.legal) fair (frames_read g past before))
 
 -- ---- the law
 
-pub read_streams : (g : Settings) (past : List Entry) (s : ℕ) → IsLawful g past → turn g.max_streams (read (seen g past)) s ≡ framed (stream g past s)
-read_streams g past s h = (frames_same g past h).turns s
+pub read_streams : (g : Settings) (past : List Entry) (s : ℕ) → IsLawful g past → turn g.max_streams (read g.max_streams (seen g past)) s ≡ framed (stream g past s)
+read_streams g past s h = (frames_read g past h).told.turns s
 
-pub read_live : (g : Settings) (past : List Entry) → IsLawful g past → live g.max_streams (read (seen g past)) ≡ live g.max_streams (words past)
-read_live g past h = room_same g.max_streams (words past) (read (seen g past)) (frames_same g past h)
+pub read_live : (g : Settings) (past : List Entry) → IsLawful g past → live g.max_streams (read g.max_streams (seen g past)) ≡ live g.max_streams (words g past)
+read_live g past h = room_same g.max_streams (words g past) (read g.max_streams (seen g past)) (frames_read g past h).told

@@ -5,8 +5,11 @@ use Rattle.rs_wire.specs.declared.words.Role.{Role}
 use Rattle.rs_wire.specs.declared.words.Way.{Way}
 use Rattle.rs_wire.specs.declared.words.Way.TheVariants as way
 use Rattle.stream_model.specs.Marks.{Opening, Step, Payload, RequestN, Cancel, Fail}
-use Rattle.stream_model.specs.Turns.{Word, Said, Taken, Turn, ends, over, is_of_requester, is_whole, item_in, items, grants, granted, other}
+use Rattle.stream_model.specs.Turns.{Word, Said, Taken, Turn, ends, over, is_of_requester, is_over, is_whole, item_in, items, grants, granted, other}
 use Rattle.stream_model.specs.Streams.{is_live, goes_on}
+use Rattle.stream_model.specs.declared.stream.Stream.{Stream}
+use Rattle.stream_model.specs.Kept.{kept, stream_of}
+use Rattle.stream_model.specs.Known.{hears, hears_on}
 use Rattle.session_laws.specs.Read.{framed, framed_step, framed_words}
 
 same_ends : (o : Opening) (by : Role) (step : Step) (w : Way) → ends o.kind w (Said by (framed_step o by step)) ≡ ends o.kind w (Said by step)
@@ -61,6 +64,20 @@ same_granted o (Taken d ∷ xs) w = let before = same_granted o xs w in omega (a
 pub same_live : (t : Option Turn) → is_live (framed t) ≡ is_live t
 same_live None = refl
 same_live (Some t) = rw (same_over t.opening t.words way.Request, same_over t.opening t.words way.Reply) refl
+
+hears_same : (t : Turn) → hears (stream_of t.opening (framed_words t.opening t.words)) ≡ hears (stream_of t.opening t.words)
+unfolding stream_of
+hears_same t = rw (same_whole t.opening t.words, same_over t.opening t.words way.Request, same_over t.opening t.words way.Reply) refl
+
+unless_over : (over : Bool) (f f' : Stream) → hears f ≡ hears f' → hears_on (cond over None (Some f)) ≡ hears_on (cond over None (Some f'))
+unless_over true f f' same = refl
+unless_over false f f' same = same
+
+pub same_hears : (t : Option Turn) → hears_on (kept (framed t)) ≡ hears_on (kept t)
+same_hears None = refl
+same_hears (Some t) =
+    rw (same_over t.opening t.words way.Request, same_over t.opening t.words way.Reply)
+    (unless_over (is_over t) (stream_of t.opening (framed_words t.opening t.words)) (stream_of t.opening t.words) (hears_same t))
 
 -- ---- one word more
 

@@ -2,8 +2,10 @@
 //!
 //! Each function here does nothing: its clauses are laws of the entries of one end (`one_end`), of
 //! its streams (`streams`), or of two ends whose bytes crossed (`two_ends`), for sessions without
-//! resumption, leases and fragments. The frames that count are those of streams, and positions
-//! count their bytes (RSocket 1.0, "Resuming Operation").
+//! resumption and leases. The frames that count are those of streams, and positions count their
+//! bytes (RSocket 1.0, "Resuming Operation"). A frame is one that travels, so each fragment of a
+//! long request or payload is one; a word of a stream is a whole message, in however many
+//! fragments it travels (RSocket 1.0, "Fragmentation and Reassembly").
 //!
 //! The promise to the layers above: what holds here holds of every list of entries that the core
 //! leaves, since each of them is legal, and fair where the caller keeps the conditions of events.

@@ -27,11 +27,14 @@ pub fn what_came_before_is_lawful()
         IsLawful g (more ++ past) → IsLawful g past }
 {}
 
-/// The streams are what the frames say that an end made and handled, in the order of its entries:
-/// the same requests, and on each stream the same words, but that no frame tells what callers took,
-/// and that the payload of a response completes in its frame whatever its call said (RSocket 1.0,
-/// "Stream Sequences and Lifetimes"). So whether a way is over, its items, and how many were granted
-/// are read off the frames, and so is how many streams are open.
+/// The streams are what the frames say that an end made and handled, read one by one in the order
+/// of its entries: the same requests, and on each stream the same words, but that no frame tells
+/// what callers took, and that the payload of a response completes in its frame whatever its call
+/// said (RSocket 1.0, "Stream Sequences and Lifetimes"). Fragments are joined as they are read:
+/// those that this end made to the frame that they were cut from, and those that came, on streams
+/// where messages are taken in, to their message (RSocket 1.0, "Fragmentation and Reassembly"). So
+/// whether a way is over, its items, and how many were granted are read off the frames, and so is
+/// how many streams are open.
 pub fn streams_are_what_frames_say()
     ensures streams { (g : Settings) (past : List Entry) (s : ℕ) → IsLawful g past →
         turn g.max_streams (read g.max_streams (seen g past)) s ≡ framed (stream g past s) }
