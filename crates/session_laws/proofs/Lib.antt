@@ -4,10 +4,12 @@ pub mod Life
 pub mod Growth
 pub mod Agreed
 pub mod Spelled
+pub mod Counting
 pub mod Refused
-pub mod Due
-pub mod Got
-pub mod Crossing
+pub mod Quiet
+pub mod Verdict
+pub mod Runs
+pub mod FromClient
 pub mod Lawful
 pub mod OwnEnds
 pub mod ReadWords

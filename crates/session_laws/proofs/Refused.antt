@@ -10,7 +10,7 @@ use Rattle.tape.specs.declared.entry.Entry.{Entry}
 use Rattle.session_model.specs.Lists.{IsPrefix}
 use Rattle.session_model.specs.Frames.{refusal}
 use Rattle.session_model.specs.Joined.{only, refused, refuses, unless_refused}
-use Rattle.session_laws.proofs.Due.{counting, prefix_counting}
+use Rattle.session_laws.proofs.Counting.{counting, prefix_counting}
 use Rattle.session_laws.proofs.Framing.{AreSpellable, spellable-append}
 use Rattle.session_laws.proofs.Prefixes.{prefix_nil}
 
