@@ -10,6 +10,7 @@ pub mod Quiet
 pub mod Verdict
 pub mod Runs
 pub mod FromClient
+pub mod FromServer
 pub mod Follows
 pub mod Lawful
 pub mod OwnEnds

@@ -1,4 +1,5 @@
 use Rattle.session_laws.proofs.FromClient.{flows}
+use Rattle.session_laws.proofs.FromServer.{flows as server_flows}
 use Rattle.session_laws.proofs.Follows.{kept}
 use Rattle.session_laws.proofs.two_ends.handled_begins_made.Goals as goal
 
