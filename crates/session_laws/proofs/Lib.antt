@@ -12,6 +12,7 @@ pub mod Runs
 pub mod FromClient
 pub mod FromServer
 pub mod Follows
+pub mod Crossing
 pub mod Lawful
 pub mod OwnEnds
 pub mod ReadWords
