@@ -1,9 +1,10 @@
 -- Which positions are boundaries, the frames on either side of one, and where what is held begins as more is made and told.
-use Rattle.std.proofs.Common.{◌≡◌, ℕ, ◌+◌, ◌-◌, ◌==◌, ◌||◌, ◌&&◌, ◌<◌, ◌≤◌, Bool, true, false, max, List, [], ◌∷◌, ◌++◌, take, drop, refl, sym, ap, subst, ◌∙◌, arith, leb}
+use Rattle.std.proofs.Common.{◌≡◌, inl, inr, ℕ, ◌+◌, ◌-◌, ◌==◌, ◌||◌, ◌&&◌, ◌<◌, ◌≤◌, Bool, true, false, max, List, [], ◌∷◌, ◌++◌, take, drop, refl, sym, ap, subst, ◌∙◌, arith, leb}
+use Rattle.std.proofs.lemmas.Bool.{le-leb}
 use Rattle.std.proofs.lemmas.Bool.Decides.{nat_tests}
 use Rattle.std.proofs.lemmas.List.{take-append-drop}
 use Rattle.position.specs.Boundaries.{pos_by, IsBoundaryBy, is_boundary_by, acked_by, least_boundary_by, frames_from_by}
-use Rattle.position.proofs.Boundaries.{acked-at_most, acked-boundary, acked-greatest, boundary-le, boundary_after, from-kept, least-boundary, least-at_least, least-least, pos-append}
+use Rattle.position.proofs.Boundaries.{acked-at_most, acked-boundary, acked-greatest, boundary-le, boundary_after, boundary_cases, boundary_of_none, from-kept, least-boundary, least-at_least, least-least, pos-append}
 use Rattle.position.proofs.Growing.{boundary_grown, least_grown}
 
 both : (a b : Bool) → (a && b) ≡ true → (a ≡ true) × (b ≡ true)
@@ -23,6 +24,18 @@ boundary_test len (x ∷ xs) p is =
           let fits : len x ≤ p = grind (arith, nat_tests) in
           subst (IsBoundaryBy len (x ∷ xs)) (omega (arith, fits)) (boundary_after len x xs (p - len x) (boundary_test len xs (p - len x) b.1))
     ] refl is
+
+-- and the other way round
+pub test_boundary : {A : Type 0} (len : A → ℕ) (xs : List A) (p : ℕ) → IsBoundaryBy len xs p → is_boundary_by len xs p ≡ true
+unfolding is_boundary_by
+test_boundary len [] p is = let none = boundary_of_none len p is in grind (arith, nat_tests)
+test_boundary len (x ∷ xs) p is = elim (boundary_cases len x xs p is) [
+  | inl start ↦ rw start refl
+  | inr after ↦ elim (p == 0) as (λ v. (v || (leb (len x) p && is_boundary_by len xs (p - len x))) ≡ true) [
+    | true ↦ refl
+    | false ↦ rw (le-leb (len x) p after.0, test_boundary len xs (p - len x) after.1) refl
+  ]
+]
 
 -- the frames before a boundary, and those after it
 pub front_of : {A : Type 0} (len : A → ℕ) (xs : List A) (p : ℕ) → IsBoundaryBy len xs p → (front : List A) × (front ++ frames_from_by len xs p ≡ xs) × (pos_by len front ≡ p)
