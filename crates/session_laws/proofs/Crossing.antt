@@ -1,5 +1,5 @@
 -- What crossed between the two ends of a session, from the frames that one end made to those that the other handled.
-use Rattle.std.proofs.Common.{◌≡◌, ◌≢◌, ◌≤◌, ◌<◌, ◌==◌, ◌⊎◌, inl, inr, ℕ, Bool, true, false, zero, suc, List, [], ◌∷◌, ◌++◌, length, take, Option, None, refl, ap, subst, sym, ◌∙◌, append_assoc, append-nil, arith}
+use Rattle.std.proofs.Common.{◌≡◌, ◌≢◌, ◌≤◌, ◌<◌, ◌==◌, ◌⊎◌, inl, inr, ℕ, Bool, true, false, zero, suc, List, [], ◌∷◌, ◌++◌, length, take, Option, refl, ap, subst, sym, ◌∙◌, append_assoc, append-nil, arith}
 use Rattle.std.proofs.lemmas.Bool.{cases_lt}
 use Rattle.std.proofs.lemmas.Bool.Decides.{nat_tests}
 use Rattle.std.proofs.lemmas.List.{take_at}
@@ -23,7 +23,7 @@ use Rattle.session_laws.proofs.Framing.{frames_given}
 use Rattle.session_laws.proofs.FromClient.{Begun, Flow, Nothing, Resumed, Waiting, flows}
 use Rattle.session_laws.proofs.FromServer.{Begun as Opened, Flow as ServerFlow, Nothing as Unopened, Resumed as Reopened, flows as server_flows}
 use Rattle.session_laws.proofs.Life.{came_some}
-use Rattle.session_laws.proofs.Prefixes.{prefix_cons, prefix_nil, prefix_of_none, prefix_refl, prefix_trans, prefix_under}
+use Rattle.session_laws.proofs.Prefixes.{prefix_cons, prefix_of_none, prefix_refl, prefix_trans, prefix_under}
 use Rattle.session_laws.proofs.Refused.{counted_offer, due_unrefused, offered_spelled, refused_spelled}
 use Rattle.session_laws.proofs.Runs.{Runs}
 use Rattle.session_laws.proofs.Spelled.{due_spelled, came_spelled}
@@ -203,9 +203,9 @@ search (suc n) c pair = elim (search n c pair) [
   | inr none ↦ elim (pair (suc n) == c) as (λ v. (pair (suc n) == c) ≡ v → ((d : ℕ) × (0 < d) × (d ≤ suc n) × (pair d ≡ c)) ⊎ ((d : ℕ) → 0 < d → d ≤ suc n → pair d ≢ c)) [
     | true ↦ λ is. inl (suc n, omega arith, omega arith, grind (arith, nat_tests))
     | false ↦ λ is. inr (λ d above within. elim (cases_lt d (suc n)) [
-        | inl less ↦ none d above (omega arith)
-        | inr last ↦ λ same. let at : d ≡ suc n = omega arith in let paired : pair (suc n) ≡ c = ap pair (sym at) ∙ same in grind (arith, nat_tests)
-      ])
+      | inl less ↦ none d above (omega arith)
+      | inr last ↦ λ same. let at : d ≡ suc n = omega arith in let paired : pair (suc n) ≡ c = ap pair (sym at) ∙ same in grind (arith, nat_tests)
+    ])
   ] refl
 ]
 
@@ -238,7 +238,7 @@ client_joins g h C S pair j c base part p begins old = elim (search (openings S)
   | inl found ↦
       let is : IsOpening S found.0 = record { above = found.1; within = found.2 } in
       let all : IsPrefix (base ++ counting (came C c)) (made h S) =
-        subst (λ (n : ℕ). Begins g.side (came C n) (due g C n) base → IsPrefix (base ++ counting (came C n)) (made h S)) found.3 (λ b. paired_joins g h C S pair found.0 base j is b old) begins in
+      subst (λ (n : ℕ). Begins g.side (came C n) (due g C n) base → IsPrefix (base ++ counting (came C n)) (made h S)) found.3 (λ b. paired_joins g h C S pair found.0 base j is b old) begins in
       fewer base part (came C c) (made h S) p all
   | inr none ↦
       let nothing = (j.joined.unpaired c (λ d is. none d is.above is.within)).0 in

@@ -1,5 +1,5 @@
 -- What an end has handled on its live connection follows what it had handled before.
-use Rattle.std.proofs.Common.{◌≡◌, ◌≤◌, ◌<◌, ◌+◌, ◌==◌, ◌&&◌, ℕ, Bool, true, false, cond, if◌then◌else◌, List, [], ◌∷◌, ◌++◌, Option, Some, None, refl, ap, sym, subst, ◌∙◌, append_assoc, append-nil, arith}
+use Rattle.std.proofs.Common.{◌≡◌, ◌<◌, ◌+◌, ◌==◌, ℕ, Bool, true, false, if◌then◌else◌, List, [], ◌∷◌, ◌++◌, Option, Some, None, refl, ap, sym, subst, append_assoc, append-nil, arith}
 use Rattle.std.proofs.lemmas.Grind.{common_steps}
 use Rattle.std.proofs.lemmas.Bool.Decides.{nat_tests}
 use Rattle.std.proofs.lemmas.List.Elements.{filter-append}
@@ -18,7 +18,7 @@ use Rattle.tape.specs.declared.answer.Answer.{Answer}
 use Rattle.tape.specs.declared.answer.Answer.TheVariants as answer
 use Rattle.tape.specs.declared.entry.Entry.{Entry}
 use Rattle.session_model.specs.Lists.{IsPrefix, first_of}
-use Rattle.session_model.specs.Life.{begun, closed, closes, is_live, is_opened, live, live_after, openings}
+use Rattle.session_model.specs.Life.{begun, closed, closes, is_live, live, live_after, openings}
 use Rattle.session_model.specs.Frames.{bad_in, brings, came, due, first, first_bad, greets, handled, handles, owes, resume_frame, setup_frame}
 use Rattle.session_model.specs.Answers.{facts}
 use Rattle.session_model.specs.Joined.{only}
@@ -108,12 +108,12 @@ kept_other : (g : Settings) (made : List Frame) (past : List Entry) (a : Answer)
 kept_other g made past a e legal leaves means idle none same k = record {
   all = rw (none, append-nil (handled past)) k.all;
   here = λ some free.
-    let at : 0 < live past = subst (λ (n : ℕ). 0 < n) same some in
-    let q = quiet g past (live past) a e legal leaves means idle (live_itself (live past) at) free in
-    let before = k.here at (first_none (closed g past) (closes g past a e) free).0 in
-    subst (λ (n : ℕ). FollowsAfter g made past n a e) (sym same)
-    (follows_more g.side made (came past (live past)) (due g past (live past)) (handled past) (brings past (live past) e) (owes g past (live past) a e) (handles a e) (first_bad past (live past))
-    (first_of (first_bad past (live past)) (bad_in past (live past) e)) before (rw (before.clean, q.bytes) refl) (rw (q.frames, none) refl));
+      let at : 0 < live past = subst (λ (n : ℕ). 0 < n) same some in
+      let q = quiet g past (live past) a e legal leaves means idle (live_itself (live past) at) free in
+      let before = k.here at (first_none (closed g past) (closes g past a e) free).0 in
+      subst (λ (n : ℕ). FollowsAfter g made past n a e) (sym same)
+      (follows_more g.side made (came past (live past)) (due g past (live past)) (handled past) (brings past (live past) e) (owes g past (live past) a e) (handles a e) (first_bad past (live past))
+      (first_of (first_bad past (live past)) (bad_in past (live past) e)) before (rw (before.clean, q.bytes) refl) (rw (q.frames, none) refl));
 }
 
 -- a frame that is handled
@@ -131,7 +131,7 @@ kept_handled g made past conn f legal means joins k =
     let within = live_le g past legal in
     let brought : brings past l e ≡ f ∷ [] = grind (arith, common_steps) in
     let after = follows_more g.side made (came past l) (due g past l) (handled past) (brings past l e) (owes g past l answer.Handled e) (handles answer.Handled e) (first_bad past l)
-      (first_of (first_bad past l) None) before (rw clean refl) (ap counting brought) in
+    (first_of (first_bad past l) None) before (rw clean refl) (ap counting brought) in
     record {
       all = rw after.taken (joins l after.base (came past l ++ brings past l e) (prefix_refl (came past l ++ brings past l e)) after.begins after.old);
       here = λ at free. after;

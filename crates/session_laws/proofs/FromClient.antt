@@ -1,5 +1,5 @@
 -- What is due on a connection of a client, against what the client made.
-use Rattle.std.proofs.Common.{◌≡◌, ◌≤◌, ◌<◌, ◌+◌, ◌==◌, ◌&&◌, ℕ, Bool, true, false, not, cond, if◌then◌else◌, List, [], ◌∷◌, ◌++◌, Option, Some, None, refl, ap, sym, subst, ◌∙◌, append-nil, arith}
+use Rattle.std.proofs.Common.{◌≡◌, ◌<◌, ◌+◌, ◌&&◌, ℕ, Bool, true, false, not, cond, if◌then◌else◌, List, [], ◌∷◌, ◌++◌, Option, Some, None, refl, ap, sym, subst, ◌∙◌, append-nil, arith}
 use Rattle.std.proofs.lemmas.Grind.{common_steps}
 use Rattle.std.proofs.lemmas.Bool.Decides.{nat_tests}
 use Rattle.std.proofs.lemmas.List.Elements.{filter-append}
@@ -20,15 +20,15 @@ use Rattle.tape.specs.declared.answer.Answer.{Answer}
 use Rattle.tape.specs.declared.answer.Answer.TheVariants as answer
 use Rattle.tape.specs.declared.entry.Entry.{Entry}
 use Rattle.session_model.specs.Lists.{first_of}
-use Rattle.session_model.specs.Life.{begun, carrying, carrying_after, closed, closes, is_live, is_opened, live, live_after, openings}
+use Rattle.session_model.specs.Life.{begun, carrying, carrying_after, closed, closes, is_live, live, live_after, openings}
 use Rattle.session_model.specs.Streams.{known}
-use Rattle.session_model.specs.Frames.{bad_in, brings, came, due, first, first_bad, handled, handles, if_carrying, made, makes, owes, resume_frame, setup_frame}
+use Rattle.session_model.specs.Frames.{bad_in, brings, came, due, first, first_bad, handled, if_carrying, made, makes, owes, resume_frame, setup_frame}
 use Rattle.session_model.specs.Answers.{facts}
 use Rattle.session_model.specs.Legal.{Fair, IsFair, LeavesEntry, Legal}
 use Rattle.session_model.specs.Means.{Handling, Means}
 use Rattle.session_model.proofs.Meaning.{last_means}
 use Rattle.session_model.proofs.Openings.{due_later, live_le}
-use Rattle.session_laws.proofs.Counting.{counting, owes_counts, resent}
+use Rattle.session_laws.proofs.Counting.{counting, owes_counts}
 use Rattle.session_laws.proofs.Life.{bad_later, came_later, fresh_made}
 use Rattle.session_laws.proofs.Quiet.{first_none, is_handled, quiet}
 use Rattle.session_laws.proofs.Runs.{Runs, runs_off, runs_on, runs_whole}
@@ -49,7 +49,7 @@ pub data Flow (owed made came : List Frame) (bad : Option ℕ) (here flowing : B
   Begun : (s : Setup) (sent : List Frame) → owed ≡ frame.Setup s ∷ sent → Runs [] sent made here → (here ≡ true → flowing ≡ true) → Flow owed made came bad here flowing why
   Waiting : (r : Resume) (sent : List Frame) → owed ≡ frame.Resume r ∷ sent → counting sent ≡ [] → (here ≡ true → IsWaiting came bad flowing why) → Flow owed made came bad here flowing why
   Resumed : (r : Resume) (p : ℕ) (front sent rest : List Frame) → owed ≡ frame.Resume r ∷ sent → came ≡ frame.ResumeOk p ∷ rest → pos front ≡ p → Runs front sent made here
-    → (here ≡ true → flowing ≡ true) → Flow owed made came bad here flowing why
+      → (here ≡ true → flowing ≡ true) → Flow owed made came bad here flowing why
 
 -- the connection is not live afterwards
 flow_off : (owed made came new brought : List Frame) (bad bad' : Option ℕ) (here flowing flowing' : Bool) (why why' : Option Cause) → Flow owed made came bad here flowing why
@@ -140,7 +140,7 @@ not_here past c g a e off = rw off refl
 opened : (g : Settings) (past : List Entry) (c n : ℕ) (taken : Bool) → Legal g past → g.side ≡ Client → n ≡ openings past + 1 → FlowAt g past c → FlowAfter g past c (answer.Opened n) (event.Open None taken)
 opened g past c n taken legal side next f =
     elim (is_live n c) as (λ v. is_live n c ≡ v → Flow (due g past c ++ owes g past c (answer.Opened n) (event.Open None taken)) (made g past ++ []) (came past c ++ []) (first_of (first_bad past c) None) v
-        (carrying_after g (begun past) (answer.Opened n) (event.Open None taken) (carrying g past)) (first_of (closed g past) None)) [
+    (carrying_after g (begun past) (answer.Opened n) (event.Open None taken) (carrying g past)) (first_of (closed g past) None)) [
       | true ↦ λ is.
           let later : openings past < c = grind (arith, nat_tests) in
           let started = ap (λ s. not (begun past && is_client s)) side in
@@ -166,7 +166,7 @@ resumes g past c conn p checked legal means f =
     let out = owes g past c answer.Handled e in
     let front = accepted_front g past conn p means in
     elim (is_live (live past) c) as (λ v. is_live (live past) c ≡ v → Flow (due g past c) (made g past) (came past c) (first_bad past c) v (carrying g past) (closed g past)
-        → Flow (due g past c ++ out) (made g past ++ []) (came past c ++ brings past c e) (first_of (first_bad past c) None) v true (first_of (closed g past) None)) [
+    → Flow (due g past c ++ out) (made g past ++ []) (came past c ++ brings past c e) (first_of (first_bad past c) None) v true (first_of (closed g past) None)) [
       | true ↦ λ is k.
           let within = live_le g past legal in
           let here = means.here in
@@ -183,7 +183,7 @@ others : (g : Settings) (past : List Entry) (c : ℕ) (a : Answer) (e : Event) �
     → counting (owes g past c a e) ≡ (if is_live (live past) c then if_carrying (carrying g past) (makes g (known g past) a e) else [])
     → (is_live (live past) c ≡ true → carrying g past ≡ false → StaysEmpty (brings past c e) (first_bad past c) (first_of (first_bad past c) (bad_in past c e)) (closed g past) (first_of (closed g past) (closes g past a e)))
     → Flow (due g past c ++ owes g past c a e) (made g past ++ makes g (known g past) a e) (came past c ++ brings past c e) (first_of (first_bad past c) (bad_in past c e))
-      (is_live (live past) c) (carrying g past) (first_of (closed g past) (closes g past a e))
+    (is_live (live past) c) (carrying g past) (first_of (closed g past) (closes g past a e))
 others g past c a e f off counts stays =
     flow_other (due g past c) (made g past) (came past c) (owes g past c a e) (makes g (known g past) a e) (brings past c e) (first_bad past c) (first_of (first_bad past c) (bad_in past c e))
     (is_live (live past) c) (carrying g past) (closed g past) (first_of (closed g past) (closes g past a e)) f off counts stays

@@ -1,5 +1,5 @@
 -- What is due on a connection of a server, against what the server made.
-use Rattle.std.proofs.Common.{◌≡◌, ◌≤◌, ◌<◌, ◌+◌, ◌==◌, ◌&&◌, ℕ, Bool, true, false, not, cond, if◌then◌else◌, List, [], ◌∷◌, ◌++◌, Option, Some, None, refl, ap, sym, subst, ◌∙◌, append-nil, arith}
+use Rattle.std.proofs.Common.{◌≡◌, ◌<◌, ◌+◌, ◌==◌, ◌&&◌, ℕ, Bool, true, false, not, cond, if◌then◌else◌, List, [], ◌∷◌, ◌++◌, Some, None, refl, ap, sym, ◌∙◌, append-nil, arith}
 use Rattle.std.proofs.lemmas.Grind.{common_steps}
 use Rattle.std.proofs.lemmas.Bool.Decides.{nat_tests}
 use Rattle.rs_wire.specs.Settings.{IsChecked, is_client}
@@ -37,7 +37,7 @@ pub data Flow (owed made came : List Frame) (here flowing : Bool) : Type 0 where
   Nothing : owed ≡ [] → here ≡ false → Flow owed made came here flowing
   Begun : (s : Setup) (rest : List Frame) → came ≡ frame.Setup s ∷ rest → Runs [] owed made here → (here ≡ true → flowing ≡ true) → Flow owed made came here flowing
   Resumed : (r : Resume) (told : ℕ) (front sent rest : List Frame) → came ≡ frame.Resume r ∷ rest → owed ≡ frame.ResumeOk told ∷ sent → pos front ≡ r.server_position → Runs front sent made here
-    → (here ≡ true → flowing ≡ true) → Flow owed made came here flowing
+      → (here ≡ true → flowing ≡ true) → Flow owed made came here flowing
 
 -- the connection is not live afterwards
 flow_off : (owed made came new brought : List Frame) (here flowing flowing' : Bool) → Flow owed made came here flowing → Flow owed (made ++ new) (came ++ brought) false flowing'
@@ -135,7 +135,7 @@ unfolding facts
 handles_one g past d conn (frame.ResumeOk p) checked legal means k =
     let e = event.Came conn (frame.ResumeOk p) in
     elim (is_live (live past) d) as (λ v. is_live (live past) d ≡ v → Flow (due g past d) (made g past) (came past d) v (carrying g past)
-        → Flow (due g past d ++ owes g past d answer.Handled e) (made g past ++ []) (came past d ++ brings past d e) v true) [
+    → Flow (due g past d ++ owes g past d answer.Handled e) (made g past ++ []) (came past d ++ brings past d e) v true) [
       | true ↦ λ is flow. let on = flows_on (due g past d) (made g past) (came past d) (carrying g past) flow in let off = means.may.0 in absurd (cc)
       | false ↦ λ off flow. rw (not_here g past d answer.Handled e off, append-nil (due g past d)) (flow_off (due g past d) (made g past) (came past d) [] (brings past d e) false (carrying g past) true flow)
     ] refl k

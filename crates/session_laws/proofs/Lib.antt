@@ -8,6 +8,7 @@ pub mod Counting
 pub mod Refused
 pub mod Quiet
 pub mod Verdict
+pub mod Told
 pub mod Runs
 pub mod FromClient
 pub mod FromServer

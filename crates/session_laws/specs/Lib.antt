@@ -3,3 +3,4 @@ pub mod Marks
 pub mod Streams
 pub mod Read
 pub mod Jobs
+pub mod Resumption

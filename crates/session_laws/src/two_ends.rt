@@ -8,9 +8,10 @@ ghost use Rattle.position.specs.Boundaries.{IsBoundary, pos};
 ghost use Rattle.session_model.specs.Frames.{handled, made};
 ghost use Rattle.session_laws.specs.Ends.{AreDrained, AreJoined};
 
-/// What an end has handled is a prefix of what the other made, in whatever pieces the bytes came,
-/// and however many are still under way: every frame in its order, none left out, none twice and
-/// none that was never made.
+/// What an end has handled is a prefix of what the other made, over all connections of the session,
+/// in whatever pieces the bytes came, however many are lost or still under way, and however often
+/// the session was resumed: every frame in its order, none left out, none twice and none that was
+/// never made.
 pub fn handled_begins_made()
     ensures up { (g h : Settings) (C S : List Entry) (pair : ℕ → ℕ) →
         AreJoined g h C S pair → IsPrefix (handled S) (made g C) }
