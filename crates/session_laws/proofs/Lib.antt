@@ -20,3 +20,4 @@ pub mod ReadWords
 pub mod ReadFragments
 pub mod ReadStreams
 pub mod HandedOut
+pub mod Rows
