@@ -26,35 +26,35 @@ use Rattle.session_model.specs.Frames.{drawn, due, first, handled, made, queued,
 use Rattle.session_model.specs.Life.{begun, carrying, closed, live, openings, setup, told}
 
 -- both ends agree to resumption; the client's token is "t"
-client : Settings
+abbrev client : Settings
 client = record (usual Client) { resume = true; token = 116 ∷ [] }
 
-server : Settings
+abbrev server : Settings
 server = record (usual Server) { resume = true }
 
-entry : Event → Answer → Entry
+abbrev entry : Event → Answer → Entry
 entry e a = record { who = 0; event = e; answer = a }
 
 -- a fire-and-forget of "hi"
-hi : Message
+abbrev hi : Message
 hi = record { metadata = None; content = 104 ∷ 105 ∷ [] }
 
-request : Frame
+abbrev request : Frame
 request = request_frame 1 kind.Fnf None hi false
 
-opens : Entry
+abbrev opens : Entry
 opens = entry (event.Open None false) (answer.Opened 1)
 
-asks : Entry
+abbrev asks : Entry
 asks = entry (event.Asked (call.Request kind.Fnf None hi false)) (answer.Started 1)
 
-cut : Entry
+abbrev cut : Entry
 cut = entry (event.Cut 1) answer.Parted
 
-opens_again : Entry
+abbrev opens_again : Entry
 opens_again = entry (event.Open None false) (answer.Opened 2)
 
-ok : ℕ → Answer → Entry
+abbrev ok : ℕ → Answer → Entry
 ok position a = entry (event.Came 2 (frame.ResumeOk position)) a
 
 -- the client's answers
@@ -64,7 +64,7 @@ client_answers :
     × (answer_to client (opens_again ∷ cut ∷ asks ∷ opens ∷ []) (event.Came 2 (frame.ResumeOk 0)) ≡ answer.Handled)
     × (answer_to client (opens_again ∷ cut ∷ asks ∷ opens ∷ []) (event.Came 2 (frame.ResumeOk 3)) ≡ answer.ResumeRefused gone.NotBoundary)
     × (answer_to client (opens_again ∷ cut ∷ asks ∷ opens ∷ []) (event.Came 2 (frame.ResumeOk 9)) ≡ answer.ResumeRefused (gone.Ahead 8))
-unfolding client entry hi request opens asks cut opens_again facts openings live begun carrying setup told closed made handled drawn due queued refused_call pos_by acked_by least_boundary_by is_boundary_by frames_from_by known_after heard_in highest count_to turn fragments over jobs jobs_taken jobs_waiting
+unfolding facts openings live begun carrying setup told closed made handled drawn due queued refused_call pos_by acked_by least_boundary_by is_boundary_by frames_from_by known_after heard_in highest count_to turn fragments over jobs jobs_taken jobs_waiting
 client_answers = (refl, refl, refl, refl, refl)
 
 -- what is due on its second connection before RESUME_OK comes, after one of 0 and after one of 8, where what it holds begins after that, and what
@@ -75,16 +75,16 @@ client_frames :
     × (due client (ok 8 answer.Handled ∷ opens_again ∷ cut ∷ asks ∷ opens ∷ []) 2 ≡ resume_frame client 0 0 ∷ [])
     × (first client (ok 8 answer.Handled ∷ opens_again ∷ cut ∷ asks ∷ opens ∷ []) ≡ 8)
     × (closed client (ok 9 (answer.ResumeRefused (gone.Ahead 8)) ∷ opens_again ∷ cut ∷ asks ∷ opens ∷ []) ≡ Some (cause.Resume (gone.Ahead 8)))
-unfolding client entry hi request opens asks cut opens_again ok openings live begun carrying setup told closed made handled drawn due pos_by acked_by least_boundary_by frames_from_by known_after heard_in highest count_to turn fragments over jobs jobs_taken jobs_waiting
+unfolding openings live begun carrying setup told closed made handled drawn due pos_by acked_by least_boundary_by frames_from_by known_after heard_in highest count_to turn fragments over jobs jobs_taken jobs_waiting
 client_frames = (refl, refl, refl, refl, refl)
 
-accepts : Entry
+abbrev accepts : Entry
 accepts = entry (event.Open (Some (setup_frame client)) false) (answer.Opened 1)
 
-handles : Entry
+abbrev handles : Entry
 handles = entry (event.Came 1 request) answer.Handled
 
-resumes : Entry
+abbrev resumes : Entry
 resumes = entry (event.Open (Some (resume_frame client 0 0)) false) (answer.Opened 2)
 
 -- the server's answers, and what is due on its second connection
@@ -93,5 +93,5 @@ server_rows :
     × (answer_to server (accepts ∷ []) handles.event ≡ answer.Handled)
     × (answer_to server (cut ∷ handles ∷ accepts ∷ []) resumes.event ≡ answer.Opened 2)
     × (due server (resumes ∷ cut ∷ handles ∷ accepts ∷ []) 2 ≡ frame.ResumeOk 8 ∷ [])
-unfolding client server entry hi request cut accepts handles resumes facts openings live begun carrying setup told closed made handled drawn due queued broken_rule pos_by acked_by least_boundary_by is_boundary_by frames_from_by known_after heard_in highest count_to turn fragments over jobs jobs_taken jobs_waiting
+unfolding facts openings live begun carrying setup told closed made handled drawn due queued broken_rule pos_by acked_by least_boundary_by is_boundary_by frames_from_by known_after heard_in highest count_to turn fragments over jobs jobs_taken jobs_waiting
 server_rows = (refl, refl, refl, refl)
