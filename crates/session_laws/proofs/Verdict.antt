@@ -119,7 +119,8 @@ opened_only None (Some x) n is = absurd (cc)
 opened_only None None n is = (refl, refl)
 
 -- in the words of the entries
-kept_by : (g : Settings) (past : List Entry) (r : Resume) (token : Option (List ℕ)) → asked_token (setup past) ≡ token → closed g past ≡ None → gone_with (facts g past) r token ≡ None → CanResume g past r
+kept_by : (g : Settings) (past : List Entry) (r : Resume) (token : Option (List ℕ)) → asked_token (setup past) ≡ token → closed g past ≡ None
+    → gone_with (facts g past) r token ≡ None → CanResume g past r
 unfolding facts
 kept_by g past r None is free none = absurd (cc)
 kept_by g past r (Some token) is free none =
@@ -147,10 +148,12 @@ keeps g past r can =
     } in
     subst (λ o. gone_with (facts g past) r o ≡ None) (sym token) (no_fault (facts g past) r r.token u)
 
-pub resume_accepted : (g : Settings) (past : List Entry) (r : Resume) (taken : Bool) → (answer_to g past (event.Open (Some (frame.Resume r)) taken) ≡ answer.Opened (openings past + 1)) ↔ CanResume g past r
+pub resume_accepted : (g : Settings) (past : List Entry) (r : Resume) (taken : Bool)
+    → (answer_to g past (event.Open (Some (frame.Resume r)) taken) ≡ answer.Opened (openings past + 1)) ↔ CanResume g past r
 unfolding facts
 resume_accepted g past r taken = (
-  λ is. let both = opened_only (closed g past) (resume_gone (facts g past) r) (openings past + 1) is in kept_by g past r (asked_token (setup past)) refl both.0 both.1,
+  λ is. let both = opened_only (closed g past) (resume_gone (facts g past) r) (openings past + 1) is in kept_by g past r (asked_token (setup past))
+      refl both.0 both.1,
   λ can. rw (can.free, keeps g past r can) refl,
 )
 
@@ -206,7 +209,8 @@ ok_answer : Bool → Option Cause → Bool → Bool → Option Gone → ℕ → 
 ok_answer here why busy carries o now queued =
     cond here (unless_closed why (cond busy (answer.OutBusy queued) (cond carries (answer.Violation rule.NotNow) (handled_unless_gone o)))) (answer.Stale now)
 
-handled_only : (here : Bool) (why : Option Cause) (busy carries : Bool) (o : Option Gone) (now queued : ℕ) → ok_answer here why busy carries o now queued ≡ answer.Handled → IsOkHandled here why busy carries o
+handled_only : (here : Bool) (why : Option Cause) (busy carries : Bool) (o : Option Gone) (now queued : ℕ)
+    → ok_answer here why busy carries o now queued ≡ answer.Handled → IsOkHandled here why busy carries o
 unfolding ok_answer
 handled_only false why busy carries o now queued is = absurd (cc)
 handled_only true (Some x) busy carries o now queued is = absurd (cc)
@@ -216,7 +220,8 @@ handled_only true None false false (Some x) now queued is = absurd (cc)
 handled_only true None false false None now queued is = record { live = refl; free = refl; place = refl; waits = refl; holds = refl }
 
 ok_handled_so : (g : Settings) (past : List Entry) (conn position : ℕ)
-    → IsOkHandled (is_live (live past) conn) (closed g past) (ltb (out_limit_of g) (queued g past + length_of (frame.ResumeOk position) + ANSWER_ROOM)) (carrying g past) (ok_gone (facts g past) position)
+    → IsOkHandled (is_live (live past) conn) (closed g past)
+    (ltb (out_limit_of g) (queued g past + length_of (frame.ResumeOk position) + ANSWER_ROOM)) (carrying g past) (ok_gone (facts g past) position)
     → CanGoOn g past conn position
 unfolding facts
 ok_handled_so g past conn position h =
@@ -240,12 +245,16 @@ goes_on g past conn position can =
       boundary = test_boundary length_of (made g past) position holds.boundary;
     })
 
-pub ok_handled : (g : Settings) (past : List Entry) (conn position : ℕ) → (answer_to g past (event.Came conn (frame.ResumeOk position)) ≡ answer.Handled) ↔ CanGoOn g past conn position
+pub ok_handled : (g : Settings) (past : List Entry) (conn position : ℕ)
+    → (answer_to g past (event.Came conn (frame.ResumeOk position)) ≡ answer.Handled) ↔ CanGoOn g past conn position
 unfolding facts ok_answer
 ok_handled g past conn position = (
   λ is. ok_handled_so g past conn position
-      (handled_only (is_live (live past) conn) (closed g past) (ltb (out_limit_of g) (queued g past + length_of (frame.ResumeOk position) + ANSWER_ROOM)) (carrying g past) (ok_gone (facts g past) position) (live past) (queued g past) is),
+      (handled_only (is_live (live past) conn) (closed g past)
+      (ltb (out_limit_of g) (queued g past + length_of (frame.ResumeOk position) + ANSWER_ROOM)) (carrying g past)
+      (ok_gone (facts g past) position) (live past) (queued g past) is),
   λ can.
-      let place : ltb (out_limit_of g) (queued g past + length_of (frame.ResumeOk position) + ANSWER_ROOM) ≡ false = let le = can.place in grind (arith, nat_tests) in
+      let place : ltb (out_limit_of g) (queued g past + length_of (frame.ResumeOk position) + ANSWER_ROOM) ≡ false = let le = can.place in grind
+      (arith, nat_tests) in
       rw (can.here, can.free, place, can.waits, goes_on g past conn position can) refl,
 )
