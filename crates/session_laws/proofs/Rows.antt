@@ -1,5 +1,5 @@
 -- A session that is cut and resumed, entry by entry: the worked example of resumption in docs/definitions.md, by computing.
-use Rattle.std.proofs.Common.{◌≡◌, ℕ, false, true, List, [], ◌∷◌, Some, None, refl}
+use Rattle.std.proofs.Common.{◌≡◌, ℕ, false, true, [], ◌∷◌, Some, None, refl}
 use Rattle.rs_wire.specs.Settings.{usual}
 use Rattle.rs_wire.specs.declared.words.Side.TheVariants.{Client, Server}
 use Rattle.rs_wire.specs.declared.words.Kind.TheVariants as kind
