@@ -8,11 +8,7 @@ use Rattle.rs_frame.specs.declared.frame.Frame.{Frame}
 use Rattle.rs_frame.specs.declared.frame.Frame.TheVariants as frames
 use Rattle.rs_frame.specs.declared.frame.Request.{Request}
 use Rattle.rs_frame.specs.Spelling.{length_of, if_there, number_there, payload, IsSpellable}
-use Rattle.fragment.specs.Splitting.{IsSplittable, carried_by, field_length, left_metadata, room_of, first_fragment, rest_after}
-
--- how many bytes a message takes in a frame
-abbrev pub carried_length : Message → ℕ
-carried_length m = field_length m.metadata + length m.content
+use Rattle.fragment.specs.Splitting.{IsSplittable, carried_by, head_length, field_length, carried_length, left_metadata, room_of, first_fragment, rest_after}
 
 payload_length : (md : Option (List ℕ)) (content : List ℕ) → length (if_there 3 md ++ content) ≡ field_length md + length content
 payload_length md content = grind (arith, common_steps, length-append)
@@ -26,6 +22,10 @@ length_request r = omega (arith, length-append (number_there r.initial) (payload
 length_payload : (stream : ℕ) (follows complete next : Bool) (m : Message) → length_of (frames.Payload stream follows complete next m) ≡ 6 + carried_length m
 length_payload stream follows complete next m = omega (arith, payload_length m.metadata m.content)
 
+-- a frame's length is that of its head and of what it carries
+pub length_carried : (f : Frame) → IsSplittable f → length_of f ≡ head_length f + carried_length (carried_by f)
+length_carried f whole = grind (arith, common_steps, length_request, length_payload)
+
 -- a request or a payload without F, that is longer than an mtu of 64 or more
 pub record IsLong (mtu : ℕ) (f : Frame) : Type 0 where
   pub whole : IsSplittable f
@@ -38,7 +38,7 @@ part_full : (room : ℕ) (md : Option (List ℕ)) (content : List ℕ) → 3 ≤
 part_full room md content low over = grind (arith, length-take)
 
 -- what is left is shorter by the room but for the metadata's length
-part_left : (room : ℕ) (md : Option (List ℕ)) (content : List ℕ) → 3 ≤ room → room < field_length md + length content
+pub part_left : (room : ℕ) (md : Option (List ℕ)) (content : List ℕ) → 3 ≤ room → room < field_length md + length content
     → field_length (left_metadata (room - 3) md) + length (drop (room - field_length md) content) + (room - 3) ≤ field_length md + length content
 part_left room md content low over = grind (arith, nat_tests, length-drop)
 

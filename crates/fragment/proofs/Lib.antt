@@ -1,3 +1,4 @@
 pub mod Cuts
 pub mod Splits
 pub mod Joins
+pub mod Sizes

@@ -1,7 +1,7 @@
 -- How the parts of a message are joined (RSocket 1.0, "Fragmentation and Reassembly").
-use Rattle.std.specs.Prelude.{◌≡◌, ◌<◌, ◌≤◌, ℕ, nat_lt, Bool, true, false, ◌||◌, List, [], ◌∷◌, ◌++◌, Option, Some, None, Result, Ok, Err, if◌then◌else◌}
+use Rattle.std.specs.Prelude.{◌≡◌, ◌<◌, ◌≤◌, ◌^◌, ℕ, nat_lt, Bool, true, false, ◌||◌, List, [], ◌∷◌, ◌++◌, length, Option, Some, None, Result, Ok, Err, if◌then◌else◌}
 use Rattle.rs_wire.specs.declared.message.Message.{Message}
-use Rattle.rs_wire.specs.Message.{size_of}
+use Rattle.rs_wire.specs.Message.{option_length, size_of}
 use Rattle.rs_frame.specs.declared.frame.Frame.{Frame}
 use Rattle.fragment.specs.declared.glue.Glued.{Glued}
 use Rattle.fragment.specs.declared.glue.Glued.TheVariants.{Part, Whole}
@@ -14,6 +14,12 @@ pub record Gathered : Type 0 where
   pub message : Message
   pub complete : Bool
   pub next : Bool
+
+-- what a gathering is seen as: what it holds, and how many bytes more of each are sure to fit
+pub record GatheringView : Type 0 where
+  pub held : Gathered
+  pub metadata_room : ℕ
+  pub content_room : ℕ
 
 -- what a glue is seen as: what it holds, and how many bytes that may be at most
 pub record Holding : Type 0 where
@@ -39,9 +45,19 @@ join held part = record {
   next = held.next || part.next;
 }
 
--- what a glue holds once it has taken in a part
+-- what is held once a part is taken in: what it carries, and whether it has C and N
+abbrev pub with_part : Gathered → Message → Bool → Bool → Gathered
+with_part held message complete next = join held (record { message = message; complete = complete; next = next })
+
+-- the same of a glue
 abbrev pub grown : Holding → Message → Bool → Bool → Gathered
-grown glue message complete next = join glue.held (record { message = message; complete = complete; next = next })
+grown glue message complete next = with_part glue.held message complete next
+
+-- the part fits, and what is held stays below 2 ^ 62 bytes
+abbrev pub HasRoomFor : GatheringView → Message → Type 0
+HasRoomFor g m =
+    (option_length m.metadata ≤ g.metadata_room) × (length m.content ≤ g.content_room)
+    × (size_of (join_messages g.held.message m) < 2 ^ 62)
 
 -- the parts of a message, in order
 abbrev pub joined : List Gathered → Gathered

@@ -51,6 +51,10 @@ abbrev pub field_length : Option (List ℕ) → ℕ
 field_length None = 0
 field_length (Some bytes) = 3 + length bytes
 
+-- how many bytes a message takes in a frame
+abbrev pub carried_length : Message → ℕ
+carried_length m = field_length m.metadata + length m.content
+
 -- what stands in a fragment that has this room: as much metadata as fits, then as much content
 abbrev pub first_part : ℕ → Message → Message
 first_part room m = record {

@@ -5,10 +5,10 @@ ghost use Rattle.rs_frame.specs.declared.frame.Frame.{Frame};
 ghost use Rattle.rs_wire.specs.Message.{size_of};
 ghost use Rattle.fragment.specs.Joining.{nothing, empty_glue, grown, glued_of, left_held, answers, IsGlueFaultOf, IsPushOf};
 
-use rs_wire::{Blob, Message, OutOfMemory};
-use std::alloc::{AllocError, Global};
+use crate::gathering::Gathering;
+use rs_wire::{Message, OutOfMemory};
+use std::alloc::Global;
 use std::marker::Model;
-use std::mem;
 use thiserror::Error;
 
 /// What a push gives.
@@ -55,35 +55,19 @@ impl From<OutOfMemory> for GlueFault {
 #[derive(Debug, Drop)]
 pub struct Glue {
     max_payload: u32,
-    // Whether a fragment had M; without, the metadata is empty.
-    has_metadata: bool,
-    metadata: Vec<u8>,
-    content: Vec<u8>,
-    complete: bool,
-    next: bool,
+    gathering: Gathering,
 }
 
 impl Model for Glue {
-    ghost use Rattle.std.specs.Prelude.{◌≡◌, ◌≤◌, ◌+◌, false, Some, None, vec_len, if◌then◌else◌};
-    ghost use Rattle.fragment.specs.Joining.{Gathered, Holding};
+    ghost use Rattle.std.specs.Prelude.{◌≤◌};
+    ghost use Rattle.rs_wire.specs.Message.{size_of};
+    ghost use Rattle.fragment.specs.Joining.{Holding};
 
     ghost Value = { Holding };
 
-    ghost view = { λ g. record {
-      max_payload = g.max_payload;
-      held = record {
-        message = record {
-          metadata = (if g.has_metadata then Some g.metadata.items else None);
-          content = g.content.items;
-        };
-        complete = g.complete;
-        next = g.next;
-      };
-    } };
+    ghost view = { λ g. record { max_payload = g.max_payload; held = g.gathering.held } };
 
-    ghost invariant = { λ g.
-        (g.has_metadata ≡ false → vec_len g.metadata ≡ 0)
-        × (vec_len g.metadata + vec_len g.content ≤ g.max_payload) };
+    ghost invariant = { λ g. size_of g.gathering.held.message ≤ g.max_payload };
 }
 
 impl Glue {
@@ -93,11 +77,7 @@ impl Glue {
     {
         Glue {
             max_payload,
-            has_metadata: false,
-            metadata: Vec::new(alloc),
-            content: Vec::new(alloc),
-            complete: false,
-            next: false,
+            gathering: Gathering::new(alloc),
         }
     }
 
@@ -106,7 +86,7 @@ impl Glue {
         ensures value { result ≡ size_of self.now.held.message }
         ensures bound { result ≤ self.now.max_payload }
     {
-        self.metadata.len() as u64 + self.content.len() as u64
+        self.gathering.size()
     }
 
     // Takes a part in that does not pass the limit.
@@ -117,16 +97,8 @@ impl Glue {
         ensures limit { self.new.max_payload ≡ self.old.max_payload }
         ensures kept { OnErr result (self.new ≡ self.old) }
     {
-        if let Some(metadata) = &message.metadata {
-            self.metadata.reserve(metadata.len())?;
-        }
-        self.content.extend_from_slice(message.content.as_slice())?;
-        if let Some(metadata) = &message.metadata {
-            let _ = self.metadata.extend_from_slice(metadata.as_slice());
-            self.has_metadata = true;
-        }
-        self.complete = self.complete || complete;
-        self.next = self.next || next;
+        self.gathering.reserve(message)?;
+        self.gathering.push(message, complete, next);
         Ok(())
     }
 
@@ -136,28 +108,7 @@ impl Glue {
         ensures empty { self.new.held ≡ nothing }
         ensures limit { self.new.max_payload ≡ self.old.max_payload }
     {
-        let empty = Glue::new(*self.content.allocator(), self.max_payload);
-        let Glue {
-            max_payload: _,
-            has_metadata,
-            metadata,
-            content,
-            complete,
-            next,
-        } = mem::replace(self, empty);
-        let metadata = if has_metadata {
-            Some(Blob::from_vec(metadata))
-        } else {
-            None
-        };
-        Glued::Whole {
-            message: Message {
-                metadata,
-                content: Blob::from_vec(content),
-            },
-            complete,
-            next,
-        }
+        self.gathering.take().into_whole()
     }
 
     /// Takes in the next fragment: whether it has F, what it carries, and whether it has C and N,

@@ -16,14 +16,18 @@
 #![tactic(auto)]
 
 mod frames;
+mod gathering;
 mod glue;
 mod laws;
 mod parts;
+mod size;
 mod splitting;
 
 pub use frames::Frames;
+pub use gathering::Gathering;
 pub use glue::{Glue, GlueFault, Glued};
 pub use laws::fragment_laws;
+pub use size::{SplitSize, split_size};
 pub use splitting::split;
 
 #[cfg(test)]

@@ -193,6 +193,31 @@ fn a_channel_is_complete_with_its_last_fragment(rt: HostRuntime) -> Result<(), F
     splits_into(&rt, rt.alloc(), channel(rt.alloc(), 100), 64, &expected)
 }
 
+#[test]
+fn the_size_of_a_split_is_known_before_it_is_made(rt: HostRuntime) -> Result<(), Fail> {
+    // Metadata, content, head, mtu; then how many frames and bytes.
+    let rows = [
+        (None, 100, 6, 0, 1, 106),
+        (None, 58, 6, 64, 1, 64),
+        (None, 59, 6, 64, 2, 71),
+        (None, 100, 10, 64, 2, 116),
+        (Some(55), 1, 6, 64, 2, 71),
+        (Some(56), 1, 6, 64, 2, 75),
+        (Some(0), 60, 6, 64, 2, 75),
+        (None, 0, 6, 64, 1, 6),
+        (Some(130), 70, 6, 64, 4, 233),
+    ];
+    for (metadata, content, head, mtu, frames, bytes) in rows {
+        let message = sized(rt.alloc(), metadata, content)?;
+        assert!(rt; message.size() < 1000 && head <= 10 && (mtu == 0 || mtu == 64));
+        assert_eq!(rt;
+            split_size(&message, head, mtu),
+            SplitSize { frames, bytes }
+        );
+    }
+    Ok(())
+}
+
 // That the glue answers so to this part.
 fn answers<R: Abort>(
     rt: &R,

@@ -1,27 +1,27 @@
 -- What is known of a call that is refused, or not.
-use Rattle.std.proofs.Common.{◌≡◌, ◌≢◌, ℕ, Option, Some, None, refl, subst, sym}
-use Rattle.std.specs.Option.{option_map}
+use Rattle.std.proofs.Common.{◌≡◌, ◌≢◌, ℕ, List, Option, Some, None, refl, subst, sym}
 use Rattle.rs_wire.specs.declared.fault.Refusal.{Refusal}
 use Rattle.rs_wire.specs.declared.settings.Settings.{Settings}
 use Rattle.rs_wire.specs.declared.call.Call.{Call}
 use Rattle.rs_wire.specs.declared.call.Call.TheVariants as call
 use Rattle.rs_frame.specs.declared.frame.Frame.{Frame}
-use Rattle.rs_frame.specs.Spelling.{length_of}
+use Rattle.fragment.specs.declared.size.SplitSize.{SplitSize}
 use Rattle.stream_model.specs.declared.stream.Limits.{Limits}
 use Rattle.stream_model.specs.Known.{Known, next_id}
 use Rattle.stream_model.specs.Refused.{by_ids}
 use Rattle.interactions.specs.Seen.{known_to}
-use Rattle.session_model.specs.Frames.{spoken}
-use Rattle.session_model.specs.Answers.{Facts, by_sending, refused_call, refused_sending}
+use Rattle.session_model.specs.Frames.{in_fragments, spoken}
+use Rattle.session_model.specs.Answers.{Facts, by_sending, refused_call, refused_frames, refused_sending}
 use Rattle.session_model.proofs.Refusals.{unrefused}
 use Rattle.session_core.specs.declared.state.State.{State}
 use Rattle.session_core.specs.Fits.{AreLimits, facts_of}
+use Rattle.session_core.specs.Sizes.{size_of_frames, size_sent}
 
--- a frame is refused by its length
-pub by_length : (g : Settings) (t : Facts) (o : Option Frame) (n : ℕ) (r : Option Refusal) → Some n ≡ option_map length_of o
-    → ((f : Frame) → length_of f ≡ n → r ≡ refused_sending g t (Some f)) → r ≡ refused_sending g t o
-by_length g t None n r is refuses = absurd (cc)
-by_length g t (Some f) n r is refuses = refuses f (cc)
+-- the frames of a call are refused by their size
+pub by_size_sent : (g : Settings) (t : Facts) (o : Option Frame) (n : SplitSize) (r : Option Refusal) → Some n ≡ size_sent g.mtu o
+    → ((fs : List Frame) → n ≡ size_of_frames fs → r ≡ refused_frames g t fs) → r ≡ refused_sending g t o
+by_size_sent g t None n r is refuses = absurd (cc)
+by_size_sent g t (Some f) n r is refuses = refuses (in_fragments g.mtu f) (cc)
 
 -- any call but Close is refused for its frame
 pub by_frame : (g : Settings) (t : Facts) (asked : Call) (r : Option Refusal) → asked ≢ call.Close

@@ -1,5 +1,6 @@
 -- What an event says on the streams that means what its answer says can be said.
-use Rattle.std.proofs.Common.{◌≡◌, ◌<◌, ◌^◌, ℕ, List, length, Option, Some, None, IfSome, IsSome, refl, ap, subst, sym}
+use Rattle.std.proofs.Common.{◌≡◌, ◌<◌, ◌^◌, ◌==◌, ℕ, Bool, true, false, cond, List, length, Option, Some, None, IfSome, IsSome, refl, ap, subst, sym, arith}
+use Rattle.std.proofs.lemmas.Grind.{common_steps}
 use Rattle.rs_wire.specs.Calls.{CanBeAsked}
 use Rattle.rs_wire.specs.declared.settings.Settings.{Settings}
 use Rattle.rs_wire.specs.declared.call.Call.{Call}
@@ -17,10 +18,12 @@ use Rattle.stream_model.specs.declared.arrival.Effect.TheVariants as effect
 use Rattle.stream_model.specs.declared.stream.Limits.{Limits}
 use Rattle.stream_model.specs.Known.{Known, limits_of, next_id}
 use Rattle.stream_model.specs.Refused.{refused_by}
-use Rattle.stream_model.specs.Arriving.{CanAct, CanArrive, effect_by}
+use Rattle.stream_model.specs.Arriving.{CanAct, CanArrive, effect_by, stream_in}
 use Rattle.stream_model.proofs.Fitting.{IsCounted}
 use Rattle.interactions.specs.Seen.{known_to}
-use Rattle.session_model.specs.Streams.{arrival_in, known}
+use Rattle.fragment.specs.Joining.{Gathered}
+use Rattle.reassembly.specs.Gathering.{ReassemblyView, gathered_at}
+use Rattle.session_model.specs.Streams.{arrival_in, known, unfinished}
 use Rattle.session_model.specs.Frames.{spoken}
 use Rattle.session_model.specs.Answers.{Facts, facts, broken_rule}
 use Rattle.session_model.specs.Legal.{IsFair}
@@ -29,12 +32,21 @@ use Rattle.session_model.proofs.Fairness.{arrival_counted, can_act, can_arrive}
 use Rattle.session_model.proofs.Refusals.{Unrefused, streams_allow, unrefused}
 use Rattle.session_core.specs.declared.state.State.{State}
 use Rattle.session_core.specs.Fits.{Fits, facts_of}
-use Rattle.session_core.specs.Speaking.{Acts, CanSay, Comes, FindsRoom, GoesOn, IsNoRule, arrival_for, named, speaks_on, stream_heard, with_room}
+use Rattle.session_core.specs.Speaking.{Acts, CanSay, Comes, FindsRoom, GoesOn, IsNoRule, arrival_for, heard_on, named, speaks_on, with_room}
 
 -- the streams that a session keeps are those of its entries
 same_streams : (g : Settings) (s : State) (past : List Entry) → Fits g s past → known g past ≡ known_to s.streams
 unfolding facts
 same_streams g s past h = sym (ap (λ (t : Facts). t.streams) h.facts_are)
+
+-- and so is what is gathered
+same_gathered : (g : Settings) (s : State) (past : List Entry) → Fits g s past → gathered_at s.parts ≡ unfinished g past
+unfolding facts
+same_gathered g s past h = ap (λ (t : Facts). t.unfinished) h.facts_are
+
+-- the room that was made is that for what is said
+heard_there : (held : ℕ → Gathered) (f : Frame) (what : Arrival) (ready : Option ℕ) → arrival_in held f ≡ Some what → FindsRoom (heard_on f) ready → ready ≡ Some (stream_in what)
+heard_there held f what ready is room = grind (arith, common_steps)
 
 no_rule : (e : Effect) → IsCounted e → IsNoRule e
 no_rule (effect.Broken rule) h = absurd h
@@ -44,21 +56,22 @@ is_some_room : (ready : Option ℕ) (n : ℕ) → ready ≡ Some n → IsSome re
 is_some_room ready n is = subst IsSome (sym is) refl
 
 -- what a frame says that breaks no rule comes
-comes : (g : Settings) (s : State) (past : List Entry) (ready : Option ℕ) (f : Frame) (o : Option Arrival) → Fits g s past → length past < 2 ^ 63 → IsSpellable f
-    → broken_rule g (facts_of s) f ≡ None → arrival_in f ≡ o → FindsRoom (stream_heard o) ready → IfSome o (Comes (with_room s ready).streams)
-comes g s past ready f None h short spellable unbroken is room = tt
-comes g s past ready f (Some what) h short spellable unbroken is room =
+comes : (g : Settings) (s : State) (past : List Entry) (ready : Option ℕ) (parts : ReassemblyView) (f : Frame) (o : Option Arrival) → Fits g s past → length past < 2 ^ 63 → IsSpellable f
+    → broken_rule g (facts_of s) f ≡ None → arrival_in (gathered_at s.parts) f ≡ o → FindsRoom (heard_on f) ready → IfSome o (Comes (with_room s ready parts).streams)
+comes g s past ready parts f None h short spellable unbroken is room = tt
+comes g s past ready parts f (Some what) h short spellable unbroken is room =
     record {
-      room = room;
-      fits = subst (λ (t : Known). CanArrive t what) (same_streams g s past h) (can_arrive g past f what h.legal h.fair short spellable is);
+      room = heard_there (gathered_at s.parts) f what ready is room;
+      fits = subst (λ (t : Known). CanArrive t what) (same_streams g s past h)
+          (can_arrive g past f what h.legal h.fair short spellable (subst (λ (held : ℕ → Gathered). arrival_in held f ≡ Some what) (same_gathered g s past h) is));
       counts = subst (λ (l : Limits). IsNoRule (effect_by l (known_to s.streams) what)) (sym h.limits_are)
           (no_rule (effect_by (limits_of g) (known_to s.streams) what) (arrival_counted g (facts_of s) f what unbroken is));
     }
 
 -- a call that is not refused and has a frame acts
-acts : (g : Settings) (s : State) (past : List Entry) (ready : Option ℕ) (asked : Call) (id : ℕ) (f : Frame) → Fits g s past → length past < 2 ^ 63 → CanBeAsked asked
-    → Unrefused g (facts_of s) asked → spoken (known g past) id asked ≡ Some f → IsSome ready → Acts (with_room s ready).streams asked
-acts g s past ready asked id f h short ask u is room =
+acts : (g : Settings) (s : State) (past : List Entry) (ready : Option ℕ) (parts : ReassemblyView) (asked : Call) (id : ℕ) (f : Frame) → Fits g s past → length past < 2 ^ 63 → CanBeAsked asked
+    → Unrefused g (facts_of s) asked → spoken (known g past) id asked ≡ Some f → IsSome ready → Acts (with_room s ready parts).streams asked
+acts g s past ready parts asked id f h short ask u is room =
     record {
       room = room;
       accepted = subst (λ (l : Limits). refused_by l (known_to s.streams) asked ≡ None) (sym h.limits_are) (streams_allow g (facts_of s) asked u);
@@ -67,36 +80,36 @@ acts g s past ready asked id f h short ask u is room =
     }
 
 -- a call that goes on
-goes_on : (g : Settings) (s : State) (past : List Entry) (ready : Option ℕ) (asked : Call) → Fits g s past → length past < 2 ^ 63 → CanBeAsked asked
-    → Does g (facts_of s) (event.Asked asked) → FindsRoom (named asked) ready → GoesOn (with_room s ready).streams asked
-goes_on g s past ready (call.Request kind initial message complete) h short ask does room = absurd does
-goes_on g s past ready (call.Next n message complete) h short ask does room =
-    acts g s past ready (call.Next n message complete) 0 _ h short ask (unrefused g (facts_of s) (call.Next n message complete) does) refl (is_some_room ready n room)
-goes_on g s past ready (call.Done n) h short ask does room = acts g s past ready (call.Done n) 0 _ h short ask (unrefused g (facts_of s) (call.Done n) does) refl (is_some_room ready n room)
-goes_on g s past ready (call.Grant n k) h short ask does room = acts g s past ready (call.Grant n k) 0 _ h short ask (unrefused g (facts_of s) (call.Grant n k) does) refl (is_some_room ready n room)
-goes_on g s past ready (call.Cancel n) h short ask does room = acts g s past ready (call.Cancel n) 0 _ h short ask (unrefused g (facts_of s) (call.Cancel n) does) refl (is_some_room ready n room)
-goes_on g s past ready (call.Fail n code content) h short ask does room =
-    acts g s past ready (call.Fail n code content) 0 _ h short ask (unrefused g (facts_of s) (call.Fail n code content) does) refl (is_some_room ready n room)
-goes_on g s past ready (call.Take n) h short ask does room = absurd does
-goes_on g s past ready call.TakeJob h short ask does room = absurd does
-goes_on g s past ready call.Close h short ask does room = tt
+goes_on : (g : Settings) (s : State) (past : List Entry) (ready : Option ℕ) (parts : ReassemblyView) (asked : Call) → Fits g s past → length past < 2 ^ 63 → CanBeAsked asked
+    → Does g (facts_of s) (event.Asked asked) → FindsRoom (named asked) ready → GoesOn (with_room s ready parts).streams asked
+goes_on g s past ready parts (call.Request kind initial message complete) h short ask does room = absurd does
+goes_on g s past ready parts (call.Next n message complete) h short ask does room =
+    acts g s past ready parts (call.Next n message complete) 0 _ h short ask (unrefused g (facts_of s) (call.Next n message complete) does) refl (is_some_room ready n room)
+goes_on g s past ready parts (call.Done n) h short ask does room = acts g s past ready parts (call.Done n) 0 _ h short ask (unrefused g (facts_of s) (call.Done n) does) refl (is_some_room ready n room)
+goes_on g s past ready parts (call.Grant n k) h short ask does room = acts g s past ready parts (call.Grant n k) 0 _ h short ask (unrefused g (facts_of s) (call.Grant n k) does) refl (is_some_room ready n room)
+goes_on g s past ready parts (call.Cancel n) h short ask does room = acts g s past ready parts (call.Cancel n) 0 _ h short ask (unrefused g (facts_of s) (call.Cancel n) does) refl (is_some_room ready n room)
+goes_on g s past ready parts (call.Fail n code content) h short ask does room =
+    acts g s past ready parts (call.Fail n code content) 0 _ h short ask (unrefused g (facts_of s) (call.Fail n code content) does) refl (is_some_room ready n room)
+goes_on g s past ready parts (call.Take n) h short ask does room = absurd does
+goes_on g s past ready parts call.TakeJob h short ask does room = absurd does
+goes_on g s past ready parts call.Close h short ask does room = tt
 
 -- what an event and its answer say can be said, where room was made for it
-pub can_say : (g : Settings) (s : State) (past : List Entry) (ready : Option ℕ) (e : Event) (a : Answer) → Fits g s past → length past < 2 ^ 63 → IsFair g e → Means g (facts_of s) e a
-    → FindsRoom (speaks_on a e (arrival_for a e)) ready → CanSay (with_room s ready).streams a e (arrival_for a e)
-can_say g s past ready (event.Came conn f) answer.Handled h short fair m room = comes g s past ready f (arrival_in f) h short fair m.unbroken refl room
-can_say g s past ready e answer.Handled h short fair m room = absurd m
-can_say g s past ready (event.Asked (call.Request kind initial message complete)) (answer.Started id) h short fair m room =
+pub can_say : (g : Settings) (s : State) (past : List Entry) (ready : Option ℕ) (parts : ReassemblyView) (e : Event) (a : Answer) → Fits g s past → length past < 2 ^ 63 → IsFair g e → Means g (facts_of s) e a
+    → FindsRoom (speaks_on a e) ready → CanSay (with_room s ready parts).streams a e (arrival_for (gathered_at s.parts) a e)
+can_say g s past ready parts (event.Came conn f) answer.Handled h short fair m room = comes g s past ready parts f (arrival_in (gathered_at s.parts) f) h short fair m.unbroken refl room
+can_say g s past ready parts e answer.Handled h short fair m room = absurd m
+can_say g s past ready parts (event.Asked (call.Request kind initial message complete)) (answer.Started id) h short fair m room =
     let asked = call.Request kind initial message complete in
     record {
-      acts = acts g s past ready asked id _ h short fair.0 (unrefused g (facts_of s) asked m.accepted) refl (is_some_room ready id room);
+      acts = acts g s past ready parts asked id _ h short fair.0 (unrefused g (facts_of s) asked m.accepted) refl (is_some_room ready id room);
       next = subst (λ (l : Limits). id ≡ next_id l.side (known_to s.streams)) (sym h.limits_are) m.next;
     }
-can_say g s past ready e (answer.Started id) h short fair m room = absurd m
-can_say g s past ready (event.Asked asked) answer.Done h short fair m room = goes_on g s past ready asked h short fair.0 m room
-can_say g s past ready e answer.Done h short fair m room = absurd m
-can_say g s past ready (event.Asked (call.Take n)) (answer.Got d) h short fair m room = m
-can_say g s past ready e (answer.Got d) h short fair m room = absurd m
-can_say g s past ready (event.Asked call.TakeJob) (answer.GotJob job) h short fair m room = m
-can_say g s past ready e (answer.GotJob job) h short fair m room = absurd m
-can_say g s past ready e a h short fair m room = tt
+can_say g s past ready parts e (answer.Started id) h short fair m room = absurd m
+can_say g s past ready parts (event.Asked asked) answer.Done h short fair m room = goes_on g s past ready parts asked h short fair.0 m room
+can_say g s past ready parts e answer.Done h short fair m room = absurd m
+can_say g s past ready parts (event.Asked (call.Take n)) (answer.Got d) h short fair m room = m
+can_say g s past ready parts e (answer.Got d) h short fair m room = absurd m
+can_say g s past ready parts (event.Asked call.TakeJob) (answer.GotJob job) h short fair m room = m
+can_say g s past ready parts e (answer.GotJob job) h short fair m room = absurd m
+can_say g s past ready parts e a h short fair m room = tt

@@ -9,3 +9,5 @@ pub mod Prepared
 pub mod Came
 pub mod Asked
 pub mod Speaking
+pub mod Gathering
+pub mod Sizes

@@ -1,11 +1,32 @@
 -- The frames of a call that is accepted.
-use Rattle.std.specs.Prelude.{ℕ, List, [], option_to_list}
+use Rattle.std.specs.Prelude.{◌≡◌, ℕ, false, List, [], Option, None, IfSome}
+use Rattle.rs_wire.specs.declared.settings.Settings.{Settings}
 use Rattle.rs_frame.specs.declared.frame.Frame.{Frame}
+use Rattle.rs_frame.specs.Spelling.{IsSpellable}
 use Rattle.tape.specs.declared.event.Event.{Event}
 use Rattle.tape.specs.declared.event.Event.TheVariants as event
+use Rattle.tape.specs.declared.answer.Answer.{Answer}
+use Rattle.tape.specs.declared.answer.Answer.TheVariants as answer
 use Rattle.stream_model.specs.Known.{Known}
-use Rattle.session_model.specs.Frames.{spoken}
+use Rattle.fragment.specs.Splitting.{follows_of}
+use Rattle.session_model.specs.Frames.{sent_as, spoken}
 
-abbrev pub called : Known → ℕ → Event → List Frame
-called t id (event.Asked asked) = option_to_list (spoken t id asked)
-called t id _ = []
+-- the frames of a call
+abbrev pub called : Settings → Known → ℕ → Event → List Frame
+called g t id (event.Asked asked) = sent_as g (spoken t id asked)
+called g t id _ = []
+
+-- the frame of a call, before it is split
+abbrev pub frame_called : Known → ℕ → Event → Option Frame
+frame_called t id (event.Asked asked) = spoken t id asked
+frame_called t id _ = None
+
+-- the same by the answer to the call
+abbrev pub frame_made : Known → Answer → Event → Option Frame
+frame_made t (answer.Started id) e = frame_called t id e
+frame_made t answer.Done e = frame_called t 0 e
+frame_made t _ e = None
+
+-- a frame that can be split
+abbrev pub CanGo : Frame → Type 0
+CanGo f = IsSpellable f × (follows_of f ≡ false)

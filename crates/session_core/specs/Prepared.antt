@@ -11,7 +11,8 @@ use Rattle.session_model.specs.Life.{is_carrying, live_after, setup_in}
 use Rattle.session_model.specs.Frames.{makes, lines_up}
 use Rattle.stream_model.specs.Known.{limits_of}
 use Rattle.interactions.specs.Seen.{known_to}
-use Rattle.session_core.specs.Speaking.{arrival_for}
+use Rattle.reassembly.specs.Gathering.{ReassemblyView}
+use Rattle.session_core.specs.Gathering.{ready_for}
 use Rattle.session_core.specs.declared.state.State.{State}
 use Rattle.session_core.specs.declared.state.Prepared.{Prepared}
 
@@ -23,7 +24,7 @@ lined_on live bytes = if is_carrying live then bytes else []
 pub record AreReady (g : Settings) (old : State) (e : Event) (a : Answer) (p : Prepared) : Type 0 where
   pub setup : p.setup ≡ setup_in a e
   pub made : p.made.items ≡ makes g (known_to old.streams) a e
-  pub arrival : p.arrival ≡ arrival_for a e
+  pub arrival : p.incoming.arrival ≡ ready_for p.incoming.is_part a e
   pub spellable : AllByRecursion IsSpellable p.made.items
   pub before : p.before ≡ length old.queue
 
@@ -38,8 +39,8 @@ left_in_line answer.Parted before queue = []
 left_in_line _ before queue = queue
 
 -- a session of which nothing happened yet
-abbrev pub nothing_yet : Settings → State
-nothing_yet g = record {
+abbrev pub nothing_yet : Settings → ReassemblyView → State
+nothing_yet g parts = record {
   openings = 0;
   live = 0;
   begun = false;
@@ -48,5 +49,6 @@ nothing_yet g = record {
   made = record { frames = 0; position = 0 };
   handled = record { frames = 0; position = 0 };
   streams = record { limits = limits_of g; marks = []; ready = None };
+  parts = parts;
   queue = [];
 }

@@ -1,8 +1,11 @@
 -- What an event so answered says on the streams, and the room that it finds there.
-use Rattle.std.specs.Prelude.{◌≡◌, ℕ, Option, Some, None, IsSome, IfSome}
+use Rattle.std.specs.Prelude.{◌≡◌, ◌==◌, ◌++◌, ℕ, if◌then◌else◌, List, [], ◌∷◌, Option, Some, None, IsSome, IfSome, option_to_list}
+use Rattle.std.specs.Option.{option_map}
 use Rattle.rs_wire.specs.Calls.{CanBeAsked}
 use Rattle.rs_wire.specs.declared.call.Call.{Call}
 use Rattle.rs_wire.specs.declared.call.Call.TheVariants as call
+use Rattle.rs_frame.specs.declared.frame.Frame.{Frame}
+use Rattle.rs_frame.specs.declared.frame.Frame.TheVariants as frame
 use Rattle.tape.specs.declared.event.Event.{Event}
 use Rattle.tape.specs.declared.event.Event.TheVariants as event
 use Rattle.tape.specs.declared.answer.Answer.{Answer}
@@ -12,15 +15,36 @@ use Rattle.stream_model.specs.declared.arrival.Effect.{Effect}
 use Rattle.stream_model.specs.declared.arrival.Effect.TheVariants as effect
 use Rattle.stream_model.specs.Known.{front_of}
 use Rattle.stream_model.specs.Refused.{refused_by}
-use Rattle.stream_model.specs.Arriving.{CanAct, CanArrive, effect_by, stream_in}
+use Rattle.stream_model.specs.Marks.{Mark, Took, TookJob}
+use Rattle.stream_model.specs.Arriving.{CanAct, CanArrive, effect_by, heard, said, stream_in}
+use Rattle.fragment.specs.Joining.{Gathered}
+use Rattle.reassembly.specs.Gathering.{ReassemblyView}
 use Rattle.interactions.specs.Seen.{Seen, known_to, stream_of_call}
 use Rattle.session_model.specs.Streams.{arrival_in}
 use Rattle.session_core.specs.declared.state.State.{State}
 
--- what a frame that is handled says
-abbrev pub arrival_for : Answer → Event → Option Arrival
-arrival_for answer.Handled (event.Came conn f) = arrival_in f
-arrival_for _ _ = None
+-- what a frame that is handled says, by what was gathered of messages that are not whole
+abbrev pub arrival_for : (ℕ → Gathered) → Answer → Event → Option Arrival
+arrival_for gathered answer.Handled (event.Came conn f) = arrival_in gathered f
+arrival_for gathered _ _ = None
+
+-- what an event so answered says, where a frame that is handled says that
+abbrev pub says : Option Arrival → Answer → Event → List Mark
+says what answer.Handled (event.Came conn f) = option_to_list (option_map heard what)
+says what (answer.Started id) (event.Asked asked) = said id asked
+says what answer.Done (event.Asked asked) = said 0 asked
+says what (answer.Got delivery) (event.Asked (call.Take s)) = Took s delivery ∷ []
+says what (answer.GotJob job) (event.Asked call.TakeJob) = TookJob ∷ []
+says what _ _ = []
+
+-- the stream of a frame that says something on a stream, or that is a part of a message there
+abbrev pub heard_on : Frame → Option ℕ
+heard_on (frame.Request r) = Some r.stream
+heard_on (frame.Payload s follows complete next message) = Some s
+heard_on (frame.RequestN s n) = Some s
+heard_on (frame.Cancel s) = Some s
+heard_on (frame.Error s code content) = if s == 0 then None else Some s
+heard_on _ = None
 
 -- the stream on which a call goes on, where it names one
 abbrev pub named : Call → Option ℕ
@@ -31,25 +55,21 @@ named (call.Cancel s) = Some s
 named (call.Fail s code content) = Some s
 named _ = None
 
-abbrev pub stream_heard : Option Arrival → Option ℕ
-stream_heard None = None
-stream_heard (Some what) = Some (stream_in what)
-
 -- the stream that a frame that is handled, or a call that acts, speaks on
-abbrev pub speaks_on : Answer → Event → Option Arrival → Option ℕ
-speaks_on answer.Handled e what = stream_heard what
-speaks_on (answer.Started id) (event.Asked asked) what = Some id
-speaks_on answer.Done (event.Asked asked) what = named asked
-speaks_on _ _ _ = None
+abbrev pub speaks_on : Answer → Event → Option ℕ
+speaks_on answer.Handled (event.Came conn f) = heard_on f
+speaks_on (answer.Started id) (event.Asked asked) = Some id
+speaks_on answer.Done (event.Asked asked) = named asked
+speaks_on _ _ = None
 
 -- room was made for what is said
 abbrev pub FindsRoom : Option ℕ → Option ℕ → Type 0
 FindsRoom None ready = Unit {0}
 FindsRoom (Some s) ready = ready ≡ Some s
 
--- all is as before, but for the room that was made for what is said on the streams
-abbrev pub with_room : State → Option ℕ → State
-with_room s ready = record s { streams = record s.streams { ready = ready } }
+-- all is as before, but for the room that was made on the streams and for parts
+abbrev pub with_room : State → Option ℕ → ReassemblyView → State
+with_room s ready parts = record s { streams = record s.streams { ready = ready }; parts = parts }
 
 abbrev pub IsNoRule : Effect → Type 0
 IsNoRule (effect.Broken rule) = ⊥

@@ -1,14 +1,37 @@
-//! What a frame that came says on the streams, owned.
+//! What a frame that came brings, owned.
 
-ghost use Rattle.std.specs.Prelude.{◌≡◌, IfOk, None, Some};
-ghost use Rattle.session_model.specs.Streams.{arrival_in, whole_in};
-ghost use Rattle.session_core.specs.Speaking.{arrival_for};
+ghost use Rattle.std.specs.Prelude.{◌≡◌, IfOk, None, OnOk, Some};
+ghost use Rattle.session_model.specs.Streams.{whole_in};
+ghost use Rattle.session_core.specs.Gathering.{FindsPlace, FindsPlaceFor, IsPartOrWhole, IsSameGathered, IsSameKept, alone_in, ready_for, ready_in};
 
+use reassembly::Reassembly;
 use rs_frame::{Frame, Request};
 use rs_wire::{Message, OutOfMemory};
 use std::alloc::Global;
 use stream_model::Arrival;
 use tape::{Answer, Event};
+
+/// What a frame that is handled brings, made before anything changes.
+#[derive(Drop)]
+pub struct Incoming {
+    /// What the frame says on a stream. A payload that is a part of a message says nothing before it
+    /// is joined to the other parts.
+    pub arrival: Option<Arrival>,
+    /// The frame is a payload that is a part of a message.
+    pub is_part: bool,
+}
+
+impl Incoming {
+    /// Nothing comes.
+    pub fn nothing() -> Incoming
+        ensures arrival { result.arrival ≡ None }
+    {
+        Incoming {
+            arrival: None,
+            is_part: false,
+        }
+    }
+}
 
 // The request's message, where no fragments follow.
 fn whole_in(alloc: Global, request: &Request) -> Result<Option<(Message, bool)>, OutOfMemory>
@@ -22,7 +45,7 @@ fn whole_in(alloc: Global, request: &Request) -> Result<Option<(Message, bool)>,
 }
 
 fn asked(alloc: Global, request: &Request) -> Result<Arrival, OutOfMemory>
-    ensures { IfOk result (λ a. Some a ≡ arrival_in (Frame.Request request.now)) }
+    ensures { IfOk result (λ a. Some a ≡ alone_in (Frame.Request request.now)) }
 {
     Ok(Arrival::Asked {
         stream: request.stream,
@@ -32,9 +55,9 @@ fn asked(alloc: Global, request: &Request) -> Result<Arrival, OutOfMemory>
     })
 }
 
-// What a frame says on a stream.
-fn arrival_in(alloc: Global, frame: &Frame) -> Result<Option<Arrival>, OutOfMemory>
-    ensures { IfOk result (λ a. a ≡ arrival_in frame.now) }
+// What a frame says on a stream where nothing is gathered.
+fn alone_in(alloc: Global, frame: &Frame) -> Result<Option<Arrival>, OutOfMemory>
+    ensures { IfOk result (λ a. a ≡ alone_in frame.now) }
 {
     Ok(match frame {
         Frame::Request(request) => Some(asked(alloc, request)?),
@@ -70,16 +93,84 @@ fn arrival_in(alloc: Global, frame: &Frame) -> Result<Option<Arrival>, OutOfMemo
     })
 }
 
-/// What a frame that is handled says on a stream.
-pub fn arrival_of(
+// What a frame says before it is joined to other parts.
+fn ready_in(alloc: Global, frame: &Frame, is_part: bool) -> Result<Option<Arrival>, OutOfMemory>
+    ensures { IfOk result (λ a. a ≡ ready_in is_part frame.now) }
+{
+    match frame {
+        Frame::Payload { .. } if is_part => Ok(None),
+        _ => alone_in(alloc, frame),
+    }
+}
+
+// The frame is a payload that is a part of a message: more follow, or some came before.
+fn is_part(parts: &Reassembly, frame: &Frame) -> bool
+    ensures { IsPartOrWhole parts.now result frame.now }
+{
+    match frame {
+        Frame::Payload {
+            stream,
+            follows,
+            ..
+        } => *follows || parts.has_part(*stream),
+        _ => false,
+    }
+}
+
+// Makes room for the part of a message that a frame is.
+fn make_place(parts: &mut Reassembly, frame: &Frame, is_part: bool) -> Result<(), OutOfMemory>
+    requires { IsPartOrWhole parts.old is_part frame.now }
+    ensures same { IsSameGathered parts.old parts.new }
+    ensures kept { IsSameKept parts.old parts.new }
+    ensures place { OnOk result (FindsPlace parts.new is_part frame.now) }
+{
+    match frame {
+        Frame::Request(request) if request.follows => {
+            parts.reserve(request.stream, &request.message)
+        }
+        Frame::Payload {
+            stream,
+            message,
+            ..
+        } if is_part => parts.reserve(*stream, message),
+        _ => Ok(()),
+    }
+}
+
+fn incoming_in(
     alloc: Global,
+    parts: &mut Reassembly,
+    frame: &Frame,
+) -> Result<Incoming, OutOfMemory>
+    ensures same { IsSameGathered parts.old parts.new }
+    ensures kept { IsSameKept parts.old parts.new }
+    ensures arrival { IfOk result (λ i. i.arrival ≡ ready_in i.is_part frame.now) }
+    ensures place { IfOk result (λ i. FindsPlace parts.new i.is_part frame.now) }
+{
+    let is_part = is_part(parts, frame);
+    make_place(parts, frame, is_part)?;
+    Ok(Incoming {
+        arrival: ready_in(alloc, frame, is_part)?,
+        is_part,
+    })
+}
+
+/// What a frame that is handled brings, and room for it among the parts.
+pub fn incoming_of(
+    alloc: Global,
+    parts: &mut Reassembly,
     event: &Event,
     answer: &Answer,
-) -> Result<Option<Arrival>, OutOfMemory>
-    ensures { IfOk result (λ a. a ≡ arrival_for answer.now event.now) }
+) -> Result<Incoming, OutOfMemory>
+    ensures same { IsSameGathered parts.old parts.new }
+    ensures kept { IsSameKept parts.old parts.new }
+    ensures arrival { IfOk result (λ i. i.arrival ≡
+        ready_for i.is_part answer.now event.now) }
+    ensures place { IfOk result (λ i.
+        FindsPlaceFor parts.new i.is_part answer.now event.now) }
 {
     match (answer, event) {
-        (Answer::Handled, Event::Came { frame, .. }) => arrival_in(alloc, frame),
-        _ => Ok(None),
+        (Answer::Handled, Event::Came { frame, .. }) => incoming_in(alloc, parts, frame),
+        _ => Ok(Incoming::nothing()),
     }
 }

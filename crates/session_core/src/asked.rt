@@ -1,54 +1,24 @@
 //! The answer to a call.
 
-ghost use Rattle.std.specs.Prelude.{◌≡◌, ◌+◌, ◌<◌, ◌≤◌, ◌^◌, ◌++◌, ℕ, None, Some, IfOk, IfSome, length};
-ghost use Rattle.std.specs.Option.{option_map};
+ghost use Rattle.std.specs.Prelude.{◌≡◌, ◌<◌, ◌≤◌, ◌^◌, ℕ, List, None, IfOk};
 ghost use Rattle.rs_wire.specs.Calls.{CanBeAsked};
-ghost use Rattle.rs_wire.specs.Message.{size_of};
-ghost use Rattle.rs_frame.specs.Spelling.{length_of, number_there, payload};
 ghost use Rattle.interactions.specs.Seen.{known_to};
 ghost use Rattle.session_model.specs.Frames.{spoken};
-ghost use Rattle.session_model.specs.Answers.{accepted, by_closed, by_sending, by_size, finds_full, refused_call, refused_sending, size_in, to_call};
+ghost use Rattle.session_model.specs.Answers.{accepted, by_closed, by_sending, by_size, find_full, refused_call, refused_frames, refused_sending, size_in, to_call};
 ghost use Rattle.rs_wire.specs.declared.settings.Settings.{Settings};
 ghost use Rattle.rs_frame.specs.declared.frame.Frame.{Frame};
 ghost use Rattle.stream_model.specs.Known.{Known, limits_of};
 ghost use Rattle.stream_model.specs.Refused.{by_ids};
 ghost use Rattle.session_core.specs.Asked.{refused_later};
 ghost use Rattle.session_core.specs.Fits.{AreLimits, HasRoom, facts_of};
+ghost use Rattle.session_core.specs.Sizes.{size_of_frames};
 
+use crate::sizes::{closing_size, size_spoken};
 use crate::state::State;
-use rs_wire::{Amount, Call, Checked, Message, OutOfMemory, Refusal};
+use fragment::SplitSize;
+use rs_wire::{Call, Checked, OutOfMemory, Refusal};
 use std::alloc::Global;
 use tape::Answer;
-
-/// The bytes of a frame's header.
-const HEADER: u64 = 6;
-
-/// The bytes of a code, of an initial n and of the n of REQUEST_N.
-const NUMBER: u64 = 4;
-
-/// The bytes of an ERROR without content.
-const CLOSING_ERROR: u64 = HEADER + NUMBER;
-
-// How many bytes a message has in a frame.
-fn payload_length(message: &Message) -> u64
-    requires { size_of message.now ≤ 16000000 }
-    ensures { result ≡ length (payload message.now) }
-{
-    let metadata = match &message.metadata {
-        Some(metadata) => 3 + metadata.len() as u64,
-        None => 0,
-    };
-    metadata + message.content.len() as u64
-}
-
-fn number_length(initial: Option<Amount>) -> u64
-    ensures { result ≡ length (number_there initial) }
-{
-    match initial {
-        Some(_) => NUMBER,
-        None => 0,
-    }
-}
 
 // How many bytes a call sends on.
 fn size_in(call: &Call) -> u64
@@ -59,26 +29,6 @@ fn size_in(call: &Call) -> u64
         Call::Request { message, .. } | Call::Next { message, .. } => message.size(),
         Call::Fail { content, .. } => content.len() as u64,
         _ => 0,
-    }
-}
-
-// How many bytes the frame of a call has, where it makes one.
-fn spoken_length(call: &Call) -> Option<u64>
-    requires { size_in call.now ≤ 16000000 }
-    ensures value { (t : Known) (id : ℕ) → result ≡ option_map length_of (spoken t id call.now) }
-    ensures bound { IfSome result (λ n. n < 2 ^ 62) }
-{
-    match call {
-        Call::Request {
-            initial,
-            message,
-            ..
-        } => Some(HEADER + number_length(*initial) + payload_length(message)),
-        Call::Next { message, .. } => Some(HEADER + payload_length(message)),
-        Call::Done { .. } | Call::Cancel { .. } => Some(HEADER),
-        Call::Grant { .. } => Some(HEADER + NUMBER),
-        Call::Fail { content, .. } => Some(HEADER + NUMBER + content.len() as u64),
-        Call::Take { .. } | Call::TakeJob | Call::Close => None,
     }
 }
 
@@ -111,42 +61,47 @@ fn by_size(settings: &Checked, call: &Call) -> Option<Refusal>
     None
 }
 
-// A frame of this length goes out at once, and finds no room in the queue.
-fn finds_full(settings: &Checked, state: &State, length: u64) -> bool
-    requires { length < 2 ^ 62 }
-    ensures { result ≡ finds_full settings.now (facts_of state.now) length }
+// Frames of this size go out at once, and find no room in the queue.
+#[tactic(auto, using(crate::proofs::Framed::framed_size))]
+fn find_full(settings: &Checked, state: &State, size: SplitSize) -> bool
+    requires few { size.frames < 2 ^ 40 }
+    requires small { size.bytes < 2 ^ 60 }
+    ensures { (fs : List Frame) → size ≡ size_of_frames fs → result ≡
+        find_full settings.now (facts_of state.now) fs }
 {
-    state.is_carrying() && state.queue.len() + (3 + length) > settings.out_limit()
+    let bytes = 3 * size.frames + size.bytes;
+    state.is_carrying() && state.queue.len() + bytes > settings.out_limit()
 }
 
-// A frame of this length can't be made.
-fn refused_length(settings: &Checked, state: &State, length: u64) -> Option<Refusal>
+// Frames of this size can't be made.
+fn refused_frames(settings: &Checked, state: &State, size: SplitSize) -> Option<Refusal>
     requires room { HasRoom state.now }
-    requires length { length < 2 ^ 62 }
-    ensures { (f : Frame) → length_of f ≡ length → result ≡
-        refused_sending settings.now (facts_of state.now) (Some f) }
+    requires few { size.frames < 2 ^ 40 }
+    requires small { size.bytes < 2 ^ 60 }
+    ensures { (fs : List Frame) → size ≡ size_of_frames fs → result ≡
+        refused_frames settings.now (facts_of state.now) fs }
 {
     if !state.begun {
         return Some(Refusal::NotConnected);
     }
-    if finds_full(settings, state, length) {
+    if find_full(settings, state, size) {
         return Some(Refusal::OutFull(state.queue.len()));
     }
-    if state.made.position + length > settings.settings().top_position {
+    if state.made.position + size.bytes > settings.settings().top_position {
         return Some(Refusal::PositionSpent);
     }
     None
 }
 
-// The frame of a call, where it makes one, can't be made.
+// The frames of a call, where it makes any, can't be made.
 fn refused_sending(settings: &Checked, state: &State, call: &Call) -> Option<Refusal>
     requires room { HasRoom state.now }
     requires size { size_in call.now ≤ 16000000 }
     ensures { (t : Known) (id : ℕ) → result ≡
         refused_sending settings.now (facts_of state.now) (spoken t id call.now) }
 {
-    match spoken_length(call) {
-        Some(length) => refused_length(settings, state, length),
+    match size_spoken(settings, call) {
+        Some(size) => refused_frames(settings, state, size),
         None => None,
     }
 }
@@ -155,7 +110,7 @@ fn refused_sending(settings: &Checked, state: &State, call: &Call) -> Option<Ref
 fn refused_closing(settings: &Checked, state: &State) -> Option<Refusal>
     ensures { result ≡ by_sending settings.now (facts_of state.now) Call.Close }
 {
-    if finds_full(settings, state, CLOSING_ERROR) {
+    if find_full(settings, state, closing_size()) {
         return Some(Refusal::OutFull(state.queue.len()));
     }
     None

@@ -1,11 +1,10 @@
 //! The answer to a frame that came.
 
-ghost use Rattle.std.specs.Prelude.{◌≡◌, if◌then◌else◌, None, Some};
-ghost use Rattle.rs_wire.specs.Message.{size_of};
+ghost use Rattle.std.specs.Prelude.{◌≡◌, ◌&&◌, if◌then◌else◌, nat_lt, None, Some};
 ghost use Rattle.rs_frame.specs.Spelling.{IsSpellable};
 ghost use Rattle.interactions.specs.Seen.{known_to};
 ghost use Rattle.session_model.specs.Streams.{is_turned_away};
-ghost use Rattle.session_model.specs.Answers.{answer_spends, broken_rule, is_too_large, peer_error, spends, to_frame, unknown_type};
+ghost use Rattle.session_model.specs.Answers.{answer_spends, breaks_credit, broken_rule, peer_error, spends, to_frame, unknown_type};
 ghost use Rattle.rs_wire.specs.declared.settings.Settings.{Settings};
 ghost use Rattle.session_core.specs.Came.{IsPayload};
 ghost use Rattle.session_core.specs.Fits.{AreLimits, HasRoom, facts_of};
@@ -60,12 +59,11 @@ fn answer_spends(settings: &Checked, state: &State, request: &Request) -> bool
         && state.made.position + TURNED_AWAY > settings.settings().top_position
 }
 
-// A message is taken in, and has too many bytes: how many.
-fn too_large(settings: &Checked, taken: bool, message: &Message) -> Option<Rule>
-    ensures { result ≡ (if is_too_large settings.now taken message.now then
-        Some (Rule.TooLarge (size_of message.now)) else None) }
+// A message of this size is taken in, and has too many bytes.
+fn too_large(settings: &Checked, taken: bool, size: u64) -> Option<Rule>
+    ensures { result ≡ (if taken && nat_lt settings.now.max_payload size then
+        Some (Rule.TooLarge size) else None) }
 {
-    let size = message.size();
     if taken && size > u64::from(settings.settings().max_payload) {
         return Some(Rule::TooLarge(size));
     }
@@ -86,13 +84,10 @@ fn broken_request(
     requires is { frame.now ≡ Frame.Request request.now }
     ensures { result ≡ broken_rule settings.now (facts_of state.now) (Frame.Request request.now) }
 {
-    if request.follows {
-        return Some(Rule::NotNow);
-    }
     if !state.streams.is_peers_next(request.stream) {
         return Some(Rule::StreamId(request.stream));
     }
-    if let Some(rule) = too_large(settings, true, &request.message) {
+    if let Some(rule) = too_large(settings, true, request.message.size()) {
         return Some(rule);
     }
     if spends(settings, state, frame) || answer_spends(settings, state, request) {
@@ -101,25 +96,41 @@ fn broken_request(
     None
 }
 
-// The least rule that a payload breaks, which is the whole frame.
+// An item finds no credit where its message becomes whole: how much was granted.
+fn breaks_credit(state: &State, stream: u32, follows: bool, next: bool) -> Option<Rule>
+    ensures { result ≡ breaks_credit (facts_of state.now) stream follows next }
+{
+    if follows {
+        return None;
+    }
+    match state.streams.over_credit(stream, next) {
+        Some(granted) => Some(Rule::OverCredit(granted)),
+        None => None,
+    }
+}
+
+// The least rule that a payload breaks, which is the frame, by what it makes of its message.
 #[tactic(auto, unfolding(session_model::specs::Answers::broken_rule))]
 fn broken_payload(
     settings: &Checked,
     state: &State,
     frame: &Frame,
     stream: u32,
+    follows: bool,
     next: bool,
     message: &Message,
 ) -> Option<Rule>
     requires room { HasRoom state.now }
     requires spellable { IsSpellable frame.now }
-    requires is { IsPayload frame.now stream next message.now }
+    requires is { IsPayload frame.now stream follows next message.now }
     ensures { result ≡ broken_rule settings.now (facts_of state.now) frame.now }
 {
-    if let Some(granted) = state.streams.over_credit(stream, next) {
-        return Some(Rule::OverCredit(granted));
+    let next = state.parts.next_with(stream, next);
+    if let Some(rule) = breaks_credit(state, stream, follows, next) {
+        return Some(rule);
     }
-    if let Some(rule) = too_large(settings, state.streams.hears(stream), message) {
+    let size = state.parts.size_with(stream, message);
+    if let Some(rule) = too_large(settings, state.streams.hears(stream), size) {
         return Some(rule);
     }
     only_position(settings, state, frame)
@@ -148,13 +159,13 @@ fn broken_rule(settings: &Checked, state: &State, frame: &Frame) -> Option<Rule>
 {
     match frame {
         Frame::Request(request) => broken_request(settings, state, frame, request),
-        Frame::Payload { follows: true, .. } => Some(Rule::NotNow),
         Frame::Payload {
             stream,
+            follows,
             next,
             message,
             ..
-        } => broken_payload(settings, state, frame, *stream, *next, message),
+        } => broken_payload(settings, state, frame, *stream, *follows, *next, message),
         Frame::RequestN { .. } | Frame::Cancel { .. } | Frame::Error { .. } => {
             only_position(settings, state, frame)
         }

@@ -32,10 +32,12 @@
 //! It writes `client: Opened(1)`, `client: Started(1)`, `client: Drawn(82)`, `server: Opened(1)`
 //! and `server: Handled`, a line each.
 //!
-//! Built are SETUP and the four interactions with credit, cancel and errors; frames of unknown types are
-//! ignored where they may be. Resumption, leases, keepalive, metadata push and fragments are left out,
-//! and frames that belong to them are answered as ones that may not come now. [`refusal_frame`] is what
-//! a server gives on a connection that it refuses.
+//! Built are SETUP and the four interactions with credit, cancel, errors and fragments: a request or a
+//! payload that is longer than the mtu goes out in fragments, and what comes in fragments is taken in
+//! once it is whole (RSocket 1.0, "Fragmentation and Reassembly"). Frames of unknown types are ignored
+//! where they may be. Resumption, leases, keepalive and metadata push are left out, and frames that
+//! belong to them are answered as ones that may not come now. [`refusal_frame`] is what a server gives on
+//! a connection that it refuses.
 #![tactic(auto)]
 
 mod arrivals;
@@ -43,12 +45,14 @@ mod asked;
 mod came;
 mod counting;
 mod counts;
+mod gathering;
 mod history;
 mod judge;
 mod outgoing;
 mod queue;
 mod refusal;
 mod session;
+mod sizes;
 mod speak;
 mod state;
 

@@ -104,8 +104,7 @@ fn answered_again(answer: &Answer) -> Answer
 
 impl<T: Tape> Session<T> {
     /// A session that is not begun, of which nothing happened yet. The tape is empty, and the
-    /// settings have no resumption, no leases and no fragments. Where memory runs out, the tape
-    /// comes back.
+    /// settings have no resumption and no leases. Where memory runs out, the tape comes back.
     pub fn new(alloc: Global, settings: Checked, tape: T) -> Result<Session<T>, (T, OutOfMemory)>
         requires empty { T.count tape ≡ 0 }
         requires plain { IsPlain settings }

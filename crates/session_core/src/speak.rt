@@ -3,39 +3,32 @@
 ghost use Rattle.std.specs.Prelude.{◌≡◌, ◌++◌, IfSome, OnErr, OnOk, option_to_list};
 ghost use Rattle.std.specs.Option.{option_map};
 ghost use Rattle.interactions.specs.Seen.{stream_of_call};
-ghost use Rattle.stream_model.specs.Arriving.{heard, said, stream_in};
-ghost use Rattle.session_model.specs.Streams.{marks_in};
-ghost use Rattle.session_core.specs.Speaking.{Acts, CanSay, Comes, FindsRoom, arrival_for, named, speaks_on, stream_heard};
+ghost use Rattle.stream_model.specs.Arriving.{heard, said};
+ghost use Rattle.session_core.specs.Speaking.{Acts, CanSay, Comes, FindsRoom, heard_on, named, says, speaks_on};
 
 use interactions::Streams;
+use rs_frame::Frame;
 use rs_wire::{Call, OutOfMemory};
 use stream_model::Arrival;
 use tape::{Answer, Event};
 
-// The stream of an arrival.
-fn stream_in(arrival: &Arrival) -> u32
-    ensures { result ≡ stream_in arrival.now }
+/// The stream of a frame that says something on a stream, or that is a part of a message there.
+pub fn heard_on(frame: &Frame) -> Option<u32>
+    ensures { result ≡ heard_on frame.now }
 {
-    match arrival {
-        Arrival::Asked { stream, .. }
-        | Arrival::Whole { stream, .. }
-        | Arrival::Granted { stream, .. }
-        | Arrival::Canceled { stream }
-        | Arrival::Failed { stream, .. } => *stream,
+    match frame {
+        Frame::Request(request) => Some(request.stream),
+        Frame::Error { stream: 0, .. } => None,
+        Frame::Payload { stream, .. }
+        | Frame::RequestN { stream, .. }
+        | Frame::Cancel { stream }
+        | Frame::Error { stream, .. } => Some(*stream),
+        _ => None,
     }
 }
 
-fn stream_heard(arrival: &Option<Arrival>) -> Option<u32>
-    ensures { result ≡ stream_heard arrival.now }
-{
-    match arrival {
-        Some(arrival) => Some(stream_in(arrival)),
-        None => None,
-    }
-}
-
-// The stream on which a call goes on, where it names one.
-fn named(call: &Call) -> Option<u32>
+/// The stream on which a call goes on, where it names one.
+pub fn named(call: &Call) -> Option<u32>
     ensures { result ≡ named call.now }
 {
     match call {
@@ -49,11 +42,11 @@ fn named(call: &Call) -> Option<u32>
 }
 
 // The stream that a frame that is handled, or a call that acts, speaks on.
-fn speaks_on(answer: &Answer, event: &Event, arrival: &Option<Arrival>) -> Option<u32>
-    ensures { result ≡ speaks_on answer.now event.now arrival.now }
+fn speaks_on(answer: &Answer, event: &Event) -> Option<u32>
+    ensures { result ≡ speaks_on answer.now event.now }
 {
     match (answer, event) {
-        (Answer::Handled, _) => stream_heard(arrival),
+        (Answer::Handled, Event::Came { frame, .. }) => heard_on(frame),
         (Answer::Started(id), Event::Asked(_)) => Some(*id),
         (Answer::Done, Event::Asked(call)) => named(call),
         _ => None,
@@ -61,17 +54,12 @@ fn speaks_on(answer: &Answer, event: &Event, arrival: &Option<Arrival>) -> Optio
 }
 
 /// Makes room for what an event and its answer say.
-pub fn make_room(
-    streams: &mut Streams,
-    event: &Event,
-    answer: &Answer,
-    arrival: &Option<Arrival>,
-) -> Result<(), OutOfMemory>
+pub fn make_room(streams: &mut Streams, event: &Event, answer: &Answer) -> Result<(), OutOfMemory>
     ensures same { streams.new ≡ record streams.old { ready = streams.new.ready } }
     ensures room { OnOk result (FindsRoom
-        (speaks_on answer.now event.now arrival.now) streams.new.ready) }
+        (speaks_on answer.now event.now) streams.new.ready) }
 {
-    match speaks_on(answer, event, arrival) {
+    match speaks_on(answer, event) {
         Some(stream) => streams.reserve(stream),
         None => Ok(()),
     }
@@ -99,15 +87,15 @@ fn act(streams: &mut Streams, call: &Call)
     let _stream = streams.act(call);
 }
 
-/// Says what an event and its answer say, for which room was made.
+/// Says what an event and its answer say, for which room was made; this arrival is what a frame says
+/// that is handled.
 pub fn say(streams: &mut Streams, event: &Event, answer: &Answer, arrival: Option<Arrival>)
     requires fits { CanSay streams.old answer.now event.now arrival }
-    requires arrival { arrival ≡ arrival_for answer.now event.now }
-    ensures marks { streams.new.marks ≡ marks_in answer.now event.now ++ streams.old.marks }
+    ensures marks { streams.new.marks ≡ says arrival answer.now event.now ++ streams.old.marks }
     ensures limits { streams.new.limits ≡ streams.old.limits }
 {
     match (answer, event) {
-        (Answer::Handled, _) => hear(streams, arrival),
+        (Answer::Handled, Event::Came { .. }) => hear(streams, arrival),
         (Answer::Done, Event::Asked(Call::Close)) => {}
         (Answer::Started(_) | Answer::Done, Event::Asked(call)) => act(streams, call),
         (Answer::Got(_), Event::Asked(Call::Take { stream })) => {

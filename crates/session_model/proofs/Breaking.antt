@@ -11,8 +11,8 @@ use Rattle.rs_frame.specs.Table.{flag}
 use Rattle.stream_model.specs.Known.{is_peers_next, hears_on}
 use Rattle.stream_model.specs.Arriving.{over_credit_on}
 use Rattle.session_model.specs.declared.numbers.TheConstants.{MAY_IGNORE}
-use Rattle.fragment.specs.Joining.{Gathered}
-use Rattle.session_model.specs.Streams.{is_turned_away, with_part}
+use Rattle.fragment.specs.Joining.{Gathered, with_part}
+use Rattle.session_model.specs.Streams.{is_turned_away}
 use Rattle.session_model.specs.Frames.{turned_away}
 use Rattle.session_model.specs.Answers.{Facts, broken_rule, payload_rule}
 use Rattle.session_model.specs.Means.{MayCome}

@@ -83,7 +83,7 @@ by_fragments P mtu f whole split alone = alone
 mtu_between : (g : Settings) → fault_of g ≡ None → (g.mtu == 0 || is_between 64 g.mtu 16777215) ≡ true
 mtu_between g none = grind (arith, common_steps)
 
-is_mtu : (g : Settings) → IsChecked g → IsMtu g.mtu
+pub is_mtu : (g : Settings) → IsChecked g → IsMtu g.mtu
 is_mtu g checked =
     let between = mtu_between g checked.no_fault in
     let most = checked.mtu in
@@ -105,7 +105,7 @@ sent_spellable g None checked whole spellable = tt
 sent_spellable g (Some f) checked whole spellable = fragments_spellable g f checked whole spellable
 
 -- the frame of a call is whole
-spoken_whole : (t : Known) (id : ℕ) (asked : Call) → IfSome (spoken t id asked) IsWhole
+pub spoken_whole : (t : Known) (id : ℕ) (asked : Call) → IfSome (spoken t id asked) IsWhole
 spoken_whole t id asked = grind (arith, common_steps)
 
 -- the frame of a call that is not refused
@@ -161,7 +161,7 @@ pub done_same : (g : Settings) (t : Facts) (asked : Call) (id : ℕ) → Does g 
 done_same g t (call.Request kind initial message complete) id does = absurd does
 done_same g t asked id does = refl
 
-done_spellable : (g : Settings) (t : Facts) (asked : Call) → IsChecked g → IdsFit t.streams → IsFair g (event.Asked asked) → Does g t (event.Asked asked)
+pub done_spellable : (g : Settings) (t : Facts) (asked : Call) → IsChecked g → IdsFit t.streams → IsFair g (event.Asked asked) → Does g t (event.Asked asked)
     → IfSome (spoken t.streams 0 asked) IsSpellable
 done_spellable g t asked checked ids fair does =
     rw (← done_same g t asked 1 does) (spoken_spellable g t 1 asked checked ids fair (lit< tt, lit< tt) (done_passes g t asked does))

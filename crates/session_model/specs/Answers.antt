@@ -26,7 +26,7 @@ use Rattle.rs_frame.specs.declared.frame.Resume.{Resume}
 use Rattle.rs_frame.specs.declared.frame.Setup.{Setup}
 use Rattle.rs_frame.specs.Spelling.{length_of}
 use Rattle.rs_frame.specs.Framed.{framed_all}
-use Rattle.fragment.specs.Joining.{Gathered}
+use Rattle.fragment.specs.Joining.{Gathered, with_part}
 use Rattle.rs_frame.specs.Table.{flag}
 use Rattle.setup_core.specs.Setup.{setup_fault}
 use Rattle.tape.specs.declared.event.Event.{Event}
@@ -42,7 +42,7 @@ use Rattle.stream_model.specs.Arriving.{over_credit_on}
 use Rattle.session_model.specs.Life.{openings, live, is_live, carrying, begun, setup, closed, asked_token}
 use Rattle.session_model.specs.declared.facts.Counted.{Counted}
 use Rattle.session_model.specs.declared.numbers.TheConstants.{ANSWER_ROOM, EXTENSION, MAY_IGNORE}
-use Rattle.session_model.specs.Streams.{known, unfinished, is_turned_away, with_part}
+use Rattle.session_model.specs.Streams.{known, unfinished, is_turned_away}
 use Rattle.session_model.specs.Frames.{closing_error, turned_away, spoken, in_fragments, made, handled, first, queued}
 
 -- how many frames there are, and the position after them

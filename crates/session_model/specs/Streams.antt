@@ -17,17 +17,13 @@ use Rattle.stream_model.specs.declared.arrival.Arrival.TheVariants as arrival
 use Rattle.stream_model.specs.Marks.{Mark, Took, TookJob}
 use Rattle.stream_model.specs.Turns.{is_fnf}
 use Rattle.stream_model.specs.Known.{Known, known as known_after, hears_on}
-use Rattle.fragment.specs.Joining.{Gathered, nothing, join, left_held}
+use Rattle.fragment.specs.Joining.{Gathered, nothing, left_held, with_part}
 use Rattle.stream_model.specs.Arriving.{said, heard}
 
 -- a message is whole where no fragment follows
 abbrev pub whole_in : Bool → Message → Bool → Option (Message × Bool)
 whole_in true message complete = None
 whole_in false message complete = Some (message, complete)
-
--- a part of a message joined to what was gathered of it (RSocket 1.0, "Fragmentation and Reassembly")
-abbrev pub with_part : Gathered → Message → Bool → Bool → Gathered
-with_part held message complete next = join held (record { message = message; complete = complete; next = next })
 
 abbrev pub arrives_whole : ℕ → Gathered → Arrival
 arrives_whole s sum = arrival.Whole s sum.message sum.complete sum.next

@@ -11,6 +11,7 @@ pub const CLIENT: Limits = Limits {
     max_streams: 1024,
     last_id: 3,
     top_position: 16,
+    mtu: 0,
 };
 
 /// A client without narrow limits.
@@ -20,6 +21,7 @@ pub const WIDE_CLIENT: Limits = Limits {
     max_streams: 1024,
     last_id: 9,
     top_position: 100_000_000,
+    mtu: 0,
 };
 
 /// A server whose messages have 4 bytes at most, up to position 14.
@@ -29,6 +31,7 @@ pub const SERVER: Limits = Limits {
     max_streams: 1024,
     last_id: 9,
     top_position: 14,
+    mtu: 0,
 };
 
 /// A server without narrow limits.

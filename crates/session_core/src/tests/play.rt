@@ -27,6 +27,8 @@ pub struct Limits {
     pub last_id: u32,
     /// The last position, in bytes.
     pub top_position: u64,
+    /// How many bytes a frame has that is sent, 0 for no limit.
+    pub mtu: u32,
 }
 
 /// What a session shows of itself.
@@ -109,6 +111,7 @@ pub fn session(rt: &impl Abort, alloc: Global, limits: Limits) -> Session<Kept> 
     settings.max_streams = limits.max_streams;
     settings.last_id = limits.last_id;
     settings.top_position = limits.top_position;
+    settings.mtu = limits.mtu;
     let checked = check(settings).expect(rt, "the settings are right");
     // The contract of this call says that the limits are in their ranges, as a session requires.
     let _limits = checked.settings();

@@ -102,7 +102,6 @@ fn a_frame_breaks_the_least_rule(rt: HostRuntime) {
         (Step::Odd(1, Strange::Extension(0)), Rule::UnknownType(63)),
         (Step::Odd(1, Strange::Setup), Rule::NotNow),
         (Step::Odd(1, Strange::Response), Rule::StreamId(4)),
-        (Step::Odd(1, Strange::Fragment), Rule::NotNow),
         (Step::Came(4, 5), Rule::StreamId(4)),
         (Step::Came(2, 0), Rule::StreamId(2)),
         (Step::Came(3, 5), Rule::StreamId(3)),

@@ -21,6 +21,19 @@ pub enum First {
     Other,
 }
 
+/// What a fragment carries: a byte of metadata where it has any, and one of content.
+#[derive(Clone, Copy)]
+pub struct Piece {
+    /// More fragments follow.
+    pub follows: bool,
+    /// It has C.
+    pub complete: bool,
+    /// Its metadata.
+    pub metadata: Option<u8>,
+    /// Its content.
+    pub content: u8,
+}
+
 /// A frame that is no request that an end takes. Those that name no stream of their own are on stream
 /// 4.
 #[derive(Clone, Copy)]
@@ -41,8 +54,10 @@ pub enum Strange {
     Setup,
     /// A REQUEST_RESPONSE.
     Response,
-    /// A fire-and-forget of which fragments follow.
-    Fragment,
+    /// A REQUEST_RESPONSE on a stream, with this piece of its message.
+    First(u32, Piece),
+    /// PAYLOAD with N on a stream, with this piece of a message.
+    Part(u32, Piece),
 }
 
 /// An event in short. A message is given by how many bytes it has: each is 0x68.
@@ -74,6 +89,8 @@ pub enum Step {
     AskStream(u32),
     /// The same with metadata of so many bytes more.
     AskWith(usize, usize),
+    /// A job is to be taken.
+    TakeJob,
     /// The session is to be closed.
     Close,
 }
@@ -101,6 +118,22 @@ fn with_metadata(rt: &impl Abort, alloc: Global, len: usize, metadata: usize) ->
     Message {
         metadata: Some(repeated(rt, alloc, metadata)),
         content: repeated(rt, alloc, len),
+    }
+}
+
+// A blob of one byte.
+fn byte(rt: &impl Abort, alloc: Global, byte: u8) -> Blob {
+    Blob::from_slice(alloc, &[byte]).expect(rt, "there is memory")
+}
+
+fn piece_message(rt: &impl Abort, alloc: Global, piece: Piece) -> Message {
+    let metadata = match piece.metadata {
+        Some(metadata) => Some(byte(rt, alloc, metadata)),
+        None => None,
+    };
+    Message {
+        metadata,
+        content: byte(rt, alloc, piece.content),
     }
 }
 
@@ -176,7 +209,19 @@ fn strange_frame(rt: &impl Abort, alloc: Global, strange: Strange) -> Frame {
         },
         Strange::Setup => setup(rt, alloc, 1, None, false),
         Strange::Response => request(4, Kind::Response, false, message(rt, alloc, 0)),
-        Strange::Fragment => request(4, Kind::Fnf, true, message(rt, alloc, 0)),
+        Strange::First(stream, piece) => request(
+            stream,
+            Kind::Response,
+            piece.follows,
+            piece_message(rt, alloc, piece),
+        ),
+        Strange::Part(stream, piece) => Frame::Payload {
+            stream,
+            follows: piece.follows,
+            complete: piece.complete,
+            next: true,
+            message: piece_message(rt, alloc, piece),
+        },
     }
 }
 
@@ -218,6 +263,7 @@ impl Step {
             Step::AskWith(len, more) => ask(Kind::Fnf, 0, with_metadata(rt, alloc, len, more)),
             Step::AskResponse => ask(Kind::Response, 0, message(rt, alloc, 0)),
             Step::AskStream(n) => ask(Kind::Stream, n, message(rt, alloc, 0)),
+            Step::TakeJob => Event::Asked(Call::TakeJob),
             Step::Close => Event::Asked(Call::Close),
         }
     }

@@ -19,3 +19,6 @@ invariant_of-self g c =
 pub act-requires-clause-position : goal.act-requires-clause-position
 unfolding pos_by
 act-requires-clause-position g c = rw c.nothing_more-prepared.ensures.made (omega (arith, c.self.invariant.made.position, c.self.invariant.plain.checked.top_position))
+
+pub act-requires-clause-heard : goal.act-requires-clause-heard
+act-requires-clause-heard g c = c.self.invariant.fits.heard

@@ -1,0 +1,81 @@
+//! How many bytes the frames of a call take.
+
+ghost use Rattle.std.specs.Prelude.{◌≡◌, ◌+◌, ◌<◌, ◌≤◌, ◌^◌, [], ◌∷◌, ℕ, IfSome, length};
+ghost use Rattle.rs_frame.specs.Spelling.{number_there};
+ghost use Rattle.stream_model.specs.Known.{Known};
+ghost use Rattle.fragment.specs.Splitting.{IsMtu};
+ghost use Rattle.session_model.specs.Frames.{closing_error, spoken};
+ghost use Rattle.session_model.specs.Answers.{size_in};
+ghost use Rattle.session_core.specs.Sizes.{size_of_frames, size_sent};
+
+use fragment::{SplitSize, split_size};
+use rs_wire::{Amount, Call, Checked, Message};
+
+/// The bytes of a frame's header.
+const HEADER: u32 = 6;
+
+/// The bytes of a code, of an initial n and of the n of REQUEST_N.
+const NUMBER: u32 = 4;
+
+/// The most bytes of a frame that is sent, 0 for no limit.
+#[tactic(auto, using(crate::proofs::Framed::mtu_limit))]
+pub fn mtu(settings: &Checked) -> u32
+    ensures value { result ≡ settings.now.mtu }
+    ensures limit { IsMtu result }
+{
+    settings.settings().mtu
+}
+
+// One frame of this length.
+fn one(bytes: u64) -> SplitSize
+    ensures { result ≡ record { frames = 1; bytes = bytes } }
+{
+    SplitSize { frames: 1, bytes }
+}
+
+/// The size of the ERROR without content that closes a session.
+#[tactic(auto, unfolding(position::specs::Boundaries::pos_by))]
+pub fn closing_size() -> SplitSize
+    ensures value { result ≡ size_of_frames (closing_error [] ∷ []) }
+    ensures few { result.frames < 2 ^ 40 }
+    ensures small { result.bytes < 2 ^ 60 }
+{
+    one(u64::from(HEADER + NUMBER))
+}
+
+// The bytes before the message in a request.
+fn head(initial: Option<Amount>) -> u32
+    ensures value { result ≡ HEADER + length (number_there initial) }
+    ensures small { result ≤ 10 }
+{
+    match initial {
+        Some(_) => HEADER + NUMBER,
+        None => HEADER,
+    }
+}
+
+/// How many frames the frame of a call goes out in, where it makes one, and their bytes in sum.
+pub fn size_spoken(settings: &Checked, call: &Call) -> Option<SplitSize>
+    requires { size_in call.now ≤ 16000000 }
+    ensures value { (t : Known) (id : ℕ) → result ≡
+        size_sent settings.now.mtu (spoken t id call.now) }
+    ensures few { IfSome result (λ n. n.frames < 2 ^ 40) }
+    ensures small { IfSome result (λ n. n.bytes < 2 ^ 60) }
+{
+    let mtu = mtu(settings);
+    match call {
+        Call::Request {
+            initial,
+            message,
+            ..
+        } => Some(split_size(message, head(*initial), mtu)),
+        Call::Next { message, .. } => Some(split_size(message, HEADER, mtu)),
+        Call::Done { .. } => Some(one(u64::from(HEADER))),
+        Call::Cancel { .. } => Some(one(u64::from(HEADER))),
+        Call::Grant { .. } => Some(one(u64::from(HEADER + NUMBER))),
+        Call::Fail { content, .. } => {
+            Some(one(u64::from(HEADER + NUMBER) + content.len() as u64))
+        }
+        Call::Take { .. } | Call::TakeJob | Call::Close => None,
+    }
+}
