@@ -34,7 +34,7 @@ use Rattle.tape.specs.declared.event.Event.TheVariants as event
 use Rattle.tape.specs.declared.answer.Answer.{Answer}
 use Rattle.tape.specs.declared.answer.Answer.TheVariants as answer
 use Rattle.tape.specs.declared.entry.Entry.{Entry}
-use Rattle.position.specs.Boundaries.{pos, is_boundary}
+use Rattle.position.specs.Boundaries.{pos}
 use Rattle.resume_core.specs.Resumption.{resume_fault, ok_fault}
 use Rattle.stream_model.specs.Known.{Known, limits_of, next_id, is_peers_next, hears_on, front_of}
 use Rattle.stream_model.specs.Refused.{by_state, by_credit, by_ids, by_live}
@@ -43,7 +43,7 @@ use Rattle.session_model.specs.Life.{openings, live, is_live, carrying, begun, s
 use Rattle.session_model.specs.declared.facts.Counted.{Counted}
 use Rattle.session_model.specs.declared.numbers.TheConstants.{ANSWER_ROOM, EXTENSION, MAY_IGNORE}
 use Rattle.session_model.specs.Streams.{known, unfinished, is_turned_away}
-use Rattle.session_model.specs.Frames.{closing_error, turned_away, spoken, in_fragments, made, handled, first, queued}
+use Rattle.session_model.specs.Frames.{closing_error, turned_away, spoken, in_fragments, made, handled, held_from, is_held_boundary, queued}
 
 -- how many frames there are, and the position after them
 abbrev pub counted : List Frame → Counted
@@ -61,9 +61,9 @@ pub record Facts : Type 0 where
   pub closed : Option Cause
   pub made : Counted
   pub handled : Counted
-  -- the position from which on the frames made are held
+  -- the position from which on frames are held, for which resumption has to be agreed
   pub first : ℕ
-  -- a frame that was made begins or ends at a position
+  -- a held frame begins or ends at a position
   pub boundary : ℕ → Bool
   -- how many bytes wait to be drawn
   pub queued : ℕ
@@ -82,8 +82,8 @@ facts g past = record {
   closed = closed g past;
   made = counted (made g past);
   handled = counted (handled past);
-  first = first g past;
-  boundary = is_boundary (made g past);
+  first = held_from g past;
+  boundary = is_held_boundary g past;
   queued = queued g past;
   streams = known g past;
   unfinished = unfinished g past;

@@ -20,8 +20,8 @@ use Rattle.stream_model.specs.Known.{Known, is_open_response}
 use Rattle.stream_model.specs.Arriving.{no_message}
 use Rattle.fragment.specs.Splitting.{split_of}
 use Rattle.session_model.specs.Lists.{first_of}
-use Rattle.session_model.specs.Life.{openings, live, live_after, is_live, begun, carrying, told}
-use Rattle.position.specs.Boundaries.{pos, frames_from, first as first_held}
+use Rattle.session_model.specs.Life.{openings, live, live_after, is_live, begun, carrying, resumption_agreed, told}
+use Rattle.position.specs.Boundaries.{pos, is_boundary, frames_from, first as first_held}
 use Rattle.session_model.specs.declared.numbers.TheConstants.{CONNECTION_ERROR, REJECTED, REJECTED_RESUME}
 use Rattle.session_model.specs.Streams.{known, is_turned_away}
 
@@ -115,6 +115,22 @@ handled (x ∷ past) = handled past ++ handles x.answer x.event
 -- the position from which on the frames made are held: those that the peer may not have handled, and of them as many as may be held
 abbrev pub first : Settings → List Entry → ℕ
 first g past = first_held (made g past) (told past) g.hold
+
+-- frames are kept where resumption is agreed
+abbrev pub if_agreed : Bool → List Frame → List Frame
+if_agreed agreed frames = if agreed then frames else []
+
+-- the frames made that are kept, the held ones and those that are forgotten again
+abbrev pub kept : Settings → List Entry → List Frame
+kept g past = if_agreed (resumption_agreed g past) (made g past)
+
+-- the position from which on they are held, 0 where none is kept
+abbrev pub held_from : Settings → List Entry → ℕ
+held_from g past = first_held (kept g past) (told past) g.hold
+
+-- a held frame begins or ends at the position
+abbrev pub is_held_boundary : Settings → List Entry → ℕ → Bool
+is_held_boundary g past p = nat_le (held_from g past) p && is_boundary (kept g past) p
 
 -- ---- due
 
