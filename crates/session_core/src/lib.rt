@@ -53,6 +53,7 @@ mod judge;
 mod kept;
 mod life;
 mod line;
+mod notices;
 mod outgoing;
 mod queue;
 mod refusal;

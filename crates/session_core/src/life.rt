@@ -1,9 +1,8 @@
 //! How the life of a session goes on by an event and its answer.
 
-ghost use Rattle.std.specs.Prelude.{◌≡◌, ◌||◌, Bool, true, IfOk};
+ghost use Rattle.std.specs.Prelude.{◌≡◌, IfOk};
 ghost use Rattle.session_model.specs.Lists.{first_of};
 ghost use Rattle.session_model.specs.Life.{agrees_resumption, carrying_after, closes_so, is_opened, live_after, openings_in, setup_in, told_in};
-ghost use Rattle.rs_wire.specs.declared.settings.Settings.{Settings};
 
 use rs_frame::{Frame, Setup};
 use rs_wire::{Call, Cause, OutOfMemory, Settings, Side};
@@ -41,20 +40,6 @@ pub fn live_after(answer: &Answer, before: u64) -> u64
     }
 }
 
-// RESUME_OK came.
-fn is_resume_ok(event: &Event) -> bool
-    ensures { (g : Settings) (before : Bool) → (before || result) ≡
-        carrying_after g true Answer.Handled event.now before }
-{
-    matches!(
-        event,
-        Event::Came {
-            frame: Frame::ResumeOk { .. },
-            ..
-        }
-    )
-}
-
 /// Whether frames go out at once after an event and its answer: an accepted opening carries from the
 /// start, but for a client's later one, which waits for RESUME_OK (RSocket 1.0, "RESUME_OK Frame").
 pub fn carrying_after(
@@ -66,10 +51,16 @@ pub fn carrying_after(
 ) -> bool
     ensures { result ≡ carrying_after settings.now begun answer.now event.now before }
 {
-    match answer {
-        Answer::Opened(_) => !(begun && matches!(settings.side, Side::Client)),
-        Answer::Parted => false,
-        Answer::Handled => before || is_resume_ok(event),
+    match (answer, event) {
+        (Answer::Opened(_), _) => !(begun && matches!(settings.side, Side::Client)),
+        (Answer::Parted, _) => false,
+        (
+            Answer::Handled,
+            Event::Came {
+                frame: Frame::ResumeOk { .. },
+                ..
+            },
+        ) => true,
         _ => before,
     }
 }

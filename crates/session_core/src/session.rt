@@ -104,7 +104,7 @@ fn answered_again(answer: &Answer) -> Answer
 
 impl<T: Tape> Session<T> {
     /// A session that is not begun, of which nothing happened yet. The tape is empty, and the
-    /// settings have no resumption and no leases. Where memory runs out, the tape comes back.
+    /// settings have no leases. Where memory runs out, the tape comes back.
     pub fn new(alloc: Global, settings: Checked, tape: T) -> Result<Session<T>, (T, OutOfMemory)>
         requires empty { T.count tape ≡ 0 }
         requires plain { IsPlain settings }
@@ -339,7 +339,7 @@ impl<T: Tape> Session<T> {
     pub fn carrying(&self) -> bool
         ensures { result ≡ carrying self.now.settings self.now.entries }
     {
-        self.state.is_carrying()
+        self.state.carrying
     }
 
     /// Why the session is closed.

@@ -76,7 +76,7 @@ short_setup keepalive lifetime (Some x) metadata content t m c =
     omega (arith, t, length-append x (counted_bytes 1 metadata ++ (counted_bytes 1 content ++ [])), length-append metadata (counted_bytes 1 content ++ []), length-append content [])
 
 -- a SETUP, with its token where the client resumes
-setup_spellable : (g : Settings) → IsChecked g → IsSpellable (setup_frame g)
+pub setup_spellable : (g : Settings) → IsChecked g → IsSpellable (setup_frame g)
 setup_spellable g checked =
     let keepalive = checked.keepalive in
     let lifetime = checked.lifetime in
@@ -88,7 +88,7 @@ setup_spellable g checked =
       short = short_setup g.keepalive_ms g.lifetime_ms _ g.metadata_mime g.content_mime token metadata content;
     }
 
-resume_spellable : (g : Settings) (handled first : ℕ) → IsChecked g → handled ≤ g.top_position → first ≤ g.top_position → IsSpellable (resume_frame g handled first)
+pub resume_spellable : (g : Settings) (handled first : ℕ) → IsChecked g → handled ≤ g.top_position → first ≤ g.top_position → IsSpellable (resume_frame g handled first)
 resume_spellable g handled first checked h f =
     let token = checked.token in
     let top = checked.top_position in
@@ -97,7 +97,7 @@ resume_spellable g handled first checked h f =
       short = omega (arith, length-append g.token (big_bytes 8 handled ++ big_bytes 8 first));
     }
 
-ok_spellable : (g : Settings) (handled : ℕ) → IsChecked g → handled ≤ g.top_position → IsSpellable (frame.ResumeOk handled)
+pub ok_spellable : (g : Settings) (handled : ℕ) → IsChecked g → handled ≤ g.top_position → IsSpellable (frame.ResumeOk handled)
 ok_spellable g handled checked h = let top = checked.top_position in record { fields = omega arith; short = lit< tt }
 
 -- frames that are sent again
@@ -106,13 +106,13 @@ unfolding frames_from_by
 again_spellable [] p h = tt
 again_spellable (f ∷ fs) p h = elim (p == 0) as (λ v. AllByRecursion IsSpellable (cond v (f ∷ fs) (frames_from fs (p - length_of f)))) [ true ↦ h | false ↦ again_spellable fs (p - length_of f) h.1 ]
 
-words_short : (r : Rule) → length (rule_word r) ≤ 16000000
+pub words_short : (r : Rule) → length (rule_word r) ≤ 16000000
 words_short r = grind (arith, common_steps)
 
-gone_short : (why : Gone) → length (gone_word why) ≤ 16000000
+pub gone_short : (why : Gone) → length (gone_word why) ≤ 16000000
 gone_short why = grind (arith, common_steps)
 
-closing_spellable : (content : List ℕ) → length content ≤ 16000000 → IsSpellable (closing_error content)
+pub closing_spellable : (content : List ℕ) → length content ≤ 16000000 → IsSpellable (closing_error content)
 closing_spellable content small = error_spellable 0 CONNECTION_ERROR content (lit< tt) (lit< tt) small
 
 -- what was made and handled finds its place
