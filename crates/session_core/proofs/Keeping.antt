@@ -43,13 +43,13 @@ boundary_of_made made told h p is =
     let held = boundaries_held made told h p is in
     same_tests (has_boundary h p) (leb h.first p && is_boundary made p) (IsHeldBoundary h p) (held_test h p) (test_held h p)
     (λ t.
-      let b = both (leb h.first p) (is_boundary made p) t in
-      let low = b.0 in
-      let from : h.first ≤ p = grind (arith, nat_tests) in
-      held.1 (boundary_test length_of made p b.1, from))
+    let b = both (leb h.first p) (is_boundary made p) t in
+    let low = b.0 in
+    let from : h.first ≤ p = grind (arith, nat_tests) in
+    held.1 (boundary_test length_of made p b.1, from))
     (λ there.
-      let b = held.0 there in
-      rw (le-leb h.first p b.1, test_boundary length_of made p b.0) refl)
+    let b = held.0 there in
+    rw (le-leb h.first p b.1, test_boundary length_of made p b.0) refl)
 
 -- ---- frames in their bytes
 

@@ -141,7 +141,7 @@ again_agreed g past e a legal fair can m = tt
 pub kept_made : (g : Settings) (past : List Entry) → resumption_agreed g past ≡ true → kept g past ≡ made g past
 kept_made g past agreed = ap (λ b. if_agreed b (made g past)) agreed
 
-if_none : (b : Bool) → if_agreed b [] ≡ []
+pub if_none : (b : Bool) → if_agreed b [] ≡ []
 if_none true = refl
 if_none false = refl
 

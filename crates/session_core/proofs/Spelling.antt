@@ -57,11 +57,13 @@ frame_goes g s e a plain even odd fair means = tt
 
 -- the frames of the connection
 greeting_spelled : (g : Settings) (s : State) (e : Event) → IsChecked g → ArePositionsBelow g s → AllByRecursion IsSpellable (greeting g (facts_of s) e)
-greeting_spelled g s (event.Open None taken) checked below =
-    (elim s.begun as (λ v. IsSpellable (cond v (resume_frame g s.handled.position s.replay.held.first) (setup_frame g))) [
-      | true ↦ resume_spellable g s.handled.position s.replay.held.first checked below.handled below.first
-      | false ↦ setup_spellable g checked
-    ], tt)
+greeting_spelled g s (event.Open None taken) checked below = (
+  elim s.begun as (λ v. IsSpellable (cond v (resume_frame g s.handled.position s.replay.held.first) (setup_frame g))) [
+    | true ↦ resume_spellable g s.handled.position s.replay.held.first checked below.handled below.first
+    | false ↦ setup_spellable g checked
+  ],
+  tt,
+)
 greeting_spelled g s (event.Open (Some (frame.Resume r)) taken) checked below = (ok_spellable g s.handled.position checked below.handled, tt)
 greeting_spelled g s e checked below = tt
 

@@ -17,11 +17,7 @@ use rs_wire::OutOfMemory;
 use tape::Answer;
 
 // Appends the held frames from a held boundary on, where there is one.
-fn append_again(
-    queue: &mut Queue,
-    replay: &Replay,
-    again: Option<u64>,
-) -> Result<(), OutOfMemory>
+fn append_again(queue: &mut Queue, replay: &Replay, again: Option<u64>) -> Result<(), OutOfMemory>
     requires { IfSome again (IsHeldBoundary replay.now.held) }
     ensures ok { OnOk result (queue.new ≡ queue.old ++ sent_again replay.now.held again) }
     ensures err { OnErr result (queue.new ≡ queue.old) }

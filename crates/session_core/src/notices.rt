@@ -82,11 +82,7 @@ pub fn only(alloc: Global, frame: Frame) -> Result<Vec<Frame>, OutOfMemory>
 }
 
 // The frame that a client's accepted opening begins with.
-fn client_greeting(
-    alloc: Global,
-    settings: &Checked,
-    state: &State,
-) -> Result<Frame, OutOfMemory>
+fn client_greeting(alloc: Global, settings: &Checked, state: &State) -> Result<Frame, OutOfMemory>
     ensures { IfOk result (λ f. f ∷ [] ≡
         greeting settings.now (facts_of state.now) (Event.Open None false)) }
 {

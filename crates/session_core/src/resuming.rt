@@ -39,10 +39,12 @@ fn resume_gone(state: &State, resume: &Resume) -> Option<Gone>
     ensures { result ≡ resume_gone (facts_of state.now) resume.now }
 {
     match &state.setup {
-        Some(Setup {
-            resume: Some(token),
-            ..
-        }) => gone_with(state, resume, token),
+        Some(
+            Setup {
+                resume: Some(token),
+                ..
+            },
+        ) => gone_with(state, resume, token),
         _ => Some(Gone::Token),
     }
 }
