@@ -32,7 +32,7 @@ use Rattle.session_laws.proofs.Counting.{counting, owes_counts}
 use Rattle.session_laws.proofs.Life.{bad_later, came_later, fresh_made}
 use Rattle.session_laws.proofs.Quiet.{first_none, is_handled, quiet}
 use Rattle.session_laws.proofs.Runs.{Runs, runs_off, runs_on, runs_whole}
-use Rattle.session_laws.proofs.Verdict.{ok_boundary}
+use Rattle.session_laws.proofs.Verdict.{kept_boundary, ok_boundary}
 
 -- ---- one connection
 
@@ -156,7 +156,7 @@ opened g past c n taken legal side next f =
 accepted_front : (g : Settings) (past : List Entry) (conn p : ℕ) → Handling g (facts g past) conn (frame.ResumeOk p)
     → (front : List Frame) × (front ++ frames_from (made g past) p ≡ made g past) × (pos front ≡ p)
 unfolding facts
-accepted_front g past conn p means = front_of length_of (made g past) p (boundary_test length_of (made g past) p (ok_boundary (facts g past) p means.may.1))
+accepted_front g past conn p means = front_of length_of (made g past) p (kept_boundary g past p (ok_boundary (facts g past) p means.may.1))
 
 -- RESUME_OK is accepted
 resumes : (g : Settings) (past : List Entry) (c conn p : ℕ) → IsChecked g → Legal g past → Handling g (facts g past) conn (frame.ResumeOk p) → FlowAt g past c → FlowAfter g past c answer.Handled (event.Came conn (frame.ResumeOk p))

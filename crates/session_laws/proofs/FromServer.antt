@@ -28,7 +28,7 @@ use Rattle.session_model.proofs.Openings.{due_later}
 use Rattle.session_laws.proofs.Counting.{again_counts, counting, made_counts, owes_counts}
 use Rattle.session_laws.proofs.Life.{came_later, fresh_made}
 use Rattle.session_laws.proofs.Runs.{Runs, runs_off, runs_on, runs_whole}
-use Rattle.session_laws.proofs.Verdict.{resume_boundary}
+use Rattle.session_laws.proofs.Verdict.{kept_boundary, resume_boundary}
 
 -- ---- one connection
 
@@ -89,7 +89,7 @@ none_carried false = refl
 
 resumed_front : (g : Settings) (past : List Entry) (r : Resume) → resume_gone (facts g past) r ≡ None → (front : List Frame) × (front ++ frames_from (made g past) r.server_position ≡ made g past) × (pos front ≡ r.server_position)
 unfolding facts
-resumed_front g past r none = front_of length_of (made g past) r.server_position (boundary_test length_of (made g past) r.server_position (resume_boundary (facts g past) r none))
+resumed_front g past r none = front_of length_of (made g past) r.server_position (kept_boundary g past r.server_position (resume_boundary (facts g past) r none))
 
 -- a server that opens
 begins : (g : Settings) (past : List Entry) (f : Frame) (taken flowing : Bool) → IsChecked g → Legal g past → SuitsFirst g (facts g past) (Some f) taken → flowing ≡ true

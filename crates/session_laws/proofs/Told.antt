@@ -13,7 +13,7 @@ use Rattle.tape.specs.declared.entry.Entry.{Entry}
 use Rattle.position.specs.Boundaries.{IsBoundary, acked, first as first_held, frames_from, pos}
 use Rattle.position.proofs.Boundaries.{acked-boundary, boundary-le, boundary_zero, least-at_least, least-boundary, pos-from}
 use Rattle.position.proofs.Growing.{boundary_grown}
-use Rattle.position.proofs.Held.{acked_more, boundary_test, first_more}
+use Rattle.position.proofs.Held.{acked_more, first_more}
 use Rattle.session_model.specs.Answers.{facts}
 use Rattle.session_model.specs.Frames.{first, made, makes}
 use Rattle.session_model.specs.Legal.{Legal}
@@ -22,7 +22,7 @@ use Rattle.session_model.specs.Means.{Means}
 use Rattle.session_model.specs.Streams.{known}
 use Rattle.session_model.proofs.Meaning.{last_means}
 use Rattle.session_laws.proofs.Growth.{made_grows}
-use Rattle.session_laws.proofs.Verdict.{ok_boundary, resume_boundary}
+use Rattle.session_laws.proofs.Verdict.{kept_boundary, ok_boundary, resume_boundary}
 
 pub told_grows : (more past : List Entry) → told past ≤ told (more ++ past)
 unfolding told
@@ -67,8 +67,8 @@ max_either P a b p q = elim (cases_lt a b) [
 
 tells_boundary : (g : Settings) (past : List Entry) (a : Answer) (e : Event) → Means g (facts g past) e a → IsBoundary (made g past) (told_in a e)
 unfolding facts
-tells_boundary g past (answer.Opened n) (event.Open (Some (frame.Resume r)) taken) means = boundary_test length_of (made g past) r.server_position (resume_boundary (facts g past) r means.suits)
-tells_boundary g past answer.Handled (event.Came conn (frame.ResumeOk position)) means = boundary_test length_of (made g past) position (ok_boundary (facts g past) position means.may.1)
+tells_boundary g past (answer.Opened n) (event.Open (Some (frame.Resume r)) taken) means = kept_boundary g past r.server_position (resume_boundary (facts g past) r means.suits)
+tells_boundary g past answer.Handled (event.Came conn (frame.ResumeOk position)) means = kept_boundary g past position (ok_boundary (facts g past) position means.may.1)
 tells_boundary g past a e means = boundary_zero length_of (made g past)
 
 pub told_boundary : (g : Settings) (past : List Entry) → Legal g past → IsBoundary (made g past) (told past)

@@ -1,6 +1,7 @@
 -- When a resumption is accepted.
-use Rattle.std.proofs.Common.{◌≡◌, ◌≤◌, ◌+◌, ◌==◌, ◌↔◌, ◌++◌, ℕ, Bool, true, false, not, cond, if◌then◌else◌, List, [], ◌∷◌, Option, Some, None, refl, ap, sym, subst, ◌∙◌, append-nil, arith, eqb, ltb}
+use Rattle.std.proofs.Common.{◌≡◌, ◌≤◌, ◌+◌, ◌==◌, ◌&&◌, ◌↔◌, ◌++◌, leb, ℕ, Bool, true, false, not, cond, if◌then◌else◌, List, [], ◌∷◌, Option, Some, None, refl, ap, sym, subst, ◌∙◌, append-nil, arith, eqb, ltb}
 use Rattle.std.specs.Cmp.Lexicographic.{pointwise}
+use Rattle.std.proofs.lemmas.Bool.{le-leb}
 use Rattle.std.proofs.lemmas.Bool.Decides.{Decides-eqb, nat_tests}
 use Rattle.std.proofs.lemmas.Grind.{common_steps}
 use Rattle.std.proofs.lemmas.Slice.Eq.{slice_eq-Decides}
@@ -14,7 +15,8 @@ use Rattle.rs_frame.specs.declared.frame.Frame.{Frame}
 use Rattle.rs_frame.specs.declared.frame.Frame.TheVariants as frame
 use Rattle.rs_frame.specs.declared.frame.Resume.{Resume}
 use Rattle.rs_frame.specs.Spelling.{length_of}
-use Rattle.position.proofs.Boundaries.{boundary-le}
+use Rattle.position.specs.Boundaries.{IsBoundary, first as first_held, is_boundary}
+use Rattle.position.proofs.Boundaries.{boundary-le, boundary_of_none, boundary_zero}
 use Rattle.position.proofs.Held.{boundary_test, test_boundary}
 use Rattle.tape.specs.declared.answer.Answer.{Answer}
 use Rattle.tape.specs.declared.answer.Answer.TheVariants as answer
@@ -22,10 +24,10 @@ use Rattle.tape.specs.declared.event.Event.TheVariants as event
 use Rattle.tape.specs.declared.entry.Entry.{Entry}
 use Rattle.session_model.specs.declared.numbers.TheConstants.{ANSWER_ROOM}
 use Rattle.session_model.specs.Lists.{first_of}
-use Rattle.session_model.specs.Life.{asked_token, begun, carrying, closed, is_live, live, openings, resumption_agreed, setup}
-use Rattle.session_model.specs.Frames.{due, if_carrying, made, queued}
+use Rattle.session_model.specs.Life.{asked_token, begun, carrying, closed, is_live, live, openings, resumption_agreed, setup, told}
+use Rattle.session_model.specs.Frames.{due, first, held_from, if_agreed, if_carrying, is_held_boundary, kept, made, queued}
 use Rattle.session_model.specs.Answers.{Facts, answer_to, facts, gone_with, handled_unless_gone, ok_gone, opened_unless_gone, resume_gone, unless_closed}
-use Rattle.session_laws.specs.Resumption.{CanGoOn, CanResume, refused_resume}
+use Rattle.session_laws.specs.Resumption.{CanGoOn, CanResume, IsHeldFrom, refused_resume}
 
 -- ---- the tests of a position and of a token, row by row
 
@@ -111,6 +113,38 @@ ok_no_fault t position u =
 pub ok_boundary : (t : Facts) (position : ℕ) → ok_gone t position ≡ None → t.boundary position ≡ true
 ok_boundary t position none = (ok_unfaulty t position none).boundary
 
+-- ---- what is kept
+
+both : (a b : Bool) → (a && b) ≡ true → (a ≡ true) × (b ≡ true)
+both true b is = (refl, is)
+both false b is = absurd (cc)
+
+boundary_made : (agreed : Bool) (fs : List Frame) (p : ℕ) → IsBoundary (if_agreed agreed fs) p → IsBoundary fs p
+boundary_made true fs p is = is
+boundary_made false fs p is = subst (IsBoundary fs) (sym (boundary_of_none length_of p is)) (boundary_zero length_of fs)
+
+-- a held boundary is one of the frames made
+pub kept_boundary : (g : Settings) (past : List Entry) (p : ℕ) → is_held_boundary g past p ≡ true → IsBoundary (made g past) p
+kept_boundary g past p is =
+    let b = both (leb (held_from g past) p) (is_boundary (kept g past) p) is in
+    boundary_made (resumption_agreed g past) (made g past) p (boundary_test length_of (kept g past) p b.1)
+
+-- where resumption is agreed, all that is made is kept
+kept_made : (g : Settings) (past : List Entry) → resumption_agreed g past ≡ true → kept g past ≡ made g past
+kept_made g past agreed = ap (λ b. if_agreed b (made g past)) agreed
+
+held_starts : (g : Settings) (past : List Entry) → resumption_agreed g past ≡ true → held_from g past ≡ first g past
+held_starts g past agreed = ap (λ fs. first_held fs (told past) g.hold) (kept_made g past agreed)
+
+is_held : (g : Settings) (past : List Entry) (p : ℕ) → resumption_agreed g past ≡ true → IsHeldFrom g past p → is_held_boundary g past p ≡ true
+is_held g past p agreed holds =
+    subst (λ fs. (leb (first_held fs (told past) g.hold) p && is_boundary fs p) ≡ true) (sym (kept_made g past agreed))
+    (rw (le-leb (first g past) p holds.held, test_boundary length_of (made g past) p holds.boundary) refl)
+
+-- a server whose SETUP had a token agreed
+token_agreed : (g : Settings) (past : List Entry) (token : List ℕ) → g.side ≡ Server → asked_token (setup past) ≡ Some token → resumption_agreed g past ≡ true
+token_agreed g past token side is = let server = ap is_client side in rw (server, is) refl
+
 -- ---- RESUME
 
 opened_only : (why : Option Cause) (o : Option Gone) (n : ℕ) → unless_closed why (opened_unless_gone o n) ≡ answer.Opened n → (why ≡ None) × (o ≡ None)
@@ -119,39 +153,44 @@ opened_only None (Some x) n is = absurd (cc)
 opened_only None None n is = (refl, refl)
 
 -- in the words of the entries
-kept_by : (g : Settings) (past : List Entry) (r : Resume) (token : Option (List ℕ)) → asked_token (setup past) ≡ token → closed g past ≡ None → gone_with (facts g past) r token ≡ None → CanResume g past r
+kept_by : (g : Settings) (past : List Entry) (r : Resume) (token : Option (List ℕ)) → g.side ≡ Server → asked_token (setup past) ≡ token → closed g past ≡ None → gone_with (facts g past) r token ≡ None → CanResume g past r
 unfolding facts
-kept_by g past r None is free none = absurd (cc)
-kept_by g past r (Some token) is free none =
+kept_by g past r None side is free none = absurd (cc)
+kept_by g past r (Some token) side is free none =
     let u = unfaulty (facts g past) r token none in
+    let agreed = token_agreed g past token side is in
     record {
       free = free;
       version = u.version;
       same_token = is ∙ ap Some (sym u.same);
-      server_holds = record { held = u.from_first; boundary = boundary_test length_of (made g past) r.server_position u.boundary };
+      server_holds = record {
+        held = subst (λ n. n ≤ r.server_position) (held_starts g past agreed) u.from_first;
+        boundary = kept_boundary g past r.server_position u.boundary;
+      };
       client_holds = u.client;
     }
 
-keeps : (g : Settings) (past : List Entry) (r : Resume) → CanResume g past r → resume_gone (facts g past) r ≡ None
+keeps : (g : Settings) (past : List Entry) (r : Resume) → g.side ≡ Server → CanResume g past r → resume_gone (facts g past) r ≡ None
 unfolding facts
-keeps g past r can =
+keeps g past r side can =
     let holds = can.server_holds in
     let token = can.same_token in
+    let agreed = token_agreed g past r.token side token in
     let u : Unfaulty (facts g past) r r.token = record {
       version = can.version;
       same = refl;
-      from_first = holds.held;
+      from_first = subst (λ n. n ≤ r.server_position) (sym (held_starts g past agreed)) holds.held;
       to_end = boundary-le length_of (made g past) r.server_position holds.boundary;
-      boundary = test_boundary length_of (made g past) r.server_position holds.boundary;
+      boundary = is_held g past r.server_position agreed holds;
       client = can.client_holds;
     } in
     subst (λ o. gone_with (facts g past) r o ≡ None) (sym token) (no_fault (facts g past) r r.token u)
 
-pub resume_accepted : (g : Settings) (past : List Entry) (r : Resume) (taken : Bool) → (answer_to g past (event.Open (Some (frame.Resume r)) taken) ≡ answer.Opened (openings past + 1)) ↔ CanResume g past r
+pub resume_accepted : (g : Settings) (past : List Entry) (r : Resume) (taken : Bool) → g.side ≡ Server → (answer_to g past (event.Open (Some (frame.Resume r)) taken) ≡ answer.Opened (openings past + 1)) ↔ CanResume g past r
 unfolding facts
-resume_accepted g past r taken = (
-  λ is. let both = opened_only (closed g past) (resume_gone (facts g past) r) (openings past + 1) is in kept_by g past r (asked_token (setup past)) refl both.0 both.1,
-  λ can. rw (can.free, keeps g past r can) refl,
+resume_accepted g past r taken side = (
+  λ is. let b = opened_only (closed g past) (resume_gone (facts g past) r) (openings past + 1) is in kept_by g past r (asked_token (setup past)) side refl b.0 b.1,
+  λ can. rw (can.free, keeps g past r side can) refl,
 )
 
 -- a SETUP was accepted only on a session that is begun
@@ -164,7 +203,7 @@ pub resumes_begun : (g : Settings) (past : List Entry) (r : Resume) → CanResum
 resumes_begun g past r can = setup_begun past r.token can.same_token
 
 pub resumes_agreed : (g : Settings) (past : List Entry) (r : Resume) → g.side ≡ Server → CanResume g past r → resumption_agreed g past ≡ true
-resumes_agreed g past r side can = let token = can.same_token in let server = ap is_client side in rw (server, token) refl
+resumes_agreed g past r side can = token_agreed g past r.token side can.same_token
 
 -- ---- a RESUME that is refused
 
@@ -215,11 +254,11 @@ handled_only true None false true o now queued is = absurd (cc)
 handled_only true None false false (Some x) now queued is = absurd (cc)
 handled_only true None false false None now queued is = record { live = refl; free = refl; place = refl; waits = refl; holds = refl }
 
-ok_handled_so : (g : Settings) (past : List Entry) (conn position : ℕ)
+ok_handled_so : (g : Settings) (past : List Entry) (conn position : ℕ) → resumption_agreed g past ≡ true
     → IsOkHandled (is_live (live past) conn) (closed g past) (ltb (out_limit_of g) (queued g past + length_of (frame.ResumeOk position) + ANSWER_ROOM)) (carrying g past) (ok_gone (facts g past) position)
     → CanGoOn g past conn position
 unfolding facts
-ok_handled_so g past conn position h =
+ok_handled_so g past conn position agreed h =
     let u = ok_unfaulty (facts g past) position h.holds in
     let place = h.place in
     record {
@@ -227,25 +266,28 @@ ok_handled_so g past conn position h =
       waits = h.waits;
       free = h.free;
       place = grind (arith, nat_tests);
-      client_holds = record { held = u.from_first; boundary = boundary_test length_of (made g past) position u.boundary };
+      client_holds = record {
+        held = subst (λ n. n ≤ position) (held_starts g past agreed) u.from_first;
+        boundary = kept_boundary g past position u.boundary;
+      };
     }
 
-goes_on : (g : Settings) (past : List Entry) (conn position : ℕ) → CanGoOn g past conn position → ok_gone (facts g past) position ≡ None
+goes_on : (g : Settings) (past : List Entry) (conn position : ℕ) → resumption_agreed g past ≡ true → CanGoOn g past conn position → ok_gone (facts g past) position ≡ None
 unfolding facts
-goes_on g past conn position can =
+goes_on g past conn position agreed can =
     let holds = can.client_holds in
     ok_no_fault (facts g past) position (record {
-      from_first = holds.held;
+      from_first = subst (λ n. n ≤ position) (sym (held_starts g past agreed)) holds.held;
       to_end = boundary-le length_of (made g past) position holds.boundary;
-      boundary = test_boundary length_of (made g past) position holds.boundary;
+      boundary = is_held g past position agreed holds;
     })
 
-pub ok_handled : (g : Settings) (past : List Entry) (conn position : ℕ) → (answer_to g past (event.Came conn (frame.ResumeOk position)) ≡ answer.Handled) ↔ CanGoOn g past conn position
+pub ok_handled : (g : Settings) (past : List Entry) (conn position : ℕ) → resumption_agreed g past ≡ true → (answer_to g past (event.Came conn (frame.ResumeOk position)) ≡ answer.Handled) ↔ CanGoOn g past conn position
 unfolding facts ok_answer
-ok_handled g past conn position = (
-  λ is. ok_handled_so g past conn position
+ok_handled g past conn position agreed = (
+  λ is. ok_handled_so g past conn position agreed
       (handled_only (is_live (live past) conn) (closed g past) (ltb (out_limit_of g) (queued g past + length_of (frame.ResumeOk position) + ANSWER_ROOM)) (carrying g past) (ok_gone (facts g past) position) (live past) (queued g past) is),
   λ can.
       let place : ltb (out_limit_of g) (queued g past + length_of (frame.ResumeOk position) + ANSWER_ROOM) ≡ false = let le = can.place in grind (arith, nat_tests) in
-      rw (can.here, can.free, place, can.waits, goes_on g past conn position can) refl,
+      rw (can.here, can.free, place, can.waits, goes_on g past conn position agreed can) refl,
 )

@@ -42,12 +42,12 @@ pub fn held_frames_follow_a_boundary()
         Legal g past → IsBoundary (made g past) (told past) }
 {}
 
-/// A RESUME is accepted exactly where both ends hold what the other has not handled, on a session
+/// A server accepts a RESUME exactly where both ends hold what the other has not handled, on a session
 /// that is not closed, for version 1 and the session's token. Such a session is begun, and agreed to
 /// resumption.
 pub fn resume_is_accepted_where_both_ends_hold()
     ensures accepted { (g : Settings) (past : List Entry) (r : Resume) (taken : Bool) →
-        (answer_to g past (event.Open (Some (frame.Resume r)) taken)
+        g.side ≡ Server → (answer_to g past (event.Open (Some (frame.Resume r)) taken)
         ≡ answer.Opened (openings past + 1))
         ↔ CanResume g past r }
     ensures begun { (g : Settings) (past : List Entry) (r : Resume) →
@@ -69,10 +69,10 @@ pub fn a_refused_resume_changes_nothing()
         closed g (refused_resume who f taken why ∷ past) ≡ closed g past }
 {}
 
-/// A RESUME_OK is handled exactly where the client waits for it on the live connection of a session
+/// Where resumption is agreed, a RESUME_OK is handled exactly where the client waits for it on the live connection of a session
 /// that is not closed, and holds what the server has not handled.
 pub fn resume_ok_is_handled_where_the_client_holds()
     ensures { (g : Settings) (past : List Entry) (conn position : ℕ) →
-        (answer_to g past (event.Came conn (frame.ResumeOk position)) ≡ answer.Handled)
+        resumption_agreed g past ≡ true → (answer_to g past (event.Came conn (frame.ResumeOk position)) ≡ answer.Handled)
         ↔ CanGoOn g past conn position }
 {}
