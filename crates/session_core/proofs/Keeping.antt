@@ -1,17 +1,19 @@
 -- What is held of the frames made, as a session keeps it.
-use Rattle.std.proofs.Common.{◌≡◌, ◌≤◌, ◌<◌, ◌+◌, ◌-◌, ◌^◌, ◌&&◌, ◌↔◌, leb, ℕ, Bool, true, false, cond, max, List, [], ◌∷◌, ◌++◌, length, map, take, refl, ap, sym, subst, ◌∙◌, arith, length-append, append-assoc, append-nil}
+use Rattle.std.proofs.Common.{◌≡◌, ◌≤◌, ◌<◌, ◌+◌, ◌-◌, ◌^◌, ◌&&◌, ◌↔◌, leb, ℕ, Bool, true, false, cond, max, List, [], ◌∷◌, ◌++◌, length, map, take, drop, zero, suc, refl, ap, sym, subst, ◌∙◌, arith, length-append, append-assoc, append-nil}
 use Rattle.std.specs.Prelude.{get_or}
 use Rattle.std.specs.List.{AllByRecursion}
 use Rattle.std.proofs.lemmas.Bool.{le-leb}
+use Rattle.std.proofs.lemmas.Grind.{take_at_read}
+use Rattle.std.proofs.lemmas.List.{length-take, take-append-drop}
 use Rattle.std.proofs.lemmas.Bool.Decides.{nat_tests}
 use Rattle.rs_frame.specs.declared.frame.Frame.{Frame}
 use Rattle.rs_frame.specs.Spelling.{IsSpellable, canonical, length_of}
 use Rattle.position.specs.Boundaries.{is_boundary, is_boundary_by, pos, pos_by, IsBoundary}
 use Rattle.position.proofs.Boundaries.{pos-append}
 use Rattle.position.proofs.Held.{boundary_test, test_boundary}
-use Rattle.replay_buffer.specs.Held.{Buffer, Held, IsHeldBoundary, IsHeldOf, end_of}
+use Rattle.replay_buffer.specs.Held.{Buffer, HasSpare, Held, IsHeldBoundary, IsHeldOf, end_of}
 use Rattle.replay_buffer.proofs.HeldOf.{boundaries_held}
-use Rattle.session_core.specs.Kept.{HasFrameLength, KeepsAll, has_boundary}
+use Rattle.session_core.specs.Kept.{FindsSpare, HasFrameLength, KeepsAll, has_boundary}
 
 -- ---- boundaries
 
@@ -134,3 +136,40 @@ keeping_more old now new done frame h of_made hold end frames bytes =
       frames = omega (arith, frames, h.frames, count);
       bytes = omega (arith, bytes, h.bytes, sum, one);
     }
+
+-- ---- frame by frame
+
+next_of : (frames : List (List ℕ)) (i : ℕ) (f : List ℕ) → i < length frames → f ≡ get_or frames i f → take (i + 1) frames ≡ take i frames ++ f ∷ []
+next_of frames i f h is = (take_at_read frames i f h).1 ∙ ap (λ (x : List ℕ). take i frames ++ x ∷ []) (sym is)
+
+-- the frames up to the next one have no more bytes than all
+next_within : (frames : List (List ℕ)) (i : ℕ) (f : List ℕ) → i < length frames → f ≡ get_or frames i f → pos_by length (take i frames) + length f ≤ pos_by length frames
+unfolding pos_by
+next_within frames i f h is =
+    let next = ap (pos_by length) (next_of frames i f h is) in
+    let sum = pos-append length (take i frames) (f ∷ []) in
+    let all = pos-append length (take (i + 1) frames) (drop (i + 1) frames) in
+    let whole = ap (pos_by length) (take-append-drop (i + 1) frames) in
+    omega (arith, next, sum, all, whole)
+
+pub next_fits : (old now : Buffer) (frames : List (List ℕ)) (i : ℕ) (f : List ℕ) → i < length frames → f ≡ get_or frames i f → IsKeeping old now (take i frames) → FindsSpare old.spare frames
+    → HasSpare now.spare (length f)
+next_fits old now frames i f h is k spare =
+    let within = next_within frames i f h is in
+    (omega (arith, h, k.frames, spare.frames, length-take i frames), omega (arith, k.bytes, spare.bytes, within))
+
+long_at : (frames : List (List ℕ)) (i : ℕ) (f : List ℕ) → AllByRecursion HasFrameLength frames → i < length frames → HasFrameLength (get_or frames i f)
+long_at [] i f h lt = absurd (omega (arith, lt))
+long_at (x ∷ xs) zero f h lt = h.0
+long_at (x ∷ xs) (suc i) f h lt = long_at xs i f h.1 (omega (arith, lt))
+
+pub next_long : (frames : List (List ℕ)) (i : ℕ) (f : List ℕ) → AllByRecursion HasFrameLength frames → i < length frames → f ≡ get_or frames i f → HasFrameLength f
+next_long frames i f long h is = subst HasFrameLength (sym is) (long_at frames i f long h)
+
+pub next_below : (old now : Buffer) (frames : List (List ℕ)) (i : ℕ) (f : List ℕ) → i < length frames → f ≡ get_or frames i f → IsKeeping old now (take i frames)
+    → end_of old.held + pos_by length frames < 2 ^ 63 → end_of now.held + length f < 2 ^ 63
+next_below old now frames i f h is k top = omega (arith, k.end, top, next_within frames i f h is)
+
+pub next_kept : (old now new : Buffer) (frames : List (List ℕ)) (i : ℕ) (f : List ℕ) → i < length frames → f ≡ get_or frames i f → IsKeeping old new (take i frames ++ f ∷ [])
+    → IsKeeping old new (take (i + 1) frames)
+next_kept old now new frames i f h is k = subst (IsKeeping old new) (sym (next_of frames i f h is)) k

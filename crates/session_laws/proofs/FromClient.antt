@@ -13,7 +13,7 @@ use Rattle.rs_frame.specs.declared.frame.Setup.{Setup}
 use Rattle.rs_frame.specs.declared.frame.Resume.{Resume}
 use Rattle.rs_frame.specs.Spelling.{is_resumable, length_of}
 use Rattle.position.specs.Boundaries.{frames_from, pos}
-use Rattle.position.proofs.Held.{boundary_test, front_of}
+use Rattle.position.proofs.Held.{front_of}
 use Rattle.tape.specs.declared.event.Event.{Event}
 use Rattle.tape.specs.declared.event.Event.TheVariants as event
 use Rattle.tape.specs.declared.answer.Answer.{Answer}

@@ -1,6 +1,20 @@
-use Rattle.std.proofs.Common.{◌≡◌, ap, arith, take, drop, subst, sym, ◌∙◌}
-use Rattle.session_core.proofs.Keeping.{keeping_more, keeping_none, spare_left}
+use Rattle.std.proofs.Common.{subst, sym, ◌∙◌, ap}
+use Rattle.session_core.proofs.Keeping.{keeping_more, keeping_none, next_below, next_fits, next_kept, next_long}
 use Rattle.session_core.proofs.kept.keep_all.Goals as goal
 
 pub loop-frame-init : goal.loop-frame-init
 loop-frame-init c = keeping_none c.args.replay.now
+
+pub keep-requires-clause-spare : goal.keep-requires-clause-spare
+keep-requires-clause-spare c =
+    rw c.as_slice.ensures (next_fits c.args.replay.now c.loop-frame.replay c.args.frames.now c.loop-frame.frame-index c.frame-item.result c.loop-frame-test.true c.frame-item.is c.loop-frame.invariant c.requires.spare)
+
+pub keep-requires-clause-shortest : goal.keep-requires-clause-shortest
+keep-requires-clause-shortest c = rw c.as_slice.ensures (next_long c.args.frames.now c.loop-frame.frame-index c.frame-item.result c.requires.long c.loop-frame-test.true c.frame-item.is).0
+
+pub keep-requires-clause-longest : goal.keep-requires-clause-longest
+keep-requires-clause-longest c = rw c.as_slice.ensures (next_long c.args.frames.now c.loop-frame.frame-index c.frame-item.result c.requires.long c.loop-frame-test.true c.frame-item.is).1
+
+pub keep-requires-clause-top : goal.keep-requires-clause-top
+keep-requires-clause-top c =
+    rw c.as_slice.ensures (next_below c.args.replay.now c.loop-frame.replay c.args.frames.now c.loop-frame.frame-index c.frame-item.result c.loop-frame-test.true c.frame-item.is c.loop-frame.invariant c.requires.top)
