@@ -11,7 +11,7 @@ use Rattle.rs_frame.specs.Spelling.{IsSpellable, canonical, length_of}
 use Rattle.position.specs.Boundaries.{is_boundary, is_boundary_by, pos, pos_by, IsBoundary}
 use Rattle.position.proofs.Boundaries.{pos-append}
 use Rattle.position.proofs.Held.{boundary_test, test_boundary}
-use Rattle.replay_buffer.specs.Held.{Buffer, HasSpare, Held, IsHeldBoundary, IsHeldOf, end_of}
+use Rattle.replay_buffer.specs.Held.{Buffer, HasSpare, Held, IsHeldBoundary, IsHeldOf, Spare, end_of, from_least, spare_after, with_newest}
 use Rattle.replay_buffer.proofs.HeldOf.{boundaries_held}
 use Rattle.session_core.specs.Kept.{FindsSpare, HasFrameLength, KeepsAll, has_boundary}
 
@@ -173,3 +173,12 @@ next_below old now frames i f h is k top = omega (arith, k.end, top, next_within
 pub next_kept : (old now new : Buffer) (frames : List (List ℕ)) (i : ℕ) (f : List ℕ) → i < length frames → f ≡ get_or frames i f → IsKeeping old new (take i frames ++ f ∷ [])
     → IsKeeping old new (take (i + 1) frames)
 next_kept old now new frames i f h is k = subst (IsKeeping old new) (sym (next_of frames i f h is)) k
+
+-- one frame more, whose bytes were handed in as `bytes`
+pub keeping_step : (old now new : Buffer) (done : List (List ℕ)) (f bytes : List ℕ) → bytes ≡ f → IsKeeping old now done
+    → ((made : List Frame) (told : ℕ) (newest : Frame) → IsHeldOf made told now.held → told ≤ pos made → bytes ≡ canonical newest → IsHeldOf (made ++ newest ∷ []) told new.held)
+    → new.held ≡ from_least (with_newest now.held bytes) (end_of (with_newest now.held bytes) - now.held.hold) → end_of new.held ≡ end_of now.held + length bytes → new.spare ≡ spare_after now.spare (length bytes)
+    → IsKeeping old new (done ++ f ∷ [])
+keeping_step old now new done f bytes same h of_made held end spare =
+    subst (λ (x : List ℕ). IsKeeping old new (done ++ x ∷ [])) same
+    (keeping_more old now new done bytes h of_made (ap (λ (k : Held). k.hold) held) end (ap (λ (s : Spare). s.frames) spare) (ap (λ (s : Spare). s.bytes) spare))

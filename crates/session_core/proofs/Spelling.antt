@@ -26,7 +26,7 @@ use Rattle.session_core.specs.Fits.{ArePositionsBelow, facts_of}
 use Rattle.session_core.specs.Kept.{again_from}
 use Rattle.session_core.specs.Outgoing.{CanGo, frame_made, greeting, notices}
 use Rattle.session_core.proofs.Keeping.{held_test}
-use Rattle.session_core.proofs.Resuming.{IsAccepted, again_accepted}
+use Rattle.session_core.proofs.Agreeing.{IsAccepted, again_accepted}
 
 -- the ids of the streams have 31 bits
 pub made_spelled : (g : Settings) (s : State) (e : Event) (a : Answer) → IsPlain g → (known_to s.streams).even < 2 ^ 31 → (known_to s.streams).odd < 2 ^ 31 → IsFair g e

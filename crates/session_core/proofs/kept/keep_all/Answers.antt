@@ -1,5 +1,5 @@
-use Rattle.std.proofs.Common.{subst, sym, ◌∙◌, ap}
-use Rattle.session_core.proofs.Keeping.{keeping_more, keeping_none, next_below, next_fits, next_kept, next_long}
+use Rattle.std.proofs.Common.{take}
+use Rattle.session_core.proofs.Keeping.{keeping_none, keeping_step, next_below, next_fits, next_kept, next_long}
 use Rattle.session_core.proofs.kept.keep_all.Goals as goal
 
 pub loop-frame-init : goal.loop-frame-init
@@ -18,3 +18,14 @@ keep-requires-clause-longest c = rw c.as_slice.ensures (next_long c.args.frames.
 pub keep-requires-clause-top : goal.keep-requires-clause-top
 keep-requires-clause-top c =
     rw c.as_slice.ensures (next_below c.args.replay.now c.loop-frame.replay c.args.frames.now c.loop-frame.frame-index c.frame-item.result c.loop-frame-test.true c.frame-item.is c.loop-frame.invariant c.requires.top)
+
+pub loop-frame-preserved : goal.loop-frame-preserved
+loop-frame-preserved c =
+    let old = c.args.replay.now in
+    let now = c.loop-frame.replay in
+    let new = c.keep.new.self in
+    let frames = c.args.frames.now in
+    let i = c.loop-frame.frame-index in
+    let f = c.frame-item.result in
+    next_kept old now new frames i f c.loop-frame-test.true c.frame-item.is
+    (keeping_step old now new (take i frames) f _ c.as_slice.ensures c.loop-frame.invariant c.keep.ensures.of_made c.keep.ensures.held c.keep.ensures.end c.keep.ensures.spare)

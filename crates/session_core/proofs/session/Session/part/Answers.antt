@@ -5,7 +5,7 @@ use Rattle.session_model.specs.Answers.{answer_to}
 use Rattle.session_core.specs.Seen.{Seen}
 use Rattle.session_core.proofs.Standing.{after_cut, of_cut}
 use Rattle.session_model.specs.Life.{agrees_resumption}
-use Rattle.session_core.proofs.Resuming.{if_none}
+use Rattle.session_core.proofs.Agreeing.{if_none}
 use Rattle.session_core.proofs.Soundness.{end_below, sound_more}
 use Rattle.session_core.proofs.session.Session.part.Goals as goal
 
