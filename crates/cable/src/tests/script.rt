@@ -7,8 +7,10 @@ const READ: [Row; 10] = [
         shows: "each line has one text",
         text: b"client fnf 68ff\nserver fnf -:00\nserver close\nup 2147483647\ndown 1\ndrain\ncut",
         read: "\
-Ask { side: Client, call: Request { kind: Fnf, initial: None, message: Message { metadata: None, content: Blob { bytes: [104, 255] } }, complete: false } }
-Ask { side: Server, call: Request { kind: Fnf, initial: None, message: Message { metadata: Some(Blob { bytes: [] }), content: Blob { bytes: [0] } }, complete: false } }
+Ask { side: Client, call: Request { kind: Fnf, initial: None, message: Message { metadata: None, \
+  content: Blob { bytes: [104, 255] } }, complete: false } }
+Ask { side: Server, call: Request { kind: Fnf, initial: None, message: Message { metadata: \
+  Some(Blob { bytes: [] }), content: Blob { bytes: [0] } }, complete: false } }
 Ask { side: Server, call: Close }
 Up { most: Amount { number: 2147483647 } }
 Down { most: Amount { number: 1 } }
@@ -18,20 +20,28 @@ Cut
     },
     Row {
         shows: "each request has one text",
-        text: b"client response 61\nserver stream 1 -\nclient channel 2 61:62\nclient channel 3 61 last",
+        text: b"client response 61\nserver stream 1 -\nclient channel 2 61:62\n\
+client channel 3 61 last",
         read: "\
-Ask { side: Client, call: Request { kind: Response, initial: None, message: Message { metadata: None, content: Blob { bytes: [97] } }, complete: false } }
-Ask { side: Server, call: Request { kind: Stream, initial: Some(Amount { number: 1 }), message: Message { metadata: None, content: Blob { bytes: [] } }, complete: false } }
-Ask { side: Client, call: Request { kind: Channel, initial: Some(Amount { number: 2 }), message: Message { metadata: Some(Blob { bytes: [97] }), content: Blob { bytes: [98] } }, complete: false } }
-Ask { side: Client, call: Request { kind: Channel, initial: Some(Amount { number: 3 }), message: Message { metadata: None, content: Blob { bytes: [97] } }, complete: true } }
+Ask { side: Client, call: Request { kind: Response, initial: None, message: Message { metadata: \
+  None, content: Blob { bytes: [97] } }, complete: false } }
+Ask { side: Server, call: Request { kind: Stream, initial: Some(Amount { number: 1 }), message: \
+  Message { metadata: None, content: Blob { bytes: [] } }, complete: false } }
+Ask { side: Client, call: Request { kind: Channel, initial: Some(Amount { number: 2 }), message: \
+  Message { metadata: Some(Blob { bytes: [97] }), content: Blob { bytes: [98] } }, complete: \
+  false } }
+Ask { side: Client, call: Request { kind: Channel, initial: Some(Amount { number: 3 }), message: \
+  Message { metadata: None, content: Blob { bytes: [97] } }, complete: true } }
 ",
     },
     Row {
         shows: "a payload and an error have one text",
         text: b"client next 1 61\nserver last 2 -\nclient fail 7 4294967294 6f",
         read: "\
-Ask { side: Client, call: Next { stream: 1, message: Message { metadata: None, content: Blob { bytes: [97] } }, complete: false } }
-Ask { side: Server, call: Next { stream: 2, message: Message { metadata: None, content: Blob { bytes: [] } }, complete: true } }
+Ask { side: Client, call: Next { stream: 1, message: Message { metadata: None, content: Blob { \
+  bytes: [97] } }, complete: false } }
+Ask { side: Server, call: Next { stream: 2, message: Message { metadata: None, content: Blob { \
+  bytes: [] } }, complete: true } }
 Ask { side: Client, call: Fail { stream: 7, code: 4294967294, content: Blob { bytes: [111] } } }
 ",
     },
