@@ -95,9 +95,16 @@ fn run(rt: &impl Print, alloc: Global, client: &mut End, server: &mut End) -> Re
     take_rest(rt, alloc, client, &last)
 }
 
+// The whole stream, between a client and a new server.
+fn serve(rt: &impl Print, alloc: Global, client: &mut End) -> Result<()>
+    requires { client.old.settings.side ≡ Client }
+{
+    let mut server = new_end(alloc, Side::Server)?;
+    run(rt, alloc, client, &mut server)
+}
+
 fn main(rt: HostRuntime) -> Result<()> {
     let alloc = rt.alloc();
     let mut client = new_end(alloc, Side::Client)?;
-    let mut server = new_end(alloc, Side::Server)?;
-    run(&rt, alloc, &mut client, &mut server)
+    serve(&rt, alloc, &mut client)
 }

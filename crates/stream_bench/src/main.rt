@@ -1,5 +1,6 @@
 //! Times an item of a stream, of 16 bytes: from the call at the server to the answer to its frame
-//! at the client, and until the client took it, over tapes that keep no entries and over ones that do.
+//! at the client, and until the client took it, over tapes that keep no entries and over ones that
+//! do.
 //!
 //! With a word, as `times`, it prints nanoseconds an item: for items that cross one by one, and for
 //! batches of which each crosses at once. With none it prints how many items the client took of

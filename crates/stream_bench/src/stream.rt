@@ -169,6 +169,22 @@ fn run_between<T: Tape, R: Clock>(
     rounds(rt, alloc, client, server, &mut buffer, run)
 }
 
+// Runs a stream between a client and a new server with this tape.
+fn serve<T: Tape + Drop, R: Clock>(
+    rt: &R,
+    alloc: Global,
+    client: &mut Session<T>,
+    tape: T,
+    run: Run,
+) -> Result<Took>
+    requires client { client.old.settings.side ≡ Client }
+    requires empty { T.Tape.count tape ≡ 0 }
+    requires some { 0 < run.batch }
+{
+    let mut server = new_end(alloc, Side::Server, tape)?;
+    run_between(rt, alloc, client, &mut server, run)
+}
+
 /// Runs a stream between two new ends with these tapes.
 pub fn stream<T: Tape + Drop, R: Clock>(
     rt: &R,
@@ -182,6 +198,5 @@ pub fn stream<T: Tape + Drop, R: Clock>(
     requires some { 0 < run.batch }
 {
     let mut client = new_end(alloc, Side::Client, at_client)?;
-    let mut server = new_end(alloc, Side::Server, at_server)?;
-    run_between(rt, alloc, &mut client, &mut server, run)
+    serve(rt, alloc, &mut client, at_server, run)
 }
