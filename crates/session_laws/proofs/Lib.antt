@@ -4,9 +4,15 @@ pub mod Life
 pub mod Growth
 pub mod Agreed
 pub mod Spelled
+pub mod Counting
 pub mod Refused
-pub mod Due
-pub mod Got
+pub mod Quiet
+pub mod Verdict
+pub mod Told
+pub mod Runs
+pub mod FromClient
+pub mod FromServer
+pub mod Follows
 pub mod Crossing
 pub mod Lawful
 pub mod OwnEnds

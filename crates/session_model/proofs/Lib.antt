@@ -5,5 +5,6 @@ pub mod Refusals
 pub mod Breaking
 pub mod Ids
 pub mod Spelled
+pub mod Beside
 pub mod Fairness
 pub mod Silent

@@ -7,6 +7,10 @@ pub const CONNECTION_ERROR: u32 = 0x101;
 /// Codes").
 pub const REJECTED: u32 = 0x202;
 
+/// The code of the ERROR by which a server refuses a RESUME: REJECTED_RESUME (RSocket 1.0, "Error
+/// Codes").
+pub const REJECTED_RESUME: u32 = 0x004;
+
 /// The flag I of a frame's header, in its flags word: an end that doesn't know the frame ignores it
 /// (RSocket 1.0, "Frame Header Format").
 pub const MAY_IGNORE: u16 = 0x200;
