@@ -37,11 +37,17 @@ unfolding Legal made facts
 made_counts g [] checked legal = refl
 made_counts g (x ∷ past) checked legal =
     let new = makes g (known g past) x.answer x.event in
-    rw (filter-append is_resumable (made g past) new, made_counts g past checked legal.0, makes_count g (facts g past) x.event x.answer checked (last_means g x past legal)) refl
+    rw (
+      filter-append is_resumable (made g past) new,
+      made_counts g past checked legal.0,
+      makes_count g (facts g past) x.event x.answer checked
+          (last_means g x past legal),
+    ) refl
 
 shorter : (xs : List Frame) → length (counting xs) ≤ length xs
 shorter [] = omega arith
-shorter (x ∷ xs) = elim (is_resumable x) as (λ v. length (cond v (x ∷ counting xs) (counting xs)) ≤ length (x ∷ xs)) [ true ↦ omega (arith, shorter xs) | false ↦ omega (arith, shorter xs) ]
+shorter (x ∷ xs) = elim (is_resumable x) as (λ v. length (cond v (x ∷ counting xs) (counting xs)) ≤ length (x ∷ xs))
+    [ true ↦ omega (arith, shorter xs) | false ↦ omega (arith, shorter xs) ]
 
 -- where all count, so do those after the first
 rest_counts : (x : Frame) (xs : List Frame) → counting (x ∷ xs) ≡ x ∷ xs → counting xs ≡ xs
@@ -75,7 +81,8 @@ closes_none true = refl
 closes_none false = refl
 
 -- of what an entry puts in line beside those that it makes, these count
-beside_counts : (g : Settings) (past : List Entry) (a : Answer) (e : Event) → counting (made g past) ≡ made g past → counting (beside g past a e) ≡ resent g past a e
+beside_counts : (g : Settings) (past : List Entry) (a : Answer) (e : Event) → counting (made g past) ≡ made g past
+    → counting (beside g past a e) ≡ resent g past a e
 beside_counts g past (answer.Opened n) (event.Open None taken) all = greets_none g (pos (handled past)) (first g past) (begun past)
 beside_counts g past (answer.Opened n) (event.Open (Some (frame.Resume r)) taken) all = again_counts (made g past) r.server_position all
 beside_counts g past answer.Handled (event.Came conn (frame.ResumeOk position)) all = again_counts (made g past) position all
@@ -92,7 +99,12 @@ lines_counts : (g : Settings) (past : List Entry) (a : Answer) (e : Event) → I
 unfolding facts
 lines_counts g past a e checked legal means =
     let new = makes g (known g past) a e in
-    rw (filter-append is_resumable (beside g past a e) (if_carrying (carrying g past) new), beside_counts g past a e (made_counts g past checked legal), carried_counts (carrying g past) new (makes_count g (facts g past) e a checked means)) refl
+    rw (
+      filter-append is_resumable (beside g past a e) (if_carrying (carrying g past) new),
+      beside_counts g past a e
+          (made_counts g past checked legal),
+      carried_counts (carrying g past) new (makes_count g (facts g past) e a checked means),
+    ) refl
 
 chosen_counts : (here : Bool) (fs gs : List Frame) → counting fs ≡ gs → counting (if here then fs else []) ≡ (if here then gs else [])
 chosen_counts true fs gs is = is
@@ -100,6 +112,8 @@ chosen_counts false fs gs is = refl
 
 -- what counts of what an entry adds to the frames due on connection c
 pub owes_counts : (g : Settings) (past : List Entry) (c : ℕ) (a : Answer) (e : Event) → IsChecked g → Legal g past → Means g (facts g past) e a
-    → counting (owes g past c a e) ≡ (if is_live (live_after a (live past)) c then resent g past a e ++ if_carrying (carrying g past) (makes g (known g past) a e) else [])
+    → counting (owes g past c a e) ≡ (if is_live (live_after a (live past)) c then resent g past a e ++ if_carrying (carrying g past)
+    (makes g (known g past) a e) else [])
 owes_counts g past c a e checked legal means =
-    chosen_counts (is_live (live_after a (live past)) c) (lines_up g past a e) (resent g past a e ++ if_carrying (carrying g past) (makes g (known g past) a e)) (lines_counts g past a e checked legal means)
+    chosen_counts (is_live (live_after a (live past)) c) (lines_up g past a e)
+    (resent g past a e ++ if_carrying (carrying g past) (makes g (known g past) a e)) (lines_counts g past a e checked legal means)

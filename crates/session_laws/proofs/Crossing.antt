@@ -36,10 +36,12 @@ some_length f = omega arith
 -- of what was made, the front before what was sent and the one that was handled are one, where they have one position
 one_front : (front sent base made : List Frame) (here : Bool) → Runs front sent made here → IsPrefix base made → pos front ≡ pos base → front ≡ base
 one_front front sent base made here r old at =
-    same_front length_of some_length front base (counting sent ++ r.part.0) old.0 (sym (append_assoc front (counting sent) r.part.0) ∙ (r.part.1 ∙ sym old.1)) at
+    same_front length_of some_length front base (counting sent ++ r.part.0) old.0
+    (sym (append_assoc front (counting sent) r.part.0) ∙ (r.part.1 ∙ sym old.1)) at
 
 -- what counts of some first frames that were sent follows what was handled
-follows_on : (front sent base part made : List Frame) (here : Bool) → Runs front sent made here → IsPrefix base made → pos front ≡ pos base → IsPrefix part (counting sent) → IsPrefix (base ++ part) made
+follows_on : (front sent base part made : List Frame) (here : Bool) → Runs front sent made here → IsPrefix base made → pos front ≡ pos base
+    → IsPrefix part (counting sent) → IsPrefix (base ++ part) made
 follows_on front sent base part made here r old at p =
     subst (λ l. IsPrefix (l ++ part) made) (one_front front sent base made here r old at)
     (prefix_trans (front ++ part) (front ++ counting sent) made (prefix_under front part (counting sent) p) r.part)
@@ -63,9 +65,11 @@ FitsBack f base back = ⊥
 told_same : (p q : ℕ) → frame.ResumeOk p ≡ frame.ResumeOk q → p ≡ q
 told_same p q same = cc
 
-joins_up : (owed made back : List Frame) (bad : Option ℕ) (here flowing : Bool) (why : Option Cause) (first : Frame) (rest base : List Frame) → Flow owed made back bad here flowing why
+joins_up : (owed made back : List Frame) (bad : Option ℕ) (here flowing : Bool) (why : Option Cause) (first : Frame) (rest base : List Frame)
+    → Flow owed made back bad here flowing why
     → IsPrefix (first ∷ rest) owed → FitsBack first base back → IsPrefix base made → IsPrefix (base ++ counting rest) made
-joins_up owed made back bad here flowing why first rest base (Nothing e h) up fits old = absurd (cc (prefix_of_none (first ∷ rest) (subst (IsPrefix (first ∷ rest)) e up)))
+joins_up owed made back bad here flowing why first rest base (Nothing e h) up fits old = absurd
+    (cc (prefix_of_none (first ∷ rest) (subst (IsPrefix (first ∷ rest)) e up)))
 joins_up owed made back bad here flowing why first rest base (Begun s sent e r h) up fits old =
     let t = prefix_cons first (frame.Setup s) rest sent (subst (IsPrefix (first ∷ rest)) e up) in
     let none : base ≡ [] = subst (λ f. FitsBack f base back) t.0 fits in
@@ -81,7 +85,8 @@ joins_up owed made back bad here flowing why first rest base (Resumed r p front 
     follows_on front sent base (counting rest) made here i old (at ∙ same) (prefix_counting rest sent t.1)
 
 -- all that was due came there
-whole_up : (owed made back : List Frame) (bad : Option ℕ) (flowing : Bool) (why : Option Cause) (first : Frame) (rest base : List Frame) → Flow owed made back bad true flowing why → flowing ≡ true
+whole_up : (owed made back : List Frame) (bad : Option ℕ) (flowing : Bool) (why : Option Cause) (first : Frame) (rest base : List Frame)
+    → Flow owed made back bad true flowing why → flowing ≡ true
     → first ∷ rest ≡ owed → FitsBack first base back → IsPrefix base made → base ++ counting rest ≡ made
 whole_up owed made back bad flowing why first rest base (Nothing e h) on all fits old = absurd (cc)
 whole_up owed made back bad flowing why first rest base (Begun s sent e r h) on all fits old =
@@ -107,7 +112,8 @@ FitsFirst (frame.Setup s) base = base ≡ []
 FitsFirst (frame.Resume r) base = r.server_position ≡ pos base
 FitsFirst f base = ⊥
 
-joins_down : (owed made back : List Frame) (here flowing : Bool) (first : Frame) (more part base : List Frame) → ServerFlow owed made back here flowing → IsPrefix back (first ∷ more) → FitsFirst first base
+joins_down : (owed made back : List Frame) (here flowing : Bool) (first : Frame) (more part base : List Frame)
+    → ServerFlow owed made back here flowing → IsPrefix back (first ∷ more) → FitsFirst first base
     → IsPrefix part (counting owed) → IsPrefix base made → IsPrefix (base ++ part) made
 joins_down owed made back here flowing first more part base (Unopened e h) up fits p old =
     let none = prefix_of_none part (subst (λ l. IsPrefix part (counting l)) e p) in
@@ -121,7 +127,8 @@ joins_down owed made back here flowing first more part base (Reopened r told fro
     let same : r.server_position ≡ pos base = subst (λ f. FitsFirst f base) (sym t.0) fits in
     follows_on front sent base part made here i old (at ∙ same) (subst (λ l. IsPrefix part (counting l)) e p)
 
-whole_down : (owed made back : List Frame) (flowing : Bool) (first : Frame) (more base : List Frame) → ServerFlow owed made back true flowing → IsPrefix back (first ∷ more) → FitsFirst first base → IsPrefix base made
+whole_down : (owed made back : List Frame) (flowing : Bool) (first : Frame) (more base : List Frame) → ServerFlow owed made back true flowing
+    → IsPrefix back (first ∷ more) → FitsFirst first base → IsPrefix base made
     → base ++ counting owed ≡ made
 whole_down owed made back flowing first more base (Unopened e h) up fits old = absurd (cc)
 whole_down owed made back flowing first more base (Opened s rest c r h) up fits old =
@@ -152,7 +159,8 @@ crossed_down g h C S pair d j is =
     frames_given (bytes_offered S d) (came C (pair d)) (frames_offered h S d) (came_spelled g C (pair d) e.client_fair) owed (j.joined.down d is).begins
 
 -- where something is due at the server, the first frame that came back is the first that is due
-first_back : (g h : Settings) (C S : List Entry) (pair : ℕ → ℕ) (d : ℕ) (o : Frame) (more : List Frame) → AreJoined g h C S pair → IsOpening S d → due h S d ≡ o ∷ more
+first_back : (g h : Settings) (C S : List Entry) (pair : ℕ → ℕ) (d : ℕ) (o : Frame) (more : List Frame) → AreJoined g h C S pair → IsOpening S d
+    → due h S d ≡ o ∷ more
     → (k : Frame) (q : List Frame) → came C (pair d) ≡ k ∷ q → k ≡ o
 first_back g h C S pair d o more j is owed k q back =
     let none = due_unrefused h S d o more j.ends.server_legal owed in
@@ -171,12 +179,21 @@ record Opening (g h : Settings) (C S : List Entry) (pair : ℕ → ℕ) (d : ℕ
 no_client : (h : Settings) → h.side ≡ Server → h.side ≡ Client → ⊥
 no_client h is not = let same : Server ≡ Client = sym is ∙ not in absurd (cc)
 
-begun_at : (g h : Settings) (C S : List Entry) (pair : ℕ → ℕ) (d : ℕ) (base : List Frame) → AreJoined g h C S pair → Begins h.side (came S d) (due h S d) base → Opening g h C S pair d base
+begun_at : (g h : Settings) (C S : List Entry) (pair : ℕ → ℕ) (d : ℕ) (base : List Frame) → AreJoined g h C S pair
+    → Begins h.side (came S d) (due h S d) base → Opening g h C S pair d base
 begun_at g h C S pair d base j (First s rest at c b) =
     record { first = frame.Setup s; rest = rest; is = came_some S d (frame.Setup s) rest c; brought = c; fits = b; uncounted = refl }
 begun_at g h C S pair d base j (Answered r rest more at c o) =
     let is = came_some S d (frame.Resume r) rest c in
-    record { first = frame.Resume r; rest = rest; is = is; brought = c; fits = first_back g h C S pair d (frame.ResumeOk (pos base)) more j is o; uncounted = refl }
+    record {
+      first = frame.Resume r;
+      rest = rest;
+      is = is;
+      brought = c;
+      fits = first_back g h C S pair d (frame.ResumeOk (pos base))
+          more j is o;
+      uncounted = refl;
+    }
 begun_at g h C S pair d base j (Greeted s more at o b) = absurd (no_client h j.ends.server at)
 begun_at g h C S pair d base j (Asked r more at o b) = absurd (no_client h j.ends.server at)
 
@@ -191,7 +208,8 @@ server_joins g h C S pair j d base part p begins old =
     let o = begun_at g h C S pair d base j begins in
     let c = pair d in
     let up = subst (λ l. IsPrefix l (due g C c)) o.brought (crossed_up g h C S pair d j o.is) in
-    let all = joins_up (due g C c) (made g C) (came C c) (first_bad C c) (is_live (live C) c) (carrying g C) (closed g C) o.first o.rest base (flows g C c e.client_plain.checked e.client_legal e.client_fair e.client) up o.fits old in
+    let all = joins_up (due g C c) (made g C) (came C c) (first_bad C c) (is_live (live C) c) (carrying g C) (closed g C) o.first o.rest base
+    (flows g C c e.client_plain.checked e.client_legal e.client_fair e.client) up o.fits old in
     fewer base part (came S d) (made g C) p (rw (o.brought, o.uncounted) all)
 
 -- ---- the opening that is paired with a connection of the client
@@ -200,13 +218,14 @@ search : (n c : ℕ) (pair : ℕ → ℕ) → ((d : ℕ) × (0 < d) × (d ≤ n)
 search zero c pair = inr (λ d above within. absurd (omega arith))
 search (suc n) c pair = elim (search n c pair) [
   | inl found ↦ inl (found.0, found.1, omega (arith, found.2), found.3)
-  | inr none ↦ elim (pair (suc n) == c) as (λ v. (pair (suc n) == c) ≡ v → ((d : ℕ) × (0 < d) × (d ≤ suc n) × (pair d ≡ c)) ⊎ ((d : ℕ) → 0 < d → d ≤ suc n → pair d ≢ c)) [
-    | true ↦ λ is. inl (suc n, omega arith, omega arith, grind (arith, nat_tests))
-    | false ↦ λ is. inr (λ d above within. elim (cases_lt d (suc n)) [
-      | inl less ↦ none d above (omega arith)
-      | inr last ↦ λ same. let at : d ≡ suc n = omega arith in let paired : pair (suc n) ≡ c = ap pair (sym at) ∙ same in grind (arith, nat_tests)
-    ])
-  ] refl
+  | inr none ↦ elim (pair (suc n) == c) as
+      (λ v. (pair (suc n) == c) ≡ v → ((d : ℕ) × (0 < d) × (d ≤ suc n) × (pair d ≡ c)) ⊎ ((d : ℕ) → 0 < d → d ≤ suc n → pair d ≢ c)) [
+        | true ↦ λ is. inl (suc n, omega arith, omega arith, grind (arith, nat_tests))
+        | false ↦ λ is. inr (λ d above within. elim (cases_lt d (suc n)) [
+          | inl less ↦ none d above (omega arith)
+          | inr last ↦ λ same. let at : d ≡ suc n = omega arith in let paired : pair (suc n) ≡ c = ap pair (sym at) ∙ same in grind (arith, nat_tests)
+        ])
+      ] refl
 ]
 
 -- the first frame that is due at the client
@@ -225,20 +244,24 @@ greeted_at g C c base side (Answered r rest more at w o) = absurd (no_server g s
 greeted_at g C c base side (Greeted s more at o b) = record { first = frame.Setup s; more = more; owed = o; fits = b }
 greeted_at g C c base side (Asked r more at o b) = record { first = frame.Resume r; more = more; owed = o; fits = b }
 
-paired_joins : (g h : Settings) (C S : List Entry) (pair : ℕ → ℕ) (d : ℕ) (base : List Frame) → AreJoined g h C S pair → IsOpening S d → Begins g.side (came C (pair d)) (due g C (pair d)) base
+paired_joins : (g h : Settings) (C S : List Entry) (pair : ℕ → ℕ) (d : ℕ) (base : List Frame) → AreJoined g h C S pair → IsOpening S d
+    → Begins g.side (came C (pair d)) (due g C (pair d)) base
     → IsPrefix base (made h S) → IsPrefix (base ++ counting (came C (pair d))) (made h S)
 paired_joins g h C S pair d base j is begins old =
     let e = j.ends in
     let o = greeted_at g C (pair d) base e.client begins in
-    joins_down (due h S d) (made h S) (came S d) (is_live (live S) d) (carrying h S) o.first o.more (counting (came C (pair d))) base (server_flows h S d e.server_plain.checked e.server_legal e.server_fair e.server)
-    (subst (λ l. IsPrefix (came S d) l) o.owed (crossed_up g h C S pair d j is)) o.fits (counted_offer S d (due h S d) (came C (pair d)) (crossed_down g h C S pair d j is)) old
+    joins_down (due h S d) (made h S) (came S d) (is_live (live S) d) (carrying h S) o.first o.more (counting (came C (pair d))) base
+    (server_flows h S d e.server_plain.checked e.server_legal e.server_fair e.server)
+    (subst (λ l. IsPrefix (came S d) l) o.owed (crossed_up g h C S pair d j is)) o.fits
+    (counted_offer S d (due h S d) (came C (pair d)) (crossed_down g h C S pair d j is)) old
 
 client_joins : (g h : Settings) (C S : List Entry) (pair : ℕ → ℕ) → AreJoined g h C S pair → Joins g (made h S) C
 client_joins g h C S pair j c base part p begins old = elim (search (openings S) c pair) [
   | inl found ↦
       let is : IsOpening S found.0 = record { above = found.1; within = found.2 } in
       let all : IsPrefix (base ++ counting (came C c)) (made h S) =
-      subst (λ (n : ℕ). Begins g.side (came C n) (due g C n) base → IsPrefix (base ++ counting (came C n)) (made h S)) found.3 (λ b. paired_joins g h C S pair found.0 base j is b old) begins in
+      subst (λ (n : ℕ). Begins g.side (came C n) (due g C n) base → IsPrefix (base ++ counting (came C n)) (made h S)) found.3
+      (λ b. paired_joins g h C S pair found.0 base j is b old) begins in
       fewer base part (came C c) (made h S) p all
   | inr none ↦
       let nothing = (j.joined.unpaired c (λ d is. none d is.above is.within)).0 in
@@ -279,8 +302,10 @@ drained_up g h C S pair d j all =
     let taken = subst (λ (n : ℕ). handled S ≡ k.base ++ counting (came S n)) here.0 k.taken in
     let begins = subst (λ (n : ℕ). Begins h.side (came S n) (due h S n) k.base) here.0 k.begins in
     let o = begun_at g h C S pair d k.base j begins in
-    let flow = subst (λ b. Flow (due g C c) (made g C) (came C c) (first_bad C c) b (carrying g C) (closed g C)) all.at_client (flows g C c e.client_plain.checked e.client_legal e.client_fair e.client) in
-    let whole = whole_up (due g C c) (made g C) (came C c) (first_bad C c) (carrying g C) (closed g C) o.first o.rest k.base flow all.carries (sym o.brought ∙ all.up) o.fits k.old in
+    let flow = subst (λ b. Flow (due g C c) (made g C) (came C c) (first_bad C c) b (carrying g C) (closed g C)) all.at_client
+    (flows g C c e.client_plain.checked e.client_legal e.client_fair e.client) in
+    let whole = whole_up (due g C c) (made g C) (came C c) (first_bad C c) (carrying g C) (closed g C) o.first o.rest k.base flow all.carries
+    (sym o.brought ∙ all.up) o.fits k.old in
     taken ∙ (ap (λ l. k.base ++ counting l) o.brought ∙ (ap (λ l. k.base ++ l) o.uncounted ∙ whole))
 
 pub drained_down : (g h : Settings) (C S : List Entry) (pair : ℕ → ℕ) (d : ℕ) → AreJoined g h C S pair → AreDrained g h C S (pair d) d → handled C ≡ made h S
@@ -292,6 +317,7 @@ drained_down g h C S pair d j all =
     let taken = subst (λ (n : ℕ). handled C ≡ k.base ++ counting (came C n)) here.0 k.taken in
     let begins = subst (λ (n : ℕ). Begins g.side (came C n) (due g C n) k.base) here.0 k.begins in
     let o = greeted_at g C c k.base e.client begins in
-    let flow = subst (λ b. ServerFlow (due h S d) (made h S) (came S d) b (carrying h S)) all.at_server (server_flows h S d e.server_plain.checked e.server_legal e.server_fair e.server) in
+    let flow = subst (λ b. ServerFlow (due h S d) (made h S) (came S d) b (carrying h S)) all.at_server
+    (server_flows h S d e.server_plain.checked e.server_legal e.server_fair e.server) in
     let up : IsPrefix (came S d) (o.first ∷ o.more) = subst (IsPrefix (came S d)) (all.up ∙ o.owed) (prefix_refl (came S d)) in
     taken ∙ (ap (λ l. k.base ++ counting l) all.down ∙ whole_down (due h S d) (made h S) (came S d) (carrying h S) o.first o.more k.base flow up o.fits k.old)

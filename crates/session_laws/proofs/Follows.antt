@@ -37,13 +37,15 @@ use Rattle.session_laws.proofs.Quiet.{first_none, is_handled, quiet}
 -- their position; a client owes SETUP, or RESUME that tells their position
 pub data Begins (side : Side) (came owed base : List Frame) : Type 0 where
   First : (s : Setup) (rest : List Frame) → side ≡ Server → came ≡ frame.Setup s ∷ rest → base ≡ [] → Begins side came owed base
-  Answered : (r : Resume) (rest more : List Frame) → side ≡ Server → came ≡ frame.Resume r ∷ rest → owed ≡ frame.ResumeOk (pos base) ∷ more → Begins side came owed base
+  Answered : (r : Resume) (rest more : List Frame) → side ≡ Server → came ≡ frame.Resume r ∷ rest → owed ≡ frame.ResumeOk (pos base) ∷ more
+      → Begins side came owed base
   Greeted : (s : Setup) (more : List Frame) → side ≡ Client → owed ≡ frame.Setup s ∷ more → base ≡ [] → Begins side came owed base
   Asked : (r : Resume) (more : List Frame) → side ≡ Client → owed ≡ frame.Resume r ∷ more → r.server_position ≡ pos base → Begins side came owed base
 
 begins_more : (side : Side) (came owed base brought out : List Frame) → Begins side came owed base → Begins side (came ++ brought) (owed ++ out) base
 begins_more side came owed base brought out (First s rest at c b) = First s (rest ++ brought) at (ap (λ l. l ++ brought) c) b
-begins_more side came owed base brought out (Answered r rest more at c o) = Answered r (rest ++ brought) (more ++ out) at (ap (λ l. l ++ brought) c) (ap (λ l. l ++ out) o)
+begins_more side came owed base brought out (Answered r rest more at c o) = Answered r (rest ++ brought) (more ++ out) at (ap (λ l. l ++ brought) c)
+    (ap (λ l. l ++ out) o)
 begins_more side came owed base brought out (Greeted s more at o b) = Greeted s (more ++ out) at (ap (λ l. l ++ out) o) b
 begins_more side came owed base brought out (Asked r more at o b) = Asked r (more ++ out) at (ap (λ l. l ++ out) o) b
 
@@ -55,7 +57,8 @@ pub record Follows (side : Side) (made came owed handled : List Frame) (bad : Op
   pub old : IsPrefix base made
   pub clean : bad ≡ None
 
-follows_more : (side : Side) (made came owed handled brought out new : List Frame) (bad bad' : Option ℕ) → Follows side made came owed handled bad → bad' ≡ None → counting brought ≡ new
+follows_more : (side : Side) (made came owed handled brought out new : List Frame) (bad bad' : Option ℕ) → Follows side made came owed handled bad
+    → bad' ≡ None → counting brought ≡ new
     → Follows side made (came ++ brought) (owed ++ out) (handled ++ new) bad'
 follows_more side made came owed handled brought out new bad bad' k clean is = record {
   base = k.base;
@@ -73,7 +76,8 @@ FollowsAt g made past c = Follows g.side made (came past c) (due g past c) (hand
 -- after an event so answered
 abbrev FollowsAfter : Settings → List Frame → List Entry → ℕ → Answer → Event → Type 0
 FollowsAfter g made past c a e =
-    Follows g.side made (came past c ++ brings past c e) (due g past c ++ owes g past c a e) (handled past ++ handles a e) (first_of (first_bad past c) (bad_in past c e))
+    Follows g.side made (came past c ++ brings past c e) (due g past c ++ owes g past c a e) (handled past ++ handles a e)
+    (first_of (first_bad past c) (bad_in past c e))
 
 -- what was handled is a prefix of what the other end made, and so it goes on
 pub record Kept (g : Settings) (made : List Frame) (past : List Entry) : Type 0 where
@@ -86,7 +90,8 @@ record KeptAfter (g : Settings) (made : List Frame) (past : List Entry) (a : Ans
 
 -- of what came on any connection what counts follows what was handled before it
 abbrev JoinsAs : Side → List Frame → (ℕ → List Frame) → (ℕ → List Frame) → Type 0
-JoinsAs side made came owed = (c : ℕ) (base part : List Frame) → IsPrefix part (came c) → Begins side (came c) (owed c) base → IsPrefix base made → IsPrefix (base ++ counting part) made
+JoinsAs side made came owed = (c : ℕ) (base part : List Frame) → IsPrefix part (came c) → Begins side (came c) (owed c) base → IsPrefix base made
+    → IsPrefix (base ++ counting part) made
 
 abbrev pub Joins : Settings → List Frame → List Entry → Type 0
 Joins g made past = JoinsAs g.side made (came past) (due g past)
@@ -103,7 +108,8 @@ live_itself : (n : ℕ) → 0 < n → is_live n n ≡ true
 live_itself n some = grind (arith, nat_tests)
 
 -- an entry that handles nothing and leaves the connection
-kept_other : (g : Settings) (made : List Frame) (past : List Entry) (a : Answer) (e : Event) → Legal g past → LeavesEntry a → Means g (facts g past) e a → is_handled a ≡ false → handles a e ≡ []
+kept_other : (g : Settings) (made : List Frame) (past : List Entry) (a : Answer) (e : Event) → Legal g past → LeavesEntry a
+    → Means g (facts g past) e a → is_handled a ≡ false → handles a e ≡ []
     → live_after a (live past) ≡ live past → Kept g made past → KeptAfter g made past a e
 kept_other g made past a e legal leaves means idle none same k = record {
   all = rw (none, append-nil (handled past)) k.all;
@@ -112,13 +118,15 @@ kept_other g made past a e legal leaves means idle none same k = record {
       let q = quiet g past (live past) a e legal leaves means idle (live_itself (live past) at) free in
       let before = k.here at (first_none (closed g past) (closes g past a e) free).0 in
       subst (λ (n : ℕ). FollowsAfter g made past n a e) (sym same)
-      (follows_more g.side made (came past (live past)) (due g past (live past)) (handled past) (brings past (live past) e) (owes g past (live past) a e) (handles a e) (first_bad past (live past))
+      (follows_more g.side made (came past (live past)) (due g past (live past)) (handled past) (brings past (live past) e)
+      (owes g past (live past) a e) (handles a e) (first_bad past (live past))
       (first_of (first_bad past (live past)) (bad_in past (live past) e)) before (rw (before.clean, q.bytes) refl) (rw (q.frames, none) refl));
 }
 
 -- a frame that is handled
 kept_handled : (g : Settings) (made : List Frame) (past : List Entry) (conn : ℕ) (f : Frame) → Legal g past → Handling g (facts g past) conn f
-    → JoinsAs g.side made (λ c. came past c ++ brings past c (event.Came conn f)) (λ c. due g past c ++ owes g past c answer.Handled (event.Came conn f)) → Kept g made past
+    → JoinsAs g.side made (λ c. came past c ++ brings past c (event.Came conn f))
+    (λ c. due g past c ++ owes g past c answer.Handled (event.Came conn f)) → Kept g made past
     → KeptAfter g made past answer.Handled (event.Came conn f)
 unfolding facts
 kept_handled g made past conn f legal means joins k =
@@ -130,7 +138,8 @@ kept_handled g made past conn f legal means joins k =
     let clean = before.clean in
     let within = live_le g past legal in
     let brought : brings past l e ≡ f ∷ [] = grind (arith, common_steps) in
-    let after = follows_more g.side made (came past l) (due g past l) (handled past) (brings past l e) (owes g past l answer.Handled e) (handles answer.Handled e) (first_bad past l)
+    let after = follows_more g.side made (came past l) (due g past l) (handled past) (brings past l e) (owes g past l answer.Handled e)
+    (handles answer.Handled e) (first_bad past l)
     (first_of (first_bad past l) None) before (rw clean refl) (ap counting brought) in
     record {
       all = rw after.taken (joins l after.base (came past l ++ brings past l e) (prefix_refl (came past l ++ brings past l e)) after.begins after.old);
@@ -143,7 +152,8 @@ client_begins : (g : Settings) (past : List Entry) (more : List Frame) (before :
 client_begins g past more true is legal side = Asked _ more side refl refl
 client_begins g past more false is legal side = Greeted _ more side refl (fresh_handled g past legal is)
 
-opens_begin : (g : Settings) (past : List Entry) (first : Option Frame) (taken : Bool) (more : List Frame) → Legal g past → IsFair g (event.Open first taken) → SuitsFirst g (facts g past) first taken
+opens_begin : (g : Settings) (past : List Entry) (first : Option Frame) (taken : Bool) (more : List Frame) → Legal g past
+    → IsFair g (event.Open first taken) → SuitsFirst g (facts g past) first taken
     → Begins g.side (only first) (greets g past (event.Open first taken) ++ more) (handled past)
 unfolding facts
 opens_begin g past None taken more legal fair suits = client_begins g past more (begun past) refl legal fair
@@ -165,7 +175,8 @@ no_bytes : (past : List Entry) (n : ℕ) (first : Option Frame) (taken : Bool) �
 no_bytes past n first taken = refl
 
 -- an accepted opening
-kept_open : (g : Settings) (made : List Frame) (past : List Entry) (n : ℕ) (first : Option Frame) (taken : Bool) → Legal g past → IsFair g (event.Open first taken)
+kept_open : (g : Settings) (made : List Frame) (past : List Entry) (n : ℕ) (first : Option Frame) (taken : Bool) → Legal g past
+    → IsFair g (event.Open first taken)
     → Means g (facts g past) (event.Open first taken) (answer.Opened n) → Kept g made past → KeptAfter g made past (answer.Opened n) (event.Open first taken)
 unfolding facts
 kept_open g made past n first taken legal fair means k =
@@ -189,7 +200,8 @@ parted g made past e k = record {
   here = λ some free. absurd (omega arith);
 }
 
-kept_step : (g : Settings) (made : List Frame) (past : List Entry) (a : Answer) (e : Event) → Legal g past → LeavesEntry a → Means g (facts g past) e a → IsFair g e
+kept_step : (g : Settings) (made : List Frame) (past : List Entry) (a : Answer) (e : Event) → Legal g past → LeavesEntry a
+    → Means g (facts g past) e a → IsFair g e
     → JoinsAs g.side made (λ c. came past c ++ brings past c e) (λ c. due g past c ++ owes g past c a e) → Kept g made past → KeptAfter g made past a e
 kept_step g made past (answer.Opened n) (event.Open first taken) legal leaves means fair joins k = kept_open g made past n first taken legal fair means k
 kept_step g made past (answer.Opened n) e legal leaves means fair joins k = absurd means
@@ -202,5 +214,6 @@ pub kept : (g : Settings) (made : List Frame) (past : List Entry) → Legal g pa
 unfolding Legal Fair came due handled live closed first_bad
 kept g made [] legal fair joins = record { all = prefix_nil made; here = λ some free. absurd (omega arith) }
 kept g made (x ∷ past) legal fair joins =
-    let after = kept_step g made past x.answer x.event legal.0 legal.1.leaves (last_means g x past legal) fair.1 joins (kept g made past legal.0 fair.0 (earlier g made x past joins)) in
+    let after = kept_step g made past x.answer x.event legal.0 legal.1.leaves (last_means g x past legal) fair.1 joins
+    (kept g made past legal.0 fair.0 (earlier g made x past joins)) in
     record { all = after.all; here = after.here }

@@ -21,3 +21,4 @@ pub mod ReadFragments
 pub mod ReadStreams
 pub mod HandedOut
 pub mod Fragments
+pub mod Rows

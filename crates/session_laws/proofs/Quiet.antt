@@ -38,7 +38,8 @@ stray_came past conn c f apart = record { frames = rw apart refl; bytes = refl }
 stray_bad : (past : List Entry) (conn c rule : ℕ) → (conn == c) ≡ false → IsQuiet past c (event.Bad conn rule)
 stray_bad past conn c rule apart = record { frames = refl; bytes = rw apart refl }
 
-came_quiet : (g : Settings) (past : List Entry) (c : ℕ) (a : Answer) (conn : ℕ) (f : Frame) → LeavesEntry a → Means g (facts g past) (event.Came conn f) a → is_handled a ≡ false → is_live (live past) c ≡ true
+came_quiet : (g : Settings) (past : List Entry) (c : ℕ) (a : Answer) (conn : ℕ) (f : Frame) → LeavesEntry a
+    → Means g (facts g past) (event.Came conn f) a → is_handled a ≡ false → is_live (live past) c ≡ true
     → closed g past ≡ None → closes g past a (event.Came conn f) ≡ None → IsQuiet past c (event.Came conn f)
 unfolding facts
 came_quiet g past c answer.Handled conn f leaves means idle here free stays = absurd (cc)
@@ -50,7 +51,8 @@ came_quiet g past c (answer.Stale n) conn f leaves means idle here free stays = 
 came_quiet g past c (answer.Closed why) conn f leaves means idle here free stays = absurd (cc)
 came_quiet g past c a conn f leaves means idle here free stays = absurd means
 
-bad_quiet : (g : Settings) (past : List Entry) (c : ℕ) (a : Answer) (conn rule : ℕ) → LeavesEntry a → Means g (facts g past) (event.Bad conn rule) a → is_live (live past) c ≡ true
+bad_quiet : (g : Settings) (past : List Entry) (c : ℕ) (a : Answer) (conn rule : ℕ) → LeavesEntry a → Means g (facts g past) (event.Bad conn rule) a
+    → is_live (live past) c ≡ true
     → closed g past ≡ None → closes g past a (event.Bad conn rule) ≡ None → IsQuiet past c (event.Bad conn rule)
 unfolding facts
 bad_quiet g past c (answer.Violation broken) conn rule leaves means here free stays = absurd (cc)
@@ -59,11 +61,13 @@ bad_quiet g past c (answer.Stale n) conn rule leaves means here free stays = str
 bad_quiet g past c (answer.Closed why) conn rule leaves means here free stays = absurd (cc)
 bad_quiet g past c a conn rule leaves means here free stays = absurd means
 
-next_opening : (past : List Entry) (c : ℕ) (f : Frame) (taken : Bool) → live past ≤ openings past → is_live (live past) c ≡ true → IsQuiet past c (event.Open (Some f) taken)
+next_opening : (past : List Entry) (c : ℕ) (f : Frame) (taken : Bool) → live past ≤ openings past → is_live (live past) c ≡ true
+    → IsQuiet past c (event.Open (Some f) taken)
 next_opening past c f taken le here = record { frames = grind (arith, common_steps); bytes = refl }
 
 -- what is not handled, and leaves the session as it is, brings nothing there
-pub quiet : (g : Settings) (past : List Entry) (c : ℕ) (a : Answer) (e : Event) → Legal g past → LeavesEntry a → Means g (facts g past) e a → is_handled a ≡ false → is_live (live past) c ≡ true
+pub quiet : (g : Settings) (past : List Entry) (c : ℕ) (a : Answer) (e : Event) → Legal g past → LeavesEntry a → Means g (facts g past) e a
+    → is_handled a ≡ false → is_live (live past) c ≡ true
     → first_of (closed g past) (closes g past a e) ≡ None → IsQuiet past c e
 quiet g past c a (event.Open None taken) legal leaves means idle here free = record { frames = refl; bytes = refl }
 quiet g past c a (event.Open (Some f) taken) legal leaves means idle here free = next_opening past c f taken (live_le g past legal) here

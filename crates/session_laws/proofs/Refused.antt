@@ -35,7 +35,8 @@ refuses_spelled past d a e = grind (arith, common_steps, refusal_spelled)
 pub refused_spelled : (past : List Entry) (d : ℕ) → AreSpellable (refused past d)
 unfolding refused
 refused_spelled [] d = tt
-refused_spelled (x ∷ past) d = spellable-append (refused past d) (refuses past d x.answer x.event) (refused_spelled past d) (refuses_spelled past d x.answer x.event)
+refused_spelled (x ∷ past) d = spellable-append (refused past d) (refuses past d x.answer x.event) (refused_spelled past d)
+    (refuses_spelled past d x.answer x.event)
 
 -- no position counts it
 refuses_uncounted : (past : List Entry) (d : ℕ) (a : Answer) (e : Event) → counting (refuses past d a e) ≡ []
@@ -44,20 +45,27 @@ refuses_uncounted past d a e = grind (arith, common_steps)
 refused_uncounted : (past : List Entry) (d : ℕ) → counting (refused past d) ≡ []
 unfolding refused
 refused_uncounted [] d = refl
-refused_uncounted (x ∷ past) d = rw (filter-append is_resumable (refused past d) (refuses past d x.answer x.event), refused_uncounted past d, refuses_uncounted past d x.answer x.event) refl
+refused_uncounted (x ∷ past) d = rw (
+  filter-append is_resumable (refused past d)
+      (refuses past d x.answer x.event),
+  refused_uncounted past d,
+  refuses_uncounted past d x.answer x.event,
+) refl
 
 front_empty : (xs ys : List Frame) → xs ++ ys ≡ [] → xs ≡ []
 front_empty [] ys e = refl
 front_empty (x ∷ xs) ys e = absurd (cc)
 
 -- so what counts of what was offered is what counts of what is due, or nothing
-offered_counts : (refusals due came : List Frame) → counting refusals ≡ [] → IsPrefix came (unless_refused refusals due refusals) → IsPrefix (counting came) (counting due)
+offered_counts : (refusals due came : List Frame) → counting refusals ≡ [] → IsPrefix came (unless_refused refusals due refusals)
+    → IsPrefix (counting came) (counting due)
 offered_counts [] due came none p = prefix_counting came due p
 offered_counts (f ∷ fs) due came none p =
     let q = prefix_counting came (f ∷ fs) p in
     rw (front_empty (counting came) q.0 (q.1 ∙ none)) (prefix_nil (counting due))
 
-pub counted_offer : (past : List Entry) (d : ℕ) (due came : List Frame) → IsPrefix came (unless_refused (refused past d) due (refused past d)) → IsPrefix (counting came) (counting due)
+pub counted_offer : (past : List Entry) (d : ℕ) (due came : List Frame) → IsPrefix came (unless_refused (refused past d) due (refused past d))
+    → IsPrefix (counting came) (counting due)
 counted_offer past d due came p = offered_counts (refused past d) due came (refused_uncounted past d) p
 
 pub offered_spelled : (refusals due : List Frame) → AreSpellable due → AreSpellable refusals → AreSpellable (unless_refused refusals due refusals)
@@ -80,21 +88,24 @@ refuses_here past d true (answer.ResumeRefused why) is = inr (grind (arith, nat_
 refuses_here past d true a is = inl refl
 
 -- an entry refuses nothing there, or it is the opening
-refuses_case : (past : List Entry) (d : ℕ) (a : Answer) (e : Event) → (refuses past d a e ≡ []) ⊎ ((d ≡ openings past + 1) × (live_after a (live past) ≡ live past) × (openings_in e ≡ 1))
+refuses_case : (past : List Entry) (d : ℕ) (a : Answer) (e : Event)
+    → (refuses past d a e ≡ []) ⊎ ((d ≡ openings past + 1) × (live_after a (live past) ≡ live past) × (openings_in e ≡ 1))
 refuses_case past d a (event.Open (Some f) taken) = elim (refuses_here past d (openings past + 1 == d) a refl) [
   | inl none ↦ inl none
   | inr here ↦ inr (here.0, here.1, refl)
 ]
 refuses_case past d a e = inl refl
 
-stays_off : (g : Settings) (past : List Entry) (d : ℕ) (a : Answer) (e : Event) → Means g (facts g past) e a → is_live (live past) d ≡ false → d ≤ openings past → is_live (live_after a (live past)) d ≡ false
+stays_off : (g : Settings) (past : List Entry) (d : ℕ) (a : Answer) (e : Event) → Means g (facts g past) e a → is_live (live past) d ≡ false
+    → d ≤ openings past → is_live (live_after a (live past)) d ≡ false
 unfolding facts
 stays_off g past d (answer.Opened n) (event.Open first taken) means off within = let next = means.next in grind (arith, nat_tests)
 stays_off g past d (answer.Opened n) e means off within = absurd means
 stays_off g past d answer.Parted e means off within = grind (arith, nat_tests)
 stays_off g past d a e means off within = off
 
-owes_none : (g : Settings) (past : List Entry) (d : ℕ) (a : Answer) (e : Event) → is_live (live_after a (live past)) d ≡ false → due g past d ≡ [] → due g past d ++ owes g past d a e ≡ []
+owes_none : (g : Settings) (past : List Entry) (d : ℕ) (a : Answer) (e : Event) → is_live (live_after a (live past)) d ≡ false → due g past d ≡ []
+    → due g past d ++ owes g past d a e ≡ []
 owes_none g past d a e off none = rw (none, off) refl
 
 refused_after : (g : Settings) (x : Entry) (past : List Entry) (d : ℕ) → Legal g (x ∷ past) → IsOut g past d → IsOut g (x ∷ past) d
@@ -104,7 +115,8 @@ refused_after g x past d legal out =
     let within = out.within in
     record { none = owes_none g past d x.answer x.event off out.none; off = off; within = omega arith }
 
-refused_now : (g : Settings) (x : Entry) (past : List Entry) (d : ℕ) → Legal g (x ∷ past) → (d ≡ openings past + 1) × (live_after x.answer (live past) ≡ live past) × (openings_in x.event ≡ 1) → IsOut g (x ∷ past) d
+refused_now : (g : Settings) (x : Entry) (past : List Entry) (d : ℕ) → Legal g (x ∷ past)
+    → (d ≡ openings past + 1) × (live_after x.answer (live past) ≡ live past) × (openings_in x.event ≡ 1) → IsOut g (x ∷ past) d
 unfolding Legal due live openings
 refused_now g x past d legal at =
     let le = live_le g past legal.0 in

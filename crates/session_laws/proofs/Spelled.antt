@@ -14,7 +14,8 @@ use Rattle.session_laws.proofs.Framing.{AreSpellable, spellable-append}
 
 -- what an entry adds to the frames due on a connection
 owes_spelled : (g : Settings) (past : List Entry) (c : ℕ) (a : Answer) (e : Event) → AreSpellable (lines_up g past a e) → AreSpellable (owes g past c a e)
-owes_spelled g past c a e lines = elim (is_live (live_after a (live past)) c) as (λ v. AreSpellable (cond v (lines_up g past a e) [])) [ true ↦ lines | false ↦ tt ]
+owes_spelled g past c a e lines = elim (is_live (live_after a (live past)) c) as (λ v. AreSpellable (cond v (lines_up g past a e) []))
+    [ true ↦ lines | false ↦ tt ]
 
 pub due_spelled : (g : Settings) (past : List Entry) (c : ℕ) → IsPlain g → Legal g past → Fair g past → AreSpellable (due g past c)
 unfolding Legal Fair due

@@ -1,5 +1,5 @@
 -- The positions that the peer told, and where what is held begins.
-use Rattle.std.proofs.Common.{◌≡◌, ◌≤◌, ◌-◌, ◌++◌, inl, inr, ℕ, max, List, [], ◌∷◌, Some, subst, arith}
+use Rattle.std.proofs.Common.{◌≡◌, ◌↔◌, ◌≤◌, ◌-◌, ◌++◌, inl, inr, ℕ, max, List, [], ◌∷◌, Some, subst, arith, sym, ◌+◌}
 use Rattle.std.proofs.lemmas.Bool.{cases_lt}
 use Rattle.rs_wire.specs.declared.settings.Settings.{Settings}
 use Rattle.rs_frame.specs.declared.frame.Frame.{Frame}
@@ -57,6 +57,17 @@ first_after_acked g past = omega (arith, first_least g past)
 pub held_fits : (g : Settings) (past : List Entry) → pos (frames_from (made g past) (first g past)) ≤ g.hold
 held_fits g past = omega (arith, first_least g past, pos-from length_of (made g past) (first g past) (first_boundary g past))
 
+-- a boundary of what is held, from where that begins, is one of what was made
+pub held_boundary : (g : Settings) (past : List Entry) (p : ℕ) → first g past ≤ p
+    → IsBoundary (made g past) p ↔ IsBoundary (frames_from (made g past) (first g past)) (p - first g past)
+held_boundary g past p le =
+    let n = first g past in
+    let begins = first_boundary g past in
+    let same : n + (p - n) ≡ p = omega (arith, le) in (
+      λ b. boundary_rest length_of (made g past) n (p - n) begins (subst (IsBoundary (made g past)) (sym same) b),
+      λ b. subst (IsBoundary (made g past)) same (boundary_whole length_of (made g past) n (p - n) begins b),
+    )
+
 -- ---- what is told
 
 max_either : (P : ℕ → Type 0) (a b : ℕ) → P a → P b → P (max a b)
@@ -76,4 +87,5 @@ unfolding Legal made told
 told_boundary g [] legal = boundary_zero length_of []
 told_boundary g (x ∷ past) legal =
     boundary_grown length_of (made g past) (makes g (known g past) x.answer x.event) (max (told past) (told_in x.answer x.event))
-    (max_either (IsBoundary (made g past)) (told past) (told_in x.answer x.event) (told_boundary g past legal.0) (tells_boundary g past x.answer x.event (last_means g x past legal)))
+    (max_either (IsBoundary (made g past)) (told past) (told_in x.answer x.event) (told_boundary g past legal.0)
+    (tells_boundary g past x.answer x.event (last_means g x past legal)))

@@ -245,7 +245,8 @@ ok_answer : Bool → Option Cause → Bool → Bool → Option Gone → ℕ → 
 ok_answer here why busy carries o now queued =
     cond here (unless_closed why (cond busy (answer.OutBusy queued) (cond carries (answer.Violation rule.NotNow) (handled_unless_gone o)))) (answer.Stale now)
 
-handled_only : (here : Bool) (why : Option Cause) (busy carries : Bool) (o : Option Gone) (now queued : ℕ) → ok_answer here why busy carries o now queued ≡ answer.Handled → IsOkHandled here why busy carries o
+handled_only : (here : Bool) (why : Option Cause) (busy carries : Bool) (o : Option Gone) (now queued : ℕ)
+    → ok_answer here why busy carries o now queued ≡ answer.Handled → IsOkHandled here why busy carries o
 unfolding ok_answer
 handled_only false why busy carries o now queued is = absurd (cc)
 handled_only true (Some x) busy carries o now queued is = absurd (cc)

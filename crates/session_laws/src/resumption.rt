@@ -1,6 +1,6 @@
 //! Laws of resumption at one end (RSocket 1.0, "Resuming Operation"), whatever its peer sends.
 
-ghost use Rattle.std.specs.Prelude.{◌≡◌, ◌≤◌, ◌+◌, ◌++◌, ◌↔◌, Bool, true, ℕ, List, ◌∷◌, Option, Some};
+ghost use Rattle.std.specs.Prelude.{◌≡◌, ◌≤◌, ◌+◌, ◌-◌, ◌++◌, ◌↔◌, Bool, true, ℕ, List, ◌∷◌, Option, Some};
 ghost use Rattle.rs_wire.specs.declared.words.Side.TheVariants.{Server};
 ghost use Rattle.rs_wire.specs.declared.fault.Gone.{Gone};
 ghost use Rattle.rs_wire.specs.declared.settings.Settings.{Settings};
@@ -29,11 +29,14 @@ pub fn positions_never_fall()
 {}
 
 /// The frames are held from a boundary on, not before what is acknowledged, and have no more bytes
-/// than may be held. The peer never tells a position that is no boundary of the frames made, or
-/// past their end: such a resumption is refused.
+/// than may be held; their boundaries are those of the frames made from there on. The peer never
+/// tells a position that is no boundary of the frames made: such a resumption is refused.
 pub fn held_frames_follow_a_boundary()
     ensures boundary { (g : Settings) (past : List Entry) →
         IsBoundary (made g past) (first g past) }
+    ensures boundaries { (g : Settings) (past : List Entry) (p : ℕ) → first g past ≤ p →
+        IsBoundary (made g past) p
+        ↔ IsBoundary (frames_from (made g past) (first g past)) (p - first g past) }
     ensures acked { (g : Settings) (past : List Entry) →
         acked (made g past) (told past) ≤ first g past }
     ensures hold { (g : Settings) (past : List Entry) →
