@@ -33,7 +33,7 @@ use Rattle.cable.specs.declared.hearing.Known.TheVariants as known
 use Rattle.cable.specs.Played.{CarriesDown, CarriesUp, Downs, Drains, Draws, Ends, Link, OnLink, Round, Sides, There, Ups, adds, answered, arrivals, arrives_up, asks, asks_often, at_most, bytes_down, crossed, cuts, cuts_on, cuts_there, frames_down, gave, hears, hears_down, moved, nothing, opens, with_client, with_server}
 use Rattle.cable.specs.Played.{Gives as GivesDown}
 use Rattle.cable.specs.Hearing.{Carried, CrossedTo, Crosses, IsHearer}
-use Rattle.cable.specs.Line.{IsSayable}
+use Rattle.cable_script.specs.Line.{IsSayable}
 use Rattle.cable.specs.Wires.{Arrives, At, ClientAt, Gave, IsAt, IsMoved, IsPlainEnd, Keeps, LinkAt, Reaches, ServerAt, WireAt, Wires, sides_of, wire_of}
 use Rattle.cable.proofs.Drawing.{same_trans}
 use Rattle.cable.proofs.Grows.{Goes, Quiet, added_quiet, drew_where, hears_on}

@@ -8,7 +8,7 @@ use Rattle.tape.specs.declared.entry.Entry.{Entry}
 use Rattle.session_model.specs.Legal.{Fair, IsPlain, Legal}
 use Rattle.session_core.specs.Seen.{Seen}
 use Rattle.session_laws.specs.Ends.{AreEnds}
-use Rattle.cable.specs.declared.script.line.Line.{Line}
+use Rattle.cable_script.specs.declared.line.Line.{Line}
 use Rattle.cable.specs.Played.{Ends, Played, PlaysLine, PlaysLines, Sides, begins, nothing, opens}
 use Rattle.cable.specs.Wires.{At, Keeps, Reaches, Wires, sides_of}
 

@@ -7,11 +7,10 @@ use Rattle.rs_wire.specs.declared.words.Side.{Side}
 use Rattle.rs_wire.specs.declared.settings.Settings.{Settings}
 use Rattle.rs_wire.specs.declared.settings.SettingFault.{SettingFault}
 use Rattle.rs_wire.specs.Settings.{IsIn, fault_of, usual}
-use Rattle.fragment.specs.Splitting.{IsMtu}
+use Rattle.cable_script.specs.Setting.{IsMtu, IsSetting, IsSettingLine, is_for, put, set_by, set_by_all, settings_by}
 use Rattle.session_model.specs.Legal.{IsPlain}
-use Rattle.cable.specs.declared.script.setting.Setting.{Setting}
-use Rattle.cable.specs.declared.script.setting.SettingLine.{SettingLine}
-use Rattle.cable.specs.Setting.{IsSetting, IsSettingLine, is_for, put, set_by, set_by_all, settings_by}
+use Rattle.cable_script.specs.declared.setting.Setting.{Setting}
+use Rattle.cable_script.specs.declared.setting.SettingLine.{SettingLine}
 
 -- each is in its range, of an end without resumption and leases
 record IsSound (s : Settings) : Type 0 where

@@ -5,7 +5,7 @@ ghost use Rattle.std.specs.List.{AllByRecursion};
 ghost use Rattle.rs_wire.specs.declared.words.Side.TheVariants.{Server};
 ghost use Rattle.rs_wire.specs.declared.settings.Settings.{Settings as Limits};
 ghost use Rattle.rs_wire.specs.Calls.{CanBeAsked};
-ghost use Rattle.cable.specs.Line.{IsLine};
+ghost use Rattle.cable_script.specs.Line.{IsLine};
 ghost use Rattle.cable.specs.Played.{Downs, Drains, Ends, PlaysLine, PlaysLines, Round, There, Ups, asks, asks_often, begins, cuts, cuts_there, nothing, opens};
 ghost use Rattle.cable.specs.Wires.{Arrives, At, Gave, IsAt, IsMoved, IsServerAt, Keeps, Reaches, ServerAt, sides_of, wire_of};
 
@@ -13,7 +13,7 @@ use crate::MOST_ROUNDS;
 use crate::bringing::{ask, connect, cut, item};
 use crate::carrying::{Most, carry, offer};
 use crate::hearing::{Crossing, Known, hear, meet};
-use crate::script::line::Line;
+use cable_script::Line;
 use rs_chunk::Reader;
 use rs_wire::{Call, OutOfMemory, Side};
 use session_core::Session;

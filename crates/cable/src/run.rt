@@ -10,7 +10,7 @@ ghost use Rattle.cable.specs.Played.{Played, pair_of};
 
 use crate::cable::Cable;
 use crate::laws::played_laws;
-use crate::script::Script;
+use cable_script::Script;
 use session_core::Session;
 use std::alloc::Global;
 use tape::Tape;

@@ -1,5 +1,5 @@
 use Rattle.std.proofs.Common.{◌≡◌, refl, ◌∙◌}
-use Rattle.cable.specs.Setting.{settings_by}
+use Rattle.cable_script.specs.Setting.{settings_by}
 use Rattle.cable.proofs.Settings.{all_set, not_wrong, one_set, plain_as}
 use Rattle.cable.proofs.ends.settings_of.Goals as goal
 

@@ -1,6 +1,6 @@
 use Rattle.std.proofs.Common.{◌≡◌, ℕ, sym, subst, OnOk}
 use Rattle.rs_wire.specs.declared.call.Call.{Call}
-use Rattle.cable.specs.declared.script.line.Line.{Line}
+use Rattle.cable_script.specs.declared.line.Line.{Line}
 use Rattle.cable.specs.declared.carrying.Most.TheVariants as most
 use Rattle.cable.specs.Played.{Downs, PlaysLine, Ups, an_item, asks_often}
 use Rattle.cable.specs.Wires.{Reaches, sides_of}
