@@ -107,16 +107,20 @@ held_rows :
     × (is_held_boundary (holds 10) (asks_more ∷ asks ∷ opens ∷ []) 16 ≡ true)
     × (first (holds 16) (asks_more ∷ asks ∷ opens ∷ []) ≡ 0)
     × (is_held_boundary (holds 16) (asks_more ∷ asks ∷ opens ∷ []) 0 ≡ true)
+    × (is_held_boundary (holds 16) (asks_more ∷ asks ∷ opens ∷ []) 8 ≡ true)
+    × (is_held_boundary (holds 16) (asks_more ∷ asks ∷ opens ∷ []) 16 ≡ true)
 unfolding setup told made pos_by acked_by least_boundary_by is_boundary_by known_after heard_in highest count_to turn fragments over jobs jobs_taken jobs_waiting
-held_rows = (refl, refl, refl, refl, refl, refl, refl, refl, refl)
+held_rows = (refl, refl, refl, refl, refl, refl, refl, refl, refl, refl, refl)
 
 -- where resumption is not agreed nothing is kept, though frames were made
 unkept_rows :
     (kept (record (holds 10) { resume = false }) (asks_more ∷ asks ∷ opens ∷ []) ≡ [])
     × (held_from (record (holds 10) { resume = false }) (asks_more ∷ asks ∷ opens ∷ []) ≡ 0)
+    × (is_held_boundary (record (holds 10) { resume = false }) (asks_more ∷ asks ∷ opens ∷ []) 0 ≡ true)
+    × (is_held_boundary (record (holds 10) { resume = false }) (asks_more ∷ asks ∷ opens ∷ []) 8 ≡ false)
     × (first (record (holds 10) { resume = false }) (asks_more ∷ asks ∷ opens ∷ []) ≡ 8)
-unfolding setup told made pos_by acked_by least_boundary_by known_after heard_in highest count_to turn fragments over jobs jobs_taken jobs_waiting
-unkept_rows = (refl, refl, refl)
+unfolding setup told made pos_by acked_by least_boundary_by is_boundary_by known_after heard_in highest count_to turn fragments over jobs jobs_taken jobs_waiting
+unkept_rows = (refl, refl, refl, refl, refl)
 
 -- a server that missed the first frame can't go on where that is forgotten
 forgotten_rows :

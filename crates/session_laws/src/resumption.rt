@@ -48,12 +48,12 @@ pub fn held_frames_follow_a_boundary()
 
 /// A server accepts a RESUME exactly where both ends hold what the other has not handled, on a
 /// session that is not closed, for version 1 and the session's token. Such a session is begun, and
-/// agreed to resumption. Of a client this says nothing: no first frame comes to it.
+/// agreed to resumption. No first frame comes to a client, so `accepted` leaves it out.
 pub fn resume_is_accepted_where_both_ends_hold()
     ensures accepted { (g : Settings) (past : List Entry) (r : Resume) (taken : Bool) →
         g.side ≡ Server →
         (answer_to g past (event.Open (Some (frame.Resume r)) taken)
-            ≡ answer.Opened (openings past + 1))
+        ≡ answer.Opened (openings past + 1))
         ↔ CanResume g past r }
     ensures begun { (g : Settings) (past : List Entry) (r : Resume) →
         CanResume g past r → begun past ≡ true }
