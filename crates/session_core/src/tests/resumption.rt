@@ -6,7 +6,7 @@ use super::ends::{
     RESUMING_SETUP, SERVER,
 };
 use super::play::{Limits, Shown, answer, play, session, text};
-use super::step::{Again, First, Step, Strange};
+use super::step::{Again, First, Step, Strange, Token};
 use crate::refusal_frame;
 use rs_frame::Frame;
 use rs_wire::{Blob, Cause, Gone, Rule};
@@ -26,7 +26,7 @@ const THIRD: &[u8] = b"\x00\x00\x08\x00\x00\x00\x05\x14\x00hh";
 /// A RESUME of a client that handled nothing, and holds all that it made.
 const FROM_0: Again = Again {
     major: 1,
-    token: "tok1",
+    token: Token::Own,
     server_position: 0,
     client_position: 0,
 };
@@ -293,11 +293,11 @@ fn play_refused(rt: &impl Abort, alloc: Global, again: Again, gone: Gone) {
 fn the_first_fault_of_a_resume_is_answered(rt: HostRuntime) {
     let newer = Again {
         major: 2,
-        token: "tok2",
+        token: Token::Other,
         ..FROM_0
     };
     let other = Again {
-        token: "tok2",
+        token: Token::Other,
         server_position: 9,
         ..FROM_0
     };

@@ -25,13 +25,22 @@ pub enum First {
     Other,
 }
 
+/// A token of a client.
+#[derive(Clone, Copy)]
+pub enum Token {
+    /// That of the session, `tok1`.
+    Own,
+    /// Another one, `tok2`.
+    Other,
+}
+
 /// What a RESUME says.
 #[derive(Clone, Copy)]
 pub struct Again {
     /// Its major version.
     pub major: u16,
     /// Its token.
-    pub token: &'static str,
+    pub token: Token,
     /// The position up to which the client handled what the server made.
     pub server_position: u64,
     /// The position from which on the client holds what it made.
@@ -178,6 +187,13 @@ fn setup(rt: &impl Abort, alloc: Global, major: u16, resume: Option<Blob>, lease
     })
 }
 
+fn token(rt: &impl Abort, alloc: Global, token: Token) -> Blob {
+    match token {
+        Token::Own => blob(rt, alloc, "tok1"),
+        Token::Other => blob(rt, alloc, "tok2"),
+    }
+}
+
 fn first_frame(rt: &impl Abort, alloc: Global, first: First) -> Frame {
     match first {
         First::Good => setup(rt, alloc, 1, None, false),
@@ -188,7 +204,7 @@ fn first_frame(rt: &impl Abort, alloc: Global, first: First) -> Frame {
         First::Resume(again) => Frame::Resume(Resume {
             major: again.major,
             minor: 0,
-            token: blob(rt, alloc, again.token),
+            token: token(rt, alloc, again.token),
             server_position: again.server_position,
             client_position: again.client_position,
         }),
