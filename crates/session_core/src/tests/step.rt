@@ -187,7 +187,7 @@ fn setup(rt: &impl Abort, alloc: Global, major: u16, resume: Option<Blob>, lease
     })
 }
 
-fn token(rt: &impl Abort, alloc: Global, token: Token) -> Blob {
+fn token_bytes(rt: &impl Abort, alloc: Global, token: Token) -> Blob {
     match token {
         Token::Own => blob(rt, alloc, "tok1"),
         Token::Other => blob(rt, alloc, "tok2"),
@@ -204,7 +204,7 @@ fn first_frame(rt: &impl Abort, alloc: Global, first: First) -> Frame {
         First::Resume(again) => Frame::Resume(Resume {
             major: again.major,
             minor: 0,
-            token: token(rt, alloc, again.token),
+            token: token_bytes(rt, alloc, again.token),
             server_position: again.server_position,
             client_position: again.client_position,
         }),
