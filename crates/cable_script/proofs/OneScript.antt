@@ -3,12 +3,15 @@ use Rattle.std.proofs.lemmas.Grind.{common_steps}
 use Rattle.std.proofs.Common.{◌<◌, ◌+◌, length, ⊎_elim, ◌≡◌, ℕ, List, [], ◌∷◌, ◌++◌, map, not, Option, Some, None, refl, ap, sym, ◌∙◌, append_assoc, arith}
 use Rattle.std.proofs.lemmas.Bool.{cases_lt}
 use Rattle.std.specs.List.{AllByRecursion}
+use Rattle.std.proofs.lemmas.List.{append_cancel_left}
 use Rattle.std.proofs.lemmas.List.Elements.{filter-append}
+use Rattle.std.specs.Prelude.{codes}
 use Rattle.plain_text.proofs.Numbers.{decimal_same}
 use Rattle.rs_wire.specs.declared.words.Side.{Side}
 use Rattle.cable_script.specs.declared.line.Line.{Line}
 use Rattle.cable_script.specs.declared.setting.Setting.{Setting}
 use Rattle.cable_script.specs.declared.setting.SettingLine.{SettingLine}
+use Rattle.cable_script.specs.declared.setting.SettingLine.TheVariants as settings
 use Rattle.cable_script.specs.Spoken.{side_word}
 use Rattle.cable_script.specs.Line.{IsLine, text_of}
 use Rattle.cable_script.specs.Setting.{IsSetting, IsSettingLine, end_words, setting_text, setting_words}
@@ -36,14 +39,16 @@ one_end (Some s) (Some t) x y e =
     let same = same_end s t (setting_words x) (setting_words y) (sym (append_assoc (side_word s) (32 ∷ []) (setting_words x)) ∙ (e ∙ append_assoc (side_word t) (32 ∷ []) (setting_words y))) in
     (ap Some same.0, same.1)
 
-line_is : (a b : SettingLine) → a.side ≡ b.side → a.setting ≡ b.setting → a ≡ b
-line_is a b sides settings = ap (λ (s : Option Side). record { side = s; setting = a.setting }) sides ∙ ap (λ (x : Setting). record { side = b.side; setting = x }) settings
-
 one_setting_line : (a b : SettingLine) → IsSettingLine a → IsSettingLine b → setting_text a ≡ setting_text b → a ≡ b
-one_setting_line a b h k e =
-    let rest : end_words a.side ++ setting_words a.setting ≡ end_words b.side ++ setting_words b.setting = cc in
-    let same = one_end a.side b.side a.setting b.setting rest in
-    line_is a b same.0 (one_setting a.setting b.setting h k same.1)
+one_setting_line (settings.Set s x) (settings.Set t y) h k e =
+    let rest : end_words s ++ setting_words x ≡ end_words t ++ setting_words y = cc in
+    let same = one_end s t x y rest in
+    let ends : s ≡ t = same.0 in
+    let set : x ≡ y = one_setting x y h k same.1 in
+    cc
+one_setting_line (settings.Set s x) (settings.Resume w) h k e = absurd (grind (arith, common_steps))
+one_setting_line (settings.Resume v) (settings.Set t y) h k e = absurd (grind (arith, common_steps))
+one_setting_line (settings.Resume v) (settings.Resume w) h k e = ap settings.Resume (append_cancel_left (codes "resume ") v w e)
 
 -- ---- one script
 

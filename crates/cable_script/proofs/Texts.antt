@@ -76,29 +76,29 @@ part_again word bytes right is = ap is_part is ∙ hex_again 45 bytes right
 abbrev pub NotAt : Side → List ℕ → Type 0
 NotAt side text = ((c : Call) → IsSayable c → ¬ (text ≡ text_of (lines.Ask side c))) × ((a n m : ℕ) → IsAmount a → IsAmount n → m ≤ MOST_ITEM → ¬ (text ≡ text_of (lines.Many side a n m)))
 
--- of none of both ends
-abbrev pub NotBetween : List ℕ → Type 0
-NotBetween text = ((n : ℕ) → IsAmount n → ¬ (text ≡ text_of (lines.Up n))) × ((n : ℕ) → IsAmount n → ¬ (text ≡ text_of (lines.Down n))) × (¬ (text ≡ text_of lines.Drain)) × (¬ (text ≡ text_of lines.Cut))
+-- it is that of no line that carries, and of none of one word
+abbrev pub NotCarrying : List ℕ → Type 0
+NotCarrying text = ((n : ℕ) → IsAmount n → ¬ (text ≡ text_of (lines.Up n))) × ((n : ℕ) → IsAmount n → ¬ (text ≡ text_of (lines.Down n))) × ((n : ℕ) → IsAmount n → ¬ (text ≡ text_of (lines.Late n)))
 
-not_line : (text : List ℕ) → NotAt sides.Client text → NotAt sides.Server text → NotBetween text → (l : Line) → IsLine l → ¬ (text ≡ text_of l)
-not_line text client server between (lines.Ask sides.Client c) h = client.0 c h
-not_line text client server between (lines.Ask sides.Server c) h = server.0 c h
-not_line text client server between (lines.Many sides.Client a n m) h = client.1 a n m h.0 h.1 h.2
-not_line text client server between (lines.Many sides.Server a n m) h = server.1 a n m h.0 h.1 h.2
-not_line text client server between (lines.Up n) h = between.0 n h
-not_line text client server between (lines.Down n) h = between.1 n h
-not_line text client server between lines.Drain h = between.2
-not_line text client server between lines.Cut h = between.3
+abbrev pub NotSingle : List ℕ → Type 0
+NotSingle text = (¬ (text ≡ text_of lines.Drain)) × (¬ (text ≡ text_of lines.Cut)) × (¬ (text ≡ text_of lines.Open)) × (¬ (text ≡ text_of lines.Drop))
 
-between_none : {A : Type 0} (text : List ℕ) (r : Option A) → IfNone r ((n : ℕ) → IsAmount n → ¬ (text ≡ text_of (lines.Up n))) → IfNone r ((n : ℕ) → IsAmount n → ¬ (text ≡ text_of (lines.Down n))) → IfNone r (¬ (text ≡ text_of lines.Drain)) → IfNone r (¬ (text ≡ text_of lines.Cut))
-    → IfNone r (NotBetween text)
-between_none text None up down drain cut = (up, down, drain, cut)
-between_none text (Some x) up down drain cut = tt
+not_line : (text : List ℕ) → NotAt sides.Client text → NotAt sides.Server text → NotCarrying text → NotSingle text → (l : Line) → IsLine l → ¬ (text ≡ text_of l)
+not_line text client server carrying single (lines.Ask sides.Client c) h = client.0 c h
+not_line text client server carrying single (lines.Ask sides.Server c) h = server.0 c h
+not_line text client server carrying single (lines.Many sides.Client a n m) h = client.1 a n m h.0 h.1 h.2
+not_line text client server carrying single (lines.Many sides.Server a n m) h = server.1 a n m h.0 h.1 h.2
+not_line text client server carrying single (lines.Up n) h = carrying.0 n h
+not_line text client server carrying single (lines.Down n) h = carrying.1 n h
+not_line text client server carrying single lines.Drain h = single.0
+not_line text client server carrying single lines.Cut h = single.1
+not_line text client server carrying single lines.Open h = single.2
+not_line text client server carrying single lines.Drop h = single.3
+not_line text client server carrying single (lines.Late n) h = carrying.2 n h
 
 -- a text of no line
-pub no_line : {A : Type 0} (text : List ℕ) (r : Option A) → NotAt sides.Client text → NotAt sides.Server text → IfNone r ((n : ℕ) → IsAmount n → ¬ (text ≡ text_of (lines.Up n))) → IfNone r ((n : ℕ) → IsAmount n → ¬ (text ≡ text_of (lines.Down n))) → IfNone r (¬ (text ≡ text_of lines.Drain))
-    → IfNone r (¬ (text ≡ text_of lines.Cut)) → IfNone r ((l : Line) → IsLine l → ¬ (text ≡ text_of l))
-no_line text r client server up down drain cut = still_none (NotBetween text) ((l : Line) → IsLine l → ¬ (text ≡ text_of l)) r (not_line text client server) (between_none text r up down drain cut)
+pub no_line : {A : Type 0} (text : List ℕ) (r : Option A) → NotAt sides.Client text → NotAt sides.Server text → NotCarrying text → IfNone r (NotSingle text) → IfNone r ((l : Line) → IsLine l → ¬ (text ≡ text_of l))
+no_line text r client server carrying single = still_none (NotSingle text) ((l : Line) → IsLine l → ¬ (text ≡ text_of l)) r (not_line text client server carrying) single
 
 -- the words of a line say that its text is one
 pub line_of_words : (w : Words) → AreRight w → (l : Line) × (text_of_words w ≡ text_of l) × IsLine l

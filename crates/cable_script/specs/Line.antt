@@ -53,6 +53,9 @@ text_of (lines.Up most) = codes "up " ++ decimal most
 text_of (lines.Down most) = codes "down " ++ decimal most
 text_of lines.Drain = codes "drain"
 text_of lines.Cut = codes "cut"
+text_of lines.Open = codes "open"
+text_of lines.Drop = codes "drop"
+text_of (lines.Late most) = codes "late " ++ decimal most
 
 -- ---- what a line can say
 
@@ -84,3 +87,6 @@ IsLine (lines.Up most) = IsAmount most
 IsLine (lines.Down most) = IsAmount most
 IsLine lines.Drain = Unit {0}
 IsLine lines.Cut = Unit {0}
+IsLine lines.Open = Unit {0}
+IsLine lines.Drop = Unit {0}
+IsLine (lines.Late most) = IsAmount most

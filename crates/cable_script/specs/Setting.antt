@@ -1,12 +1,16 @@
 -- The setting lines of a script: what each says, its one text, and the settings that they make.
-use Rattle.std.specs.Prelude.{ℕ, ◌<◌, ◌≤◌, ◌^◌, Bool, true, false, if◌then◌else◌, List, [], ◌∷◌, ◌++◌, Option, Some, None, codes}
+use Rattle.std.specs.Prelude.{ℕ, ◌<◌, ◌≤◌, ◌^◌, Bool, true, false, if◌then◌else◌, List, [], ◌∷◌, ◌++◌, length, Option, Some, None, IsTrue, codes}
+use Rattle.std.specs.Char.{is_ascii_graphic}
+use Rattle.std.specs.List.{list_all}
 use Rattle.rs_wire.specs.declared.words.Side.{Side}
 use Rattle.rs_wire.specs.declared.words.Side.TheVariants.{Client, Server}
 use Rattle.rs_wire.specs.declared.settings.Settings.{Settings}
 use Rattle.rs_wire.specs.Settings.{IsIn, usual}
+use Rattle.cable_script.specs.declared.TheConstants.{MOST_TOKEN}
 use Rattle.cable_script.specs.declared.setting.Setting.{Setting}
 use Rattle.cable_script.specs.declared.setting.Setting.TheVariants as setting
 use Rattle.cable_script.specs.declared.setting.SettingLine.{SettingLine}
+use Rattle.cable_script.specs.declared.setting.SettingLine.TheVariants as lines
 use Rattle.cable_script.specs.Spoken.{numbered, side_word}
 
 -- ---- their text
@@ -29,7 +33,8 @@ end_words None = []
 end_words (Some side) = side_word side ++ 32 ∷ []
 
 abbrev pub setting_text : SettingLine → List ℕ
-setting_text l = codes "set " ++ (end_words l.side ++ setting_words l.setting)
+setting_text (lines.Set side x) = codes "set " ++ (end_words side ++ setting_words x)
+setting_text (lines.Resume token) = codes "resume " ++ token
 
 -- no limit, or the bytes of a frame that has room for more than its header
 abbrev pub IsMtu : ℕ → Type 0
@@ -48,8 +53,14 @@ IsSetting (setting.MaxStreams count) = IsIn 1 count 65536
 IsSetting (setting.LastId id) = IsIn 1 id 2147483647
 IsSetting (setting.Top position) = IsIn 0 position 9223372036854775807
 
+-- a token: 1 to 64 characters from ! to ~
+pub record IsToken (token : List ℕ) : Type 0 where
+  pub size : IsIn 1 (length token) MOST_TOKEN
+  pub graphic : IsTrue (list_all is_ascii_graphic token)
+
 abbrev pub IsSettingLine : SettingLine → Type 0
-IsSettingLine l = IsSetting l.setting
+IsSettingLine (lines.Set side x) = IsSetting x
+IsSettingLine (lines.Resume token) = IsToken token
 
 -- ---- the settings that they make
 
@@ -73,9 +84,15 @@ is_for (Some Client) Server = false
 is_for (Some Server) Client = false
 is_for (Some Server) Server = true
 
+-- the token of an end after a line that gives one: a client's is that of the line, and a server's stays its own
+abbrev pub token_at : Side → List ℕ → List ℕ → List ℕ
+token_at Client token own = token
+token_at Server token own = own
+
 -- the settings of an end after a line
 abbrev pub set_by : Side → SettingLine → Settings → Settings
-set_by side l s = if is_for l.side side then put l.setting s else s
+set_by side (lines.Set end x) s = if is_for end side then put x s else s
+set_by side (lines.Resume token) s = record s { resume = true; token = token_at side token s.token }
 
 -- the settings of an end after these lines, one after the other, so that a later one replaces an earlier
 unfoldable pub set_by_all : Side → List SettingLine → Settings → Settings

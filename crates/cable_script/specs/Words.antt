@@ -7,6 +7,10 @@ use Rattle.rs_wire.specs.declared.call.Call.TheVariants as call
 use Rattle.rs_wire.specs.declared.message.Message.{Message}
 use Rattle.cable_script.specs.declared.line.Line.{Line}
 use Rattle.cable_script.specs.declared.line.Line.TheVariants as line
+use Rattle.cable_script.specs.declared.setting.SettingLine.{SettingLine}
+use Rattle.cable_script.specs.declared.setting.SettingLine.TheVariants as setting
+use Rattle.cable_script.specs.declared.setting_words.SettingWords.{SettingWords}
+use Rattle.cable_script.specs.declared.setting_words.SettingWords.TheVariants as setting_words
 use Rattle.cable_script.specs.declared.words.payload.Payload.{Payload}
 use Rattle.cable_script.specs.declared.words.payload.Payload.TheVariants as payload
 use Rattle.cable_script.specs.declared.words.asked.Asked.{Asked}
@@ -47,9 +51,16 @@ line_of (words.Up most) = line.Up most
 line_of (words.Down most) = line.Down most
 line_of words.Drain = line.Drain
 line_of words.Cut = line.Cut
+line_of words.Open = line.Open
+line_of words.Drop = line.Drop
+line_of (words.Late most) = line.Late most
 
 abbrev pub text_of_words : Words → List ℕ
 text_of_words w = text_of (line_of w)
+
+abbrev pub setting_line_of : SettingWords → SettingLine
+setting_line_of (setting_words.Set side x) = setting.Set side x
+setting_line_of (setting_words.Resume token) = setting.Resume token.now
 
 -- ---- their parts are spelled right
 

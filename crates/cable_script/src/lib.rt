@@ -12,6 +12,7 @@ mod laws;
 mod line;
 mod script;
 mod setting;
+mod setting_words;
 mod spoken;
 mod words;
 
@@ -20,6 +21,10 @@ pub const MOST_SCRIPT: usize = 16_777_216;
 
 /// The most bytes of an item of a line `many`: no settings let a message carry more.
 pub const MOST_ITEM: u32 = 16_000_000;
+
+/// The most characters of the token of a line `resume`. A RESUME has room for 65,535 bytes; 64 keep a
+/// token on one line, and are enough for each hash in hex up to 256 bits.
+pub const MOST_TOKEN: usize = 64;
 
 /// The byte of which the items of a line `many` are made: `Z`.
 pub const ITEM_BYTE: u8 = 0x5a;

@@ -7,11 +7,12 @@ ghost use Rattle.cable_script.specs.Line.{IsLine, text_of};
 ghost use Rattle.cable_script.specs.Script.{AreRight as AreScripted, IsFault, IsScript, WereRead, is_passed};
 ghost use Rattle.cable_script.specs.Scripted.{and_line, and_setting};
 ghost use Rattle.cable_script.specs.Setting.{IsSettingLine};
-ghost use Rattle.cable_script.specs.Words.{AreRight, text_of_words};
+ghost use Rattle.cable_script.specs.Words.{AreRight, setting_line_of, text_of_words};
 
 use crate::MOST_SCRIPT;
 use crate::line::Line;
-use crate::setting::{SettingLine, setting_line};
+use crate::setting::SettingLine;
+use crate::setting_words::{SettingWords, setting_words_of};
 use crate::words::{Words, words_of};
 use plain_text::first_line;
 use rs_wire::OutOfMemory;
@@ -88,13 +89,16 @@ fn with_line(
 
 // The script and one more setting line, where there is memory for all.
 fn with_setting(
+    alloc: Global,
     script: Result<Script, OutOfMemory>,
-    setting: SettingLine,
+    words: &SettingWords<'_>,
 ) -> Result<Script, OutOfMemory>
-    requires { IsSettingLine setting }
-    ensures { IfOk result (λ new. IsOkAnd script (λ old. new ≡ and_setting setting old)) }
+    requires { IsSettingLine (setting_line_of words.now) }
+    ensures { IfOk result (λ new. IsOkAnd script (λ old.
+        new ≡ and_setting (setting_line_of words.now) old)) }
 {
     let mut script = script?;
+    let setting = words.line(alloc)?;
     script.settings.push(setting)?;
     Ok(script)
 }
@@ -119,9 +123,9 @@ fn with_text(alloc: Global, reading: Reading, text: &[u8]) -> Option<Reading>
     if reading.acted {
         return None;
     }
-    let setting = setting_line(text)?;
+    let words = setting_words_of(text)?;
     Some(Reading {
-        script: with_setting(reading.script, setting),
+        script: with_setting(alloc, reading.script, &words),
         acted: false,
     })
 }

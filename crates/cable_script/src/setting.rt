@@ -1,14 +1,10 @@
 //! The setting lines of a script.
 
-ghost use Rattle.std.specs.Prelude.{◌≡◌, ◌++◌, ◌∷◌, ℕ, codes, IfNone, IfSome, decimal};
-ghost use Rattle.rs_wire.specs.Settings.{IsIn};
-ghost use Rattle.cable_script.specs.Setting.{IsMtu};
-ghost use Rattle.cable_script.specs.declared.setting.Setting.{Setting as Meant};
-ghost use Rattle.cable_script.specs.declared.setting.SettingLine.{SettingLine as Written};
-ghost use Rattle.cable_script.specs.Setting.{IsSetting, IsSettingLine, end_words, is_for, put, set_by, setting_text, setting_words};
+ghost use Rattle.std.specs.Prelude.{◌≡◌, OnErr, OnOk, true};
+ghost use Rattle.cable_script.specs.Setting.{is_for, put, set_by, token_at};
 
-use plain_text::read_number;
-use rs_wire::{Settings, Side};
+use rs_wire::{Blob, OutOfMemory, Settings, Side};
+use std::alloc::Global;
 
 /// A setting of an end that a script may change. What stands in it is in its range.
 #[derive(Clone, Copy, Debug, PartialEq, Eq)]
@@ -38,13 +34,22 @@ pub enum Setting {
     Top(u64),
 }
 
-/// A setting line: `set NAME V`, `set client NAME V` or `set server NAME V`.
-#[derive(Clone, Copy, Debug, PartialEq, Eq)]
-pub struct SettingLine {
-    /// The end that it sets; `None` for both.
-    pub side: Option<Side>,
-    /// What it sets.
-    pub setting: Setting,
+/// A line that changes settings. It stands before all action lines, and a later one replaces an
+/// earlier one.
+#[derive(Debug, Drop, PartialEq, Eq)]
+pub enum SettingLine {
+    /// `set NAME V`, `set client NAME V` or `set server NAME V`.
+    Set {
+        /// The end that it sets; `None` for both.
+        side: Option<Side>,
+        /// What it sets.
+        setting: Setting,
+    },
+    /// `resume TOKEN`: both ends take part in resumption, and the client's token is TOKEN.
+    Resume {
+        /// TOKEN: 1 to [`MOST_TOKEN`](crate::MOST_TOKEN) bytes, each from `!` (0x21) to `~` (0x7e).
+        token: Blob,
+    },
 }
 
 impl Setting {
@@ -66,102 +71,53 @@ impl Setting {
     }
 }
 
+// Whether a line for this end, or for both where it names none, is for that side.
+fn is_for(end: Option<Side>, side: Side) -> bool
+    ensures { result ≡ is_for end side }
+{
+    match end {
+        Some(one) => one == side,
+        None => true,
+    }
+}
+
+// Resumption at this end, with the token where it is the client.
+fn resume(
+    alloc: Global,
+    token: &Blob,
+    side: Side,
+    settings: &mut Settings,
+) -> Result<(), OutOfMemory>
+    ensures ok { OnOk result (settings.new ≡ record settings.old {
+        resume = true; token = token_at side token.now settings.old.token }) }
+    ensures err { OnErr result (settings.new ≡ settings.old) }
+{
+    if side == Side::Client {
+        settings.token = token.copy(alloc)?;
+    }
+    settings.resume = true;
+    Ok(())
+}
+
 impl SettingLine {
-    fn is_for(&self, side: Side) -> bool
-        ensures { result ≡ is_for self.now.side side }
+    /// Changes the settings of this end as the line says. Where memory runs out, they are as before.
+    pub fn apply(
+        &self,
+        alloc: Global,
+        side: Side,
+        settings: &mut Settings,
+    ) -> Result<(), OutOfMemory>
+        ensures ok { OnOk result (settings.new ≡ set_by side self.now settings.old) }
+        ensures err { OnErr result (settings.new ≡ settings.old) }
     {
-        match self.side {
-            Some(one) => one == side,
-            None => true,
+        match self {
+            SettingLine::Set { side: end, setting } => {
+                if is_for(*end, side) {
+                    setting.put(settings);
+                }
+                Ok(())
+            }
+            SettingLine::Resume { token } => resume(alloc, token, side, settings),
         }
     }
-
-    /// Puts the setting into the settings of this end, where the line is for it.
-    pub(crate) fn apply(&self, side: Side, settings: &mut Settings)
-        ensures { settings.new ≡ set_by side self.now settings.old }
-    {
-        if self.is_for(side) {
-            self.setting.put(settings);
-        }
-    }
-}
-
-// The value after this name and its space, where it is in the range.
-fn valued(words: &[u8], name: &[u8], low: u64, high: u64) -> Option<u64>
-    ensures some { IfSome result (λ n. (words.now ≡ name.now ++ decimal n) × IsIn low n high) }
-    ensures none { IfNone result ((n : ℕ) → IsIn low n high → ¬ (words.now ≡ name.now ++ decimal n)) }
-{
-    let value = words.strip_prefix(name)?;
-    read_number(value, low, high)
-}
-
-// The mtu of these words: none at all, or one that a frame fits.
-fn mtu_of(words: &[u8]) -> Option<u64>
-    ensures some { IfSome result (λ n. (words.now ≡ codes "mtu " ++ decimal n) × IsMtu n) }
-    ensures none { IfNone result ((n : ℕ) → IsMtu n → ¬ (words.now ≡ codes "mtu " ++ decimal n)) }
-{
-    if let Some(none) = valued(words, b"mtu ", 0, 0) {
-        return Some(none);
-    }
-    valued(words, b"mtu ", 64, 16_777_215)
-}
-
-// The setting of these words. `None` exactly where they are those of none.
-fn setting_of(words: &[u8]) -> Option<Setting>
-    ensures some { IfSome result (λ s. (words.now ≡ setting_words s) × IsSetting s) }
-    ensures none { IfNone result ((s : Meant) → IsSetting s → ¬ (words.now ≡ setting_words s)) }
-{
-    if let Some(ms) = valued(words, b"keepalive ", 1, 2_147_483_647) {
-        return Some(Setting::Keepalive(ms as u32));
-    }
-    if let Some(ms) = valued(words, b"lifetime ", 1, 2_147_483_647) {
-        return Some(Setting::Lifetime(ms as u32));
-    }
-    if let Some(bytes) = mtu_of(words) {
-        return Some(Setting::Mtu(bytes as u32));
-    }
-    if let Some(bytes) = valued(words, b"hold ", 0, 1_073_741_824) {
-        return Some(Setting::Hold(bytes));
-    }
-    if let Some(bytes) = valued(words, b"slack ", 0, 2_147_483_647) {
-        return Some(Setting::Slack(bytes));
-    }
-    if let Some(bytes) = valued(words, b"maxin ", 64, 16_777_215) {
-        return Some(Setting::MaxIn(bytes as u32));
-    }
-    if let Some(bytes) = valued(words, b"maxpayload ", 1, 16_000_000) {
-        return Some(Setting::MaxPayload(bytes as u32));
-    }
-    if let Some(count) = valued(words, b"streams ", 1, 65_536) {
-        return Some(Setting::MaxStreams(count as u32));
-    }
-    if let Some(id) = valued(words, b"lastid ", 1, 2_147_483_647) {
-        return Some(Setting::LastId(id as u32));
-    }
-    let position = valued(words, b"top ", 0, 9_223_372_036_854_775_807)?;
-    Some(Setting::Top(position))
-}
-
-fn for_side(side: Option<Side>, words: &[u8]) -> Option<SettingLine>
-    ensures some { IfSome result (λ l.
-        (codes "set " ++ (end_words side ++ words.now) ≡ setting_text l) × IsSettingLine l) }
-    ensures none { IfNone result ((s : Meant) → IsSetting s → ¬ (words.now ≡ setting_words s)) }
-{
-    let setting = setting_of(words)?;
-    Some(SettingLine { side, setting })
-}
-
-/// The setting line of this text. `None` exactly where the text is that of none.
-pub(crate) fn setting_line(text: &[u8]) -> Option<SettingLine>
-    ensures some { IfSome result (λ l. (text.now ≡ setting_text l) × IsSettingLine l) }
-    ensures none { IfNone result ((l : Written) → IsSettingLine l → ¬ (text.now ≡ setting_text l)) }
-{
-    let rest = text.strip_prefix(b"set ")?;
-    if let Some(words) = rest.strip_prefix(b"client ") {
-        return for_side(Some(Side::Client), words);
-    }
-    if let Some(words) = rest.strip_prefix(b"server ") {
-        return for_side(Some(Side::Server), words);
-    }
-    for_side(None, rest)
 }

@@ -40,6 +40,9 @@ pub(crate) enum Words<'a> {
     Down(Amount),
     Drain,
     Cut,
+    Open,
+    Drop,
+    Late(Amount),
 }
 
 impl Words<'_> {
@@ -68,6 +71,9 @@ impl Words<'_> {
             Words::Down(most) => Ok(Line::Down { most: *most }),
             Words::Drain => Ok(Line::Drain),
             Words::Cut => Ok(Line::Cut),
+            Words::Open => Ok(Line::Open),
+            Words::Drop => Ok(Line::Drop),
+            Words::Late(most) => Ok(Line::Late { most: *most }),
         }
     }
 }
@@ -147,13 +153,12 @@ fn line_at(side: Side, line: &[u8]) -> Option<Words<'_>>
     many_of(side, word)
 }
 
-// A line of both ends.
-fn line_between(line: &[u8]) -> Option<Words<'_>>
+// `up N`, `down N` or `late N`.
+fn carrying_of(line: &[u8]) -> Option<Words<'_>>
     ensures some { IfSome result (λ w. (line.now ≡ text_of_words w) × AreRight w) }
     ensures up { IfNone result ((n : ℕ) → IsAmount n → ¬ (line.now ≡ text_of (Line.Up n))) }
     ensures down { IfNone result ((n : ℕ) → IsAmount n → ¬ (line.now ≡ text_of (Line.Down n))) }
-    ensures drain { IfNone result (¬ (line.now ≡ text_of Line.Drain)) }
-    ensures cut { IfNone result (¬ (line.now ≡ text_of Line.Cut)) }
+    ensures late { IfNone result ((n : ℕ) → IsAmount n → ¬ (line.now ≡ text_of (Line.Late n))) }
 {
     if let Some(most) = amount_after(line, "up") {
         return Some(Words::Up(most));
@@ -161,11 +166,30 @@ fn line_between(line: &[u8]) -> Option<Words<'_>>
     if let Some(most) = amount_after(line, "down") {
         return Some(Words::Down(most));
     }
+    match amount_after(line, "late") {
+        Some(most) => Some(Words::Late(most)),
+        None => None,
+    }
+}
+
+// A line of one word.
+fn single_word_of(line: &[u8]) -> Option<Words<'_>>
+    ensures some { IfSome result (λ w. (line.now ≡ text_of_words w) × AreRight w) }
+    ensures none { IfNone result ((¬ (line.now ≡ text_of Line.Drain)) ×
+        (¬ (line.now ≡ text_of Line.Cut)) × (¬ (line.now ≡ text_of Line.Open)) ×
+        (¬ (line.now ≡ text_of Line.Drop))) }
+{
     if line == b"drain".as_slice() {
         return Some(Words::Drain);
     }
     if line == b"cut".as_slice() {
         return Some(Words::Cut);
+    }
+    if line == b"open".as_slice() {
+        return Some(Words::Open);
+    }
+    if line == b"drop".as_slice() {
+        return Some(Words::Drop);
     }
     None
 }
@@ -181,5 +205,8 @@ pub(crate) fn words_of(line: &[u8]) -> Option<Words<'_>>
     if let Some(words) = line_at(Side::Server, line) {
         return Some(words);
     }
-    line_between(line)
+    if let Some(words) = carrying_of(line) {
+        return Some(words);
+    }
+    single_word_of(line)
 }

@@ -11,9 +11,9 @@ returns-in-Some-clause-read c = λ texts read.
 pub returns-then-reading-clause-wrong : goal.returns-then-reading-clause-wrong
 returns-then-reading-clause-wrong c = λ texts read. wrong_after texts _ _ _ (sym c.is_passed.ensures ∙ c.if-is_passed.false) c.if-reading.true c.in_default.ensures.none read
 
-pub returns-in_err-setting-clause-wrong : goal.returns-in_err-setting-clause-wrong
-returns-in_err-setting-clause-wrong c = rw c.from_residual.ensures (λ texts read. wrong_both texts _ (sym c.is_passed.ensures ∙ c.if-is_passed.false) c.in_default.ensures.none c.in_err-setting.ensures.none)
+pub returns-in_err-words-clause-wrong : goal.returns-in_err-words-clause-wrong
+returns-in_err-words-clause-wrong c = rw c.from_residual.ensures (λ texts read. wrong_both texts _ (sym c.is_passed.ensures ∙ c.if-is_passed.false) c.in_default.ensures.none c.in_err-words.ensures.none)
 
 pub returns-clause-read : goal.returns-clause-read
 returns-clause-read c = λ texts read.
-    setting_read texts _ _ _ _ _ (sym c.is_passed.ensures ∙ c.if-is_passed.false) c.if-reading.false c.in_ok-setting.ensures.some.0 c.in_ok-setting.ensures.some.1 c.with_setting.ensures read
+    setting_read texts _ _ _ _ _ (sym c.is_passed.ensures ∙ c.if-is_passed.false) c.if-reading.false c.in_ok-words.ensures.some.0 c.in_ok-words.ensures.some.1 c.with_setting.ensures read

@@ -2,7 +2,7 @@ use Rattle.std.proofs.Common.{Some, None, arith}
 use Rattle.std.proofs.lemmas.Bool.Decides.{Decides-eqb}
 use Rattle.std.proofs.lemmas.Grind.{common_steps}
 use Rattle.std.proofs.lemmas.Slice.Eq.{strip_prefix_is}
-use Rattle.cable_script.proofs.setting.valued.Goals as goal
+use Rattle.cable_script.proofs.setting_words.valued.Goals as goal
 
 pub returns-in_err-value-clause-none : goal.returns-in_err-value-clause-none
 returns-in_err-value-clause-none c =
