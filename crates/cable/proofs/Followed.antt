@@ -25,7 +25,7 @@ use Rattle.session_core.specs.Seen.{Seen}
 use Rattle.session_model.proofs.Queue.{drawn_le}
 use Rattle.session_laws.proofs.Spelled.{due_spelled}
 use Rattle.cable.specs.declared.TheConstants.{MOST_ROUNDS}
-use Rattle.cable.specs.declared.cable.Wire.{Wire}
+use Rattle.cable.specs.declared.wire.Wire.{Wire}
 use Rattle.cable.specs.declared.carrying.Most.{Most}
 use Rattle.cable.specs.declared.carrying.Most.TheVariants as most
 use Rattle.cable.specs.declared.hearing.Crossing.{Crossing}

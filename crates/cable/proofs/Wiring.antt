@@ -19,7 +19,7 @@ use Rattle.session_core.specs.Seen.{Seen}
 use Rattle.session_laws.proofs.Framing.{AreSpellable}
 use Rattle.cable.specs.declared.arrival.Arrival.{Arrival}
 use Rattle.cable.specs.declared.arrival.Arrival.TheVariants as arrival
-use Rattle.cable.specs.declared.cable.Wire.{Wire}
+use Rattle.cable.specs.declared.wire.Wire.{Wire}
 use Rattle.cable.specs.declared.carrying.Left.{Left}
 use Rattle.cable.specs.declared.carrying.Most.{Most}
 use Rattle.cable.specs.declared.hearing.Crossing.{Crossing}
