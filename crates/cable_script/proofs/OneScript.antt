@@ -1,6 +1,6 @@
 -- A text is that of one script, and no line of a script is wrong.
 use Rattle.std.proofs.lemmas.Grind.{common_steps}
-use Rattle.std.proofs.Common.{◌<◌, ◌+◌, length, ⊎_elim, ◌≡◌, ℕ, List, [], ◌∷◌, ◌++◌, map, not, Option, Some, None, refl, ap, sym, ◌∙◌, append_assoc, arith}
+use Rattle.std.proofs.Common.{◌<◌, length, ⊎_elim, ◌≡◌, ℕ, List, [], ◌∷◌, ◌++◌, map, not, Option, Some, None, refl, ap, sym, ◌∙◌, append_assoc, arith}
 use Rattle.std.proofs.lemmas.Bool.{cases_lt}
 use Rattle.std.specs.List.{AllByRecursion}
 use Rattle.std.proofs.lemmas.List.{append_cancel_left}

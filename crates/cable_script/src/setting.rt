@@ -1,7 +1,7 @@
 //! The setting lines of a script.
 
 ghost use Rattle.std.specs.Prelude.{◌≡◌, OnErr, OnOk, true};
-ghost use Rattle.cable_script.specs.Setting.{is_for, put, set_by, token_at};
+ghost use Rattle.cable_script.specs.Setting.{is_for, put, set_by};
 
 use rs_wire::{Blob, OutOfMemory, Settings, Side};
 use std::alloc::Global;
@@ -88,8 +88,8 @@ fn resume(
     side: Side,
     settings: &mut Settings,
 ) -> Result<(), OutOfMemory>
-    ensures ok { OnOk result (settings.new ≡ record settings.old {
-        resume = true; token = token_at side token.now settings.old.token }) }
+    ensures ok { OnOk result
+        (settings.new ≡ set_by side (SettingLine.Resume token.now) settings.old) }
     ensures err { OnErr result (settings.new ≡ settings.old) }
 {
     if side == Side::Client {

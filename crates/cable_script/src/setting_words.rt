@@ -1,6 +1,8 @@
 //! The words of a setting line.
 
 ghost use Rattle.std.specs.Prelude.{◌≡◌, ◌++◌, ◌∷◌, ℕ, List, Option, codes, IfNone, IfOk, IfSome, IsTrue, decimal};
+ghost use Rattle.std.specs.Char.{is_ascii_graphic};
+ghost use Rattle.std.specs.List.{list_all};
 ghost use Rattle.rs_wire.specs.Settings.{IsIn};
 ghost use Rattle.cable_script.specs.declared.setting.Setting.{Setting as Meant};
 ghost use Rattle.cable_script.specs.declared.setting.SettingLine.{SettingLine as Written};
@@ -124,13 +126,17 @@ fn set_words(text: &[u8]) -> Option<SettingWords<'_>>
     for_side(None, rest)
 }
 
+fn is_graphic(word: &[u8]) -> bool
+    ensures { result ≡ list_all is_ascii_graphic word.now }
+{
+    word.iter().all(|byte| byte.is_ascii_graphic())
+}
+
 fn is_token(word: &[u8]) -> bool
     ensures right { IsTrue result → IsToken word.now }
     ensures only { IsToken word.now → IsTrue result }
 {
-    !word.is_empty()
-        && word.len() <= MOST_TOKEN
-        && word.iter().all(|byte| byte.is_ascii_graphic())
+    !word.is_empty() && word.len() <= MOST_TOKEN && is_graphic(word)
 }
 
 // `resume TOKEN`.

@@ -16,8 +16,8 @@ mod payload;
 mod requests;
 
 use crate::MOST_ITEM;
-use crate::spoken::side_word as side_text;
 use crate::line::Line;
+use crate::spoken::side_word as side_text;
 use crate::words::asked::Asked;
 use crate::words::calls::asked_of;
 use crate::words::cuts::{after, amount_and};

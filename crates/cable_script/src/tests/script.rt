@@ -2,7 +2,7 @@ use super::{Row, fault, is_read_so};
 use crate::ScriptFault;
 use std::test::Fail;
 
-const READ: [Row; 10] = [
+const READ: [Row; 11] = [
     Row {
         shows: "each line has one text",
         text: b"client fnf 68ff\nserver fnf -:00\nserver close\nup 2147483647\ndown 1\ndrain\ncut",
@@ -54,6 +54,16 @@ Many { side: Server, stream: 2147483647, count: Amount { number: 9 }, size: 1600
 ",
     },
     Row {
+        shows: "lines of a second connection have one text",
+        text: b"drop\nopen\nlate 1\nlate 2147483647",
+        read: "\
+Drop
+Open
+Late { most: Amount { number: 1 } }
+Late { most: Amount { number: 2147483647 } }
+",
+    },
+    Row {
         shows: "no text has no lines",
         text: b"",
         read: "",
@@ -89,7 +99,7 @@ fn each_script_is_read_so(rt: HostRuntime) -> Result<(), Fail> {
 }
 
 /// Texts of which the first line is wrong.
-const WRONG: [&[u8]; 58] = [
+const WRONG: [&[u8]; 68] = [
     b"up 0",
     b"up 01",
     b"up +1",
@@ -113,6 +123,16 @@ const WRONG: [&[u8]; 58] = [
     b"drain 1",
     b"cut 1",
     b" # up 1",
+    b"open ",
+    b"open 1",
+    b"client open",
+    b"drop ",
+    b"drop 1",
+    b"late",
+    b"late 0",
+    b"late 01",
+    b"late 2147483648",
+    b"late 1 ",
     // Calls that are out of the grammar.
     b"client",
     b"client response",
