@@ -2,7 +2,6 @@ pub mod Prefixes
 pub mod Framing
 pub mod Life
 pub mod Growth
-pub mod Agreed
 pub mod Spelled
 pub mod Counting
 pub mod Refused

@@ -12,7 +12,7 @@ use Rattle.tape.specs.declared.event.Event.TheVariants as event
 use Rattle.tape.specs.declared.entry.Entry.{Entry}
 use Rattle.position.specs.Boundaries.{IsBoundary, acked, first as first_held, frames_from, pos}
 use Rattle.position.proofs.Boundaries.{acked-boundary, boundary-le, boundary_zero, least-at_least, least-boundary, pos-from}
-use Rattle.position.proofs.Growing.{boundary_grown}
+use Rattle.position.proofs.Growing.{boundary_grown, boundary_rest, boundary_whole}
 use Rattle.position.proofs.Held.{acked_more, first_more}
 use Rattle.session_model.specs.Answers.{facts}
 use Rattle.session_model.specs.Frames.{first, made, makes}

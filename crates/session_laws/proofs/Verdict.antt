@@ -26,7 +26,9 @@ use Rattle.session_model.specs.declared.numbers.TheConstants.{ANSWER_ROOM}
 use Rattle.session_model.specs.Lists.{first_of}
 use Rattle.session_model.specs.Life.{asked_token, begun, carrying, closed, is_live, live, openings, resumption_agreed, setup, told}
 use Rattle.session_model.specs.Frames.{due, first, held_from, if_agreed, if_carrying, is_held_boundary, kept, made, queued}
+use Rattle.session_model.specs.Legal.{Legal}
 use Rattle.session_model.specs.Answers.{Facts, answer_to, facts, gone_with, handled_unless_gone, ok_gone, opened_unless_gone, resume_gone, unless_closed}
+use Rattle.session_model.proofs.Agreed.{kept_made, waiting_agreed}
 use Rattle.session_laws.specs.Resumption.{CanGoOn, CanResume, IsHeldFrom, refused_resume}
 
 -- ---- the tests of a position and of a token, row by row
@@ -129,13 +131,11 @@ kept_boundary g past p is =
     let b = both (leb (held_from g past) p) (is_boundary (kept g past) p) is in
     boundary_made (resumption_agreed g past) (made g past) p (boundary_test length_of (kept g past) p b.1)
 
--- where resumption is agreed, all that is made is kept
-kept_made : (g : Settings) (past : List Entry) → resumption_agreed g past ≡ true → kept g past ≡ made g past
-kept_made g past agreed = ap (λ b. if_agreed b (made g past)) agreed
-
+-- where resumption is agreed, what is held begins where it begins of all that was made
 held_starts : (g : Settings) (past : List Entry) → resumption_agreed g past ≡ true → held_from g past ≡ first g past
 held_starts g past agreed = ap (λ fs. first_held fs (told past) g.hold) (kept_made g past agreed)
 
+-- and so a boundary from there on is held
 is_held : (g : Settings) (past : List Entry) (p : ℕ) → resumption_agreed g past ≡ true → IsHeldFrom g past p → is_held_boundary g past p ≡ true
 is_held g past p agreed holds =
     subst (λ fs. (leb (first_held fs (told past) g.hold) p && is_boundary fs p) ≡ true) (sym (kept_made g past agreed))
@@ -255,12 +255,13 @@ handled_only true None false true o now queued is = absurd (cc)
 handled_only true None false false (Some x) now queued is = absurd (cc)
 handled_only true None false false None now queued is = record { live = refl; free = refl; place = refl; waits = refl; holds = refl }
 
-ok_handled_so : (g : Settings) (past : List Entry) (conn position : ℕ) → resumption_agreed g past ≡ true
+ok_handled_so : (g : Settings) (past : List Entry) (conn position : ℕ) → Legal g past
     → IsOkHandled (is_live (live past) conn) (closed g past) (ltb (out_limit_of g) (queued g past + length_of (frame.ResumeOk position) + ANSWER_ROOM)) (carrying g past) (ok_gone (facts g past) position)
     → CanGoOn g past conn position
 unfolding facts
-ok_handled_so g past conn position agreed h =
+ok_handled_so g past conn position legal h =
     let u = ok_unfaulty (facts g past) position h.holds in
+    let agreed = waiting_agreed g past conn legal h.waits h.live in
     let place = h.place in
     record {
       here = h.live;
@@ -273,22 +274,26 @@ ok_handled_so g past conn position agreed h =
       };
     }
 
-goes_on : (g : Settings) (past : List Entry) (conn position : ℕ) → resumption_agreed g past ≡ true → CanGoOn g past conn position → ok_gone (facts g past) position ≡ None
+goes_on : (g : Settings) (past : List Entry) (conn position : ℕ) → Legal g past → CanGoOn g past conn position → ok_gone (facts g past) position ≡ None
 unfolding facts
-goes_on g past conn position agreed can =
+goes_on g past conn position legal can =
     let holds = can.client_holds in
+    let agreed = waiting_agreed g past conn legal can.waits can.here in
     ok_no_fault (facts g past) position (record {
       from_first = subst (λ n. n ≤ position) (sym (held_starts g past agreed)) holds.held;
       to_end = boundary-le length_of (made g past) position holds.boundary;
       boundary = is_held g past position agreed holds;
     })
 
-pub ok_handled : (g : Settings) (past : List Entry) (conn position : ℕ) → resumption_agreed g past ≡ true → (answer_to g past (event.Came conn (frame.ResumeOk position)) ≡ answer.Handled) ↔ CanGoOn g past conn position
+pub ok_handled : (g : Settings) (past : List Entry) (conn position : ℕ) → Legal g past → (answer_to g past (event.Came conn (frame.ResumeOk position)) ≡ answer.Handled) ↔ CanGoOn g past conn position
 unfolding facts ok_answer
-ok_handled g past conn position agreed = (
-  λ is. ok_handled_so g past conn position agreed
+ok_handled g past conn position legal = (
+  λ is. ok_handled_so g past conn position legal
       (handled_only (is_live (live past) conn) (closed g past) (ltb (out_limit_of g) (queued g past + length_of (frame.ResumeOk position) + ANSWER_ROOM)) (carrying g past) (ok_gone (facts g past) position) (live past) (queued g past) is),
   λ can.
       let place : ltb (out_limit_of g) (queued g past + length_of (frame.ResumeOk position) + ANSWER_ROOM) ≡ false = let le = can.place in grind (arith, nat_tests) in
-      rw (can.here, can.free, place, can.waits, goes_on g past conn position agreed can) refl,
+      rw (can.here, can.free, place, can.waits, goes_on g past conn position legal can) refl,
 )
+
+pub goes_on_agreed : (g : Settings) (past : List Entry) (conn position : ℕ) → Legal g past → CanGoOn g past conn position → resumption_agreed g past ≡ true
+goes_on_agreed g past conn position legal can = waiting_agreed g past conn legal can.waits can.here

@@ -3,16 +3,16 @@
 //! Each function here does nothing: its clauses are laws of the entries of one end (`one_end`), of
 //! its streams (`streams`), of its resumption (`resumption`), or of two ends whose bytes crossed
 //! (`two_ends`), for sessions without leases. The frames that count are those of streams, and
-//! positions count their bytes (RSocket 1.0, "Resuming Operation"). A frame is one that travels, so each fragment of a
-//! long request or payload is one; a word of a stream is a whole message, in however many
-//! fragments it travels (RSocket 1.0, "Fragmentation and Reassembly").
+//! positions count their bytes (RSocket 1.0, "Resuming Operation"). A frame is one that travels, so
+//! each fragment of a long request or payload is one; a word of a stream is a whole message, in
+//! however many fragments it travels (RSocket 1.0, "Fragmentation and Reassembly").
 //!
 //! The promise to the layers above: what holds here holds of every list of entries that the core
 //! leaves, since each of them is legal, and fair where the caller keeps the conditions of events.
 //! First of all, what an end has handled, over all connections of the session, is a prefix of what
 //! the other made, in order, with nothing lost and nothing twice, however often the session was cut
-//! and resumed; a resumption is accepted exactly where both ends hold what it needs; and no stream carries more items than were granted, or delivers after
-//! its end.
+//! and resumed; a resumption is accepted exactly where both ends hold what it needs; and no stream
+//! carries more items than were granted, or delivers after its end.
 //!
 //! Left out: how the entries come about (the core), and what only time decides, such as that all
 //! that is due comes in the end.

@@ -1,6 +1,7 @@
 //! Laws of resumption at one end (RSocket 1.0, "Resuming Operation"), whatever its peer sends.
 
-ghost use Rattle.std.specs.Prelude.{◌≡◌, ◌≤◌, ◌+◌, ◌-◌, ◌++◌, ◌↔◌, Bool, true, ℕ, List, ◌∷◌, Option, Some};
+ghost use Rattle.std.specs.Prelude.{◌≡◌, ◌≤◌, ◌+◌, ◌-◌, ◌++◌, ◌↔◌};
+ghost use Rattle.std.specs.Prelude.{Bool, true, ℕ, List, ◌∷◌, Option, Some};
 ghost use Rattle.rs_wire.specs.declared.words.Side.TheVariants.{Server};
 ghost use Rattle.rs_wire.specs.declared.fault.Gone.{Gone};
 ghost use Rattle.rs_wire.specs.declared.settings.Settings.{Settings};
@@ -45,12 +46,13 @@ pub fn held_frames_follow_a_boundary()
         Legal g past → IsBoundary (made g past) (told past) }
 {}
 
-/// A server accepts a RESUME exactly where both ends hold what the other has not handled, on a session
-/// that is not closed, for version 1 and the session's token. Such a session is begun, and agreed to
-/// resumption.
+/// A server accepts a RESUME exactly where both ends hold what the other has not handled, on a
+/// session that is not closed, for version 1 and the session's token. Such a session is begun, and
+/// agreed to resumption. No first frame comes to a client, so `accepted` leaves it out.
 pub fn resume_is_accepted_where_both_ends_hold()
     ensures accepted { (g : Settings) (past : List Entry) (r : Resume) (taken : Bool) →
-        g.side ≡ Server → (answer_to g past (event.Open (Some (frame.Resume r)) taken)
+        g.side ≡ Server →
+        (answer_to g past (event.Open (Some (frame.Resume r)) taken)
         ≡ answer.Opened (openings past + 1))
         ↔ CanResume g past r }
     ensures begun { (g : Settings) (past : List Entry) (r : Resume) →
@@ -59,8 +61,8 @@ pub fn resume_is_accepted_where_both_ends_hold()
         g.side ≡ Server → CanResume g past r → resumption_agreed g past ≡ true }
 {}
 
-/// A RESUME that is refused leaves the session as it is: the live connection with all that is due on
-/// it, and whether and why it is closed.
+/// A RESUME that is refused leaves the session as it is: the live connection with all that is due
+/// on it, and whether and why it is closed.
 pub fn a_refused_resume_changes_nothing()
     ensures live { (past : List Entry) (who : ℕ) (f : Option Frame) (taken : Bool) (why : Gone) →
         live (refused_resume who f taken why ∷ past) ≡ live past }
@@ -72,10 +74,13 @@ pub fn a_refused_resume_changes_nothing()
         closed g (refused_resume who f taken why ∷ past) ≡ closed g past }
 {}
 
-/// Where resumption is agreed, a RESUME_OK is handled exactly where the client waits for it on the live connection of a session
-/// that is not closed, and holds what the server has not handled.
+/// A client handles a RESUME_OK exactly where it waits for it on the live connection of a session
+/// that is not closed, has room in its queue, and holds what the server has not handled. Such a
+/// session agreed to resumption.
 pub fn resume_ok_is_handled_where_the_client_holds()
-    ensures { (g : Settings) (past : List Entry) (conn position : ℕ) →
-        resumption_agreed g past ≡ true → (answer_to g past (event.Came conn (frame.ResumeOk position)) ≡ answer.Handled)
+    ensures handled { (g : Settings) (past : List Entry) (conn position : ℕ) → Legal g past →
+        (answer_to g past (event.Came conn (frame.ResumeOk position)) ≡ answer.Handled)
         ↔ CanGoOn g past conn position }
+    ensures agreed { (g : Settings) (past : List Entry) (conn position : ℕ) → Legal g past →
+        CanGoOn g past conn position → resumption_agreed g past ≡ true }
 {}

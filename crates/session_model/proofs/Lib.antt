@@ -1,4 +1,5 @@
 pub mod Meaning
+pub mod Agreed
 pub mod Openings
 pub mod Queue
 pub mod Refusals

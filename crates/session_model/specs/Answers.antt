@@ -61,7 +61,7 @@ pub record Facts : Type 0 where
   pub closed : Option Cause
   pub made : Counted
   pub handled : Counted
-  -- the position from which on frames are held, for which resumption has to be agreed
+  -- the position from which on frames are held, 0 where resumption is not agreed
   pub first : ℕ
   -- a held frame begins or ends at a position
   pub boundary : ℕ → Bool
