@@ -1,17 +1,15 @@
 -- Where resumption is agreed, what is kept, and which positions the peer may tell.
-use Rattle.std.proofs.Common.{◌≡◌, ◌≤◌, ◌+◌, ◌==◌, ◌&&◌, ◌||◌, ltb, ℕ, Bool, true, false, not, cond, max, List, [], ◌∷◌, ◌++◌, Option, Some, None, is_some, IfSome, refl, ap, sym, subst, ◌∙◌, append-nil, arith}
+use Rattle.std.proofs.Common.{◌≡◌, ◌≤◌, ◌==◌, ◌||◌, ltb, ℕ, Bool, true, false, not, cond, List, [], ◌∷◌, ◌++◌, Option, Some, None, IfSome, refl, ap, sym, ◌∙◌, arith}
 use Rattle.std.specs.Cmp.Lexicographic.{pointwise}
 use Rattle.std.proofs.lemmas.Bool.Decides.{nat_tests}
-use Rattle.std.proofs.lemmas.Grind.{common_steps}
 use Rattle.rs_wire.specs.Settings.{is_client}
-use Rattle.rs_wire.specs.declared.words.Side.TheVariants.{Client, Server}
 use Rattle.rs_wire.specs.declared.settings.Settings.{Settings}
 use Rattle.rs_frame.specs.declared.frame.Frame.{Frame}
 use Rattle.rs_frame.specs.declared.frame.Frame.TheVariants as frame
 use Rattle.rs_frame.specs.declared.frame.Resume.{Resume}
 use Rattle.rs_frame.specs.declared.frame.Setup.{Setup}
 use Rattle.rs_frame.specs.Spelling.{length_of}
-use Rattle.position.specs.Boundaries.{pos, pos_by}
+use Rattle.position.specs.Boundaries.{pos}
 use Rattle.position.proofs.Boundaries.{pos-append}
 use Rattle.tape.specs.declared.event.Event.{Event}
 use Rattle.tape.specs.declared.event.Event.TheVariants as event
@@ -19,16 +17,16 @@ use Rattle.tape.specs.declared.answer.Answer.{Answer}
 use Rattle.tape.specs.declared.answer.Answer.TheVariants as answer
 use Rattle.tape.specs.declared.entry.Entry.{Entry}
 use Rattle.session_model.specs.Lists.{first_of}
-use Rattle.session_model.specs.Life.{agrees_resumption, asked_token, begun, carrying, carrying_after, is_opened, live, live_after, resumption_agreed, setup, setup_in, told, told_in}
+use Rattle.session_model.specs.Life.{agrees_resumption, asked_token, begun, is_opened, live, live_after, resumption_agreed, setup, setup_in, told, told_in}
 use Rattle.session_model.specs.Streams.{known}
-use Rattle.session_model.specs.Frames.{first, held_from, if_agreed, kept, made, makes}
+use Rattle.session_model.specs.Frames.{if_agreed, kept, made, makes}
 use Rattle.session_model.specs.Answers.{Facts, facts, gone_with, ok_gone, resume_gone}
-use Rattle.session_model.specs.Legal.{Fair, IsFair, Legal}
+use Rattle.session_model.specs.Legal.{Legal}
 use Rattle.session_model.specs.Means.{Means}
+use Rattle.session_model.proofs.Agreed.{kept_made, resumed_agreed, waiting_agreed}
 use Rattle.session_model.proofs.Meaning.{last_means}
 use Rattle.session_model.proofs.Silent.{silent_before}
 use Rattle.session_core.specs.Kept.{again_from}
-use Rattle.session_core.specs.Queued.{is_connected}
 
 -- ---- the tests of a position, row by row
 
@@ -66,10 +64,10 @@ ok_accepted t position none =
     record { to_end = grind (arith, nat_tests); boundary = grind (arith, nat_tests) }
 
 -- the position from which on frames are sent again is accepted
-pub again_accepted : (g : Settings) (t : Facts) (e : Event) (a : Answer) → Means g t e a → IfSome (again_from a e) (IsAccepted t)
-again_accepted g t (event.Open (Some (frame.Resume r)) taken) (answer.Opened n) m = resume_accepted t r m.suits
-again_accepted g t (event.Came conn (frame.ResumeOk position)) answer.Handled m = ok_accepted t position m.may.1
-again_accepted g t e a m = tt
+pub again_accepted : (g : Settings) (t : Facts) (a : Answer) (e : Event) → Means g t e a → IfSome (again_from a e) (IsAccepted t)
+again_accepted g t (answer.Opened n) (event.Open (Some (frame.Resume r)) taken) m = resume_accepted t r m.suits
+again_accepted g t answer.Handled (event.Came conn (frame.ResumeOk position)) m = ok_accepted t position m.may.1
+again_accepted g t a e m = tt
 
 -- ---- where resumption is agreed
 
@@ -77,69 +75,18 @@ either : (a b : Bool) → (a || b) ≡ false → (a ≡ false) × (b ≡ false)
 either true b is = absurd (cc)
 either false b is = (refl, is)
 
-both : (a b : Bool) → (a && b) ≡ true → (a ≡ true) × (b ≡ true)
-both true b is = (refl, is)
-both false b is = absurd (cc)
-
-token_there : (t : Facts) (r : Resume) (token : Option (List ℕ)) → gone_with t r token ≡ None → is_some token ≡ true
-token_there t r None none = absurd (cc)
-token_there t r (Some x) none = refl
-
--- a server that is resumed agreed to it
-pub resumed_agreed : (g : Settings) (past : List Entry) (r : Resume) → g.side ≡ Server → resume_gone (facts g past) r ≡ None → resumption_agreed g past ≡ true
-unfolding facts
-resumed_agreed g past r side none =
-    let server : is_client g.side ≡ false = ap is_client side in
-    rw server (token_there (facts g past) r (asked_token (setup past)) none)
-
--- and so does a client that resumes
+-- a client that opens again agreed to it
 pub client_agreed : (g : Settings) (past : List Entry) → is_client g.side ≡ true → g.resume ≡ true → resumption_agreed g past ≡ true
 client_agreed g past side resumes = rw side resumes
 
-record Resumes (g : Settings) : Type 0 where
-  client : is_client g.side ≡ true
-  resumes : g.resume ≡ true
-
-waits_step : (g : Settings) (t : Facts) (e : Event) (a : Answer) → Means g t e a → IsFair g e → carrying_after g t.begun a e t.carrying ≡ false → is_connected (live_after a t.live) ≡ true
-    → (t.carrying ≡ false → is_connected t.live ≡ true → Resumes g) → Resumes g
-waits_step g t (event.Open None taken) (answer.Opened n) m fair waits here before =
-    let b = both t.begun (is_client g.side) (grind (arith, nat_tests)) in
-    record { client = b.1; resumes = m.suits b.0 }
-waits_step g t (event.Open (Some f) taken) (answer.Opened n) m fair waits here before =
-    let server : is_client g.side ≡ false = ap is_client fair.0 in
-    let none : (t.begun && is_client g.side) ≡ true = grind (arith, nat_tests) in
-    let b = both t.begun (is_client g.side) none in
-    absurd (cc)
-waits_step g t e (answer.Opened n) m fair waits here before = absurd m
-waits_step g t e answer.Parted m fair waits here before = absurd (cc)
-waits_step g t (event.Came conn (frame.ResumeOk position)) answer.Handled m fair waits here before = absurd (cc)
-waits_step g t e a m fair waits here before = before waits here
-
-waits_resumes : (g : Settings) (past : List Entry) → Legal g past → Fair g past → carrying g past ≡ false → is_connected (live past) ≡ true → Resumes g
-unfolding Legal Fair carrying live facts
-waits_resumes g [] legal fair waits here = absurd (cc)
-waits_resumes g (x ∷ past) legal fair waits here =
-    waits_step g (facts g past) x.event x.answer (last_means g x past legal) fair.1 waits here (waits_resumes g past legal.0 fair.0)
-
--- resumption is agreed where a connection waits for RESUME_OK
-pub waiting_agreed : (g : Settings) (past : List Entry) → Legal g past → Fair g past → carrying g past ≡ false → is_connected (live past) ≡ true → resumption_agreed g past ≡ true
-waiting_agreed g past legal fair waits here = let r = waits_resumes g past legal fair waits here in client_agreed g past r.client r.resumes
-
-is_live_connected : (now conn : ℕ) → ((now == conn) && not (now == 0)) ≡ true → is_connected now ≡ true
-is_live_connected now conn is = (both (now == conn) (not (now == 0)) is).1
-
 -- where frames are sent again, resumption is agreed
-pub again_agreed : (g : Settings) (past : List Entry) (e : Event) (a : Answer) → Legal g past → Fair g past → IsFair g e → Means g (facts g past) e a → IfSome (again_from a e) (λ p. resumption_agreed g past ≡ true)
+pub again_agreed : (g : Settings) (past : List Entry) (a : Answer) (e : Event) → Legal g past → Means g (facts g past) e a → IfSome (again_from a e) (λ p. resumption_agreed g past ≡ true)
 unfolding facts
-again_agreed g past (event.Open (Some (frame.Resume r)) taken) (answer.Opened n) legal fair can m = resumed_agreed g past r can.0 m.suits
-again_agreed g past (event.Came conn (frame.ResumeOk position)) answer.Handled legal fair can m =
-    waiting_agreed g past legal fair m.may.0 (is_live_connected (live past) conn m.here)
-again_agreed g past e a legal fair can m = tt
+again_agreed g past (answer.Opened n) (event.Open (Some (frame.Resume r)) taken) legal m = resumed_agreed g past r legal m.suits
+again_agreed g past answer.Handled (event.Came conn (frame.ResumeOk position)) legal m = waiting_agreed g past conn legal m.may.0 m.here
+again_agreed g past a e legal m = tt
 
 -- ---- what is kept
-
-pub kept_made : (g : Settings) (past : List Entry) → resumption_agreed g past ≡ true → kept g past ≡ made g past
-kept_made g past agreed = ap (λ b. if_agreed b (made g past)) agreed
 
 pub if_none : (b : Bool) → if_agreed b [] ≡ []
 if_none true = refl
@@ -168,37 +115,37 @@ unbegun g (x ∷ past) legal fresh =
     let none = silent_before g (facts g past) x.event x.answer (last_means g x past legal) b.0 before.0 in
     (never_live x.answer (live past) b.1 before.0, ap (λ fs. fs ++ makes g (known g past) x.answer x.event) before.1 ∙ none)
 
-kept_step : (g : Settings) (t : Facts) (e : Event) (a : Answer) (before : Option Setup) (made : List Frame) → Means g t e a → (t.begun ≡ false → made ≡ [])
+kept_step : (g : Settings) (t : Facts) (a : Answer) (e : Event) (before : Option Setup) (made : List Frame) → Means g t e a → (t.begun ≡ false → made ≡ [])
     → if_agreed (agrees_resumption g (first_of before (setup_in a e))) (made ++ makes g t.streams a e)
     ≡ if_agreed (agrees_resumption g before) made ++ if_agreed (agrees_resumption g before) (makes g t.streams a e)
-kept_step g t (event.Open (Some (frame.Setup s)) taken) (answer.Opened n) before made m none =
+kept_step g t (answer.Opened n) (event.Open (Some (frame.Setup s)) taken) before made m none =
     rw (none m.suits.0) (if_none (agrees_resumption g (first_of before (Some s))) ∙ sym (ap (λ fs. fs ++ if_agreed (agrees_resumption g before) []) (if_none (agrees_resumption g before)) ∙ if_none (agrees_resumption g before)))
-kept_step g t e a before made m none =
+kept_step g t a e before made m none =
     ap (λ (o : Option Setup). if_agreed (agrees_resumption g o) (made ++ makes g t.streams a e)) (or_nothing before) ∙ if_more (agrees_resumption g before) made (makes g t.streams a e)
 
 -- what is kept of the frames of one entry more
 pub kept_more : (g : Settings) (x : Entry) (past : List Entry) → Legal g (x ∷ past)
     → kept g (x ∷ past) ≡ kept g past ++ if_agreed (resumption_agreed g past) (makes g (known g past) x.answer x.event)
 unfolding Legal made setup facts
-kept_more g x past legal = kept_step g (facts g past) x.event x.answer (setup past) (made g past) (last_means g x past legal) (λ fresh. (unbegun g past legal.0 fresh).1)
+kept_more g x past legal = kept_step g (facts g past) x.answer x.event (setup past) (made g past) (last_means g x past legal) (λ fresh. (unbegun g past legal.0 fresh).1)
 
 told_within_by : (g : Settings) (past : List Entry) (p : ℕ) → IsAccepted (facts g past) p → resumption_agreed g past ≡ true → p ≤ pos (kept g past)
 unfolding facts
 told_within_by g past p is agreed = rw (kept_made g past agreed) is.to_end
 
-tells_within : (g : Settings) (past : List Entry) (e : Event) (a : Answer) → Legal g past → Fair g past → IsFair g e → Means g (facts g past) e a → told_in a e ≤ pos (kept g past)
-tells_within g past (event.Open (Some (frame.Resume r)) taken) (answer.Opened n) legal fair can m =
-    told_within_by g past r.server_position (resume_accepted (facts g past) r m.suits) (again_agreed g past (event.Open (Some (frame.Resume r)) taken) (answer.Opened n) legal fair can m)
-tells_within g past (event.Came conn (frame.ResumeOk position)) answer.Handled legal fair can m =
-    told_within_by g past position (ok_accepted (facts g past) position m.may.1) (again_agreed g past (event.Came conn (frame.ResumeOk position)) answer.Handled legal fair can m)
-tells_within g past e a legal fair can m = omega arith
+tells_within : (g : Settings) (past : List Entry) (a : Answer) (e : Event) → Legal g past → Means g (facts g past) e a → told_in a e ≤ pos (kept g past)
+tells_within g past (answer.Opened n) (event.Open (Some (frame.Resume r)) taken) legal m =
+    told_within_by g past r.server_position (resume_accepted (facts g past) r m.suits) (again_agreed g past (answer.Opened n) (event.Open (Some (frame.Resume r)) taken) legal m)
+tells_within g past answer.Handled (event.Came conn (frame.ResumeOk position)) legal m =
+    told_within_by g past position (ok_accepted (facts g past) position m.may.1) (again_agreed g past answer.Handled (event.Came conn (frame.ResumeOk position)) legal m)
+tells_within g past a e legal m = omega arith
 
 -- the position told is none past what is kept
-pub told_within : (g : Settings) (past : List Entry) → Legal g past → Fair g past → told past ≤ pos (kept g past)
-unfolding Legal Fair told
-told_within g [] legal fair = omega arith
-told_within g (x ∷ past) legal fair =
+pub told_within : (g : Settings) (past : List Entry) → Legal g past → told past ≤ pos (kept g past)
+unfolding Legal told
+told_within g [] legal = omega arith
+told_within g (x ∷ past) legal =
     let new = if_agreed (resumption_agreed g past) (makes g (known g past) x.answer x.event) in
     let sum = pos-append length_of (kept g past) new in
     let more = ap pos (kept_more g x past legal) in
-    omega (arith, more, sum, told_within g past legal.0 fair.0, tells_within g past x.event x.answer legal.0 fair.0 fair.1 (last_means g x past legal))
+    omega (arith, more, sum, told_within g past legal.0, tells_within g past x.answer x.event legal.0 (last_means g x past legal))

@@ -1,5 +1,5 @@
 -- What is held of the frames made, as a session keeps it.
-use Rattle.std.proofs.Common.{◌≡◌, ◌≤◌, ◌<◌, ◌+◌, ◌-◌, ◌^◌, ◌&&◌, ◌↔◌, leb, ℕ, Bool, true, false, cond, max, List, [], ◌∷◌, ◌++◌, length, map, take, drop, zero, suc, refl, ap, sym, subst, ◌∙◌, arith, length-append, append-assoc, append-nil}
+use Rattle.std.proofs.Common.{◌≡◌, ◌≤◌, ◌<◌, ◌+◌, ◌-◌, ◌^◌, ◌&&◌, ◌↔◌, leb, ℕ, Bool, true, false, cond, max, List, [], ◌∷◌, ◌++◌, length, map, take, drop, zero, suc, refl, ap, sym, subst, ◌∙◌, arith, length-append, append_assoc, append-nil}
 use Rattle.std.specs.Prelude.{get_or}
 use Rattle.std.specs.List.{AllByRecursion}
 use Rattle.std.proofs.lemmas.Bool.{le-leb}
@@ -32,9 +32,9 @@ test_held h p is = rw (le-leb h.first p is.0, test_boundary length h.frames (p -
 
 -- two tests of one fact are one
 same_tests : (b c : Bool) (P : Type 0) → (b ≡ true → P) → (P → b ≡ true) → (c ≡ true → P) → (P → c ≡ true) → b ≡ c
-same_tests true c P to from yes no = sym (no (to refl))
-same_tests false true P to from yes no = from (yes refl)
-same_tests false false P to from yes no = refl
+same_tests true c P to from there back = sym (back (to refl))
+same_tests false true P to from there back = from (there refl)
+same_tests false false P to from there back = refl
 
 pub boundary_is : (b : Bool) (h : Held) (p : ℕ) → (b ≡ true) ↔ IsHeldBoundary h p → b ≡ has_boundary h p
 boundary_is b h p is = same_tests b (has_boundary h p) (IsHeldBoundary h p) is.0 is.1 (held_test h p) (test_held h p)
@@ -117,7 +117,7 @@ one_more old now done frame new kept of_made made told more is low same =
     let before = kept made told front is low l.3 in
     let sum = pos-append length_of made front in
     let after = of_made (made ++ front) told newest before (omega (arith, sum, low)) l.4 in
-    let grouped : (made ++ front) ++ newest ∷ [] ≡ made ++ more = append-assoc made front (newest ∷ []) ∙ ap (λ xs. made ++ xs) (sym l.2) in
+    let grouped : (made ++ front) ++ newest ∷ [] ≡ made ++ more = append_assoc made front (newest ∷ []) ∙ ap (λ xs. made ++ xs) (sym l.2) in
     subst (λ xs. IsHeldOf xs told new) grouped after
 
 pub keeping_more : (old now new : Buffer) (done : List (List ℕ)) (frame : List ℕ) → IsKeeping old now done
@@ -182,3 +182,14 @@ pub keeping_step : (old now new : Buffer) (done : List (List ℕ)) (f bytes : Li
 keeping_step old now new done f bytes same h of_made held end spare =
     subst (λ (x : List ℕ). IsKeeping old new (done ++ x ∷ [])) same
     (keeping_more old now new done bytes h of_made (ap (λ (k : Held). k.hold) held) end (ap (λ (s : Spare). s.frames) spare) (ap (λ (s : Spare). s.bytes) spare))
+
+-- ---- bytes in sum
+
+-- the bytes of one frame more
+pub next_size : (frames : List (List ℕ)) (i size sum : ℕ) (f : List ℕ) → i < length frames → f ≡ get_or frames i f → size ≡ pos_by length (take i frames) → sum ≡ size + length f
+    → sum ≡ pos_by length (take (i + 1) frames)
+unfolding pos_by
+next_size frames i size sum f h is before more =
+    let next = ap (pos_by length) (next_of frames i f h is) in
+    let split = pos-append length (take i frames) (f ∷ []) in
+    omega (arith, next, split, before, more)

@@ -81,4 +81,4 @@ held_where s None is = tt
 held_where s (Some p) is = held_test s.replay.held p is.boundary
 
 pub again_held : (g : Settings) (s : State) (e : Event) (a : Answer) → Means g (facts_of s) e a → IfSome (again_from a e) (IsHeldBoundary s.replay.held)
-again_held g s e a means = held_where s (again_from a e) (again_accepted g (facts_of s) e a means)
+again_held g s e a means = held_where s (again_from a e) (again_accepted g (facts_of s) a e means)

@@ -24,9 +24,9 @@ abbrev pub keeps : Settings → State → Answer → Event → List Frame
 keeps g s a e = if_agreed (agrees_resumption g s.setup) (makes g (known_to s.streams) a e)
 
 -- frames of these bytes can be kept without memory
-pub record FindsSpare (s : Spare) (frames : List (List ℕ)) : Type 0 where
-  pub frames : length frames ≤ s.frames
-  pub bytes : pos_by length frames ≤ s.bytes
+pub record FindsSpare (s : Spare) (spelled : List (List ℕ)) : Type 0 where
+  pub frames : length spelled ≤ s.frames
+  pub bytes : pos_by length spelled ≤ s.bytes
 
 -- a frame has its header, and a length of 24 bits
 abbrev pub HasFrameLength : List ℕ → Type 0

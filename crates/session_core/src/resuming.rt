@@ -12,7 +12,6 @@ use rs_wire::{Blob, Gone};
 use tape::Answer;
 
 // A held frame begins or ends at the position.
-#[tactic(auto, using(crate::proofs::Keeping::boundary_is))]
 fn has_boundary(state: &State, position: u64) -> bool
     ensures { result ≡ has_boundary state.now.replay.held position }
 {

@@ -198,7 +198,7 @@ fn the_frames_that_were_held_are_drawn(rt: HostRuntime) {
             (Step::Draw(2, 5), "Drawn(5)"),
             (Step::Draw(2, 1000), "Drawn(17)"),
         ],
-        &[RESUME, AT_0, AT_8, SECOND, THIRD],
+        &[RESUME, AT_0, AT_0, SECOND, THIRD],
         BEGUN.after(10, 0).on(2).made(3, 24),
     );
 }

@@ -1,4 +1,6 @@
-use Rattle.std.proofs.Common.{take}
+use Rattle.std.proofs.Common.{◌≤◌, ℕ, List, length, subst, take, arith}
+use Rattle.std.proofs.lemmas.List.{take_all}
+use Rattle.session_core.specs.Kept.{KeepsAll}
 use Rattle.session_core.proofs.Keeping.{keeping_none, keeping_step, next_below, next_fits, next_kept, next_long}
 use Rattle.session_core.proofs.kept.keep_all.Goals as goal
 
@@ -29,3 +31,9 @@ loop-frame-preserved c =
     let f = c.frame-item.result in
     next_kept old now new frames i f c.loop-frame-test.true c.frame-item.is
     (keeping_step old now new (take i frames) f _ c.as_slice.ensures c.loop-frame.invariant c.keep.ensures.of_made c.keep.ensures.held c.keep.ensures.end c.keep.ensures.spare)
+
+pub returns-clause-kept : goal.returns-clause-kept
+returns-clause-kept c =
+    let frames = c.args.frames.now in
+    let past : length frames ≤ c.loop-frame.frame-index = omega arith in
+    subst (λ (fs : List (List ℕ)). KeepsAll c.args.replay.now.held fs c.loop-frame.replay.held) (take_all c.loop-frame.frame-index frames past) c.loop-frame.invariant.kept

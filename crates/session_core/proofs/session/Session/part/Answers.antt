@@ -1,11 +1,10 @@
-use Rattle.std.proofs.Common.{◌≡◌, refl, sym, subst, arith}
+use Rattle.std.proofs.Common.{◌≡◌, ◌∙◌, ap, map, sym, subst, arith}
 use Rattle.position.specs.Boundaries.{pos_by}
 use Rattle.tape.specs.declared.event.Event.TheVariants as event
 use Rattle.session_model.specs.Answers.{answer_to}
 use Rattle.session_core.specs.Seen.{Seen}
-use Rattle.session_core.proofs.Standing.{after_cut, of_cut}
-use Rattle.session_model.specs.Life.{agrees_resumption}
-use Rattle.session_core.proofs.Agreeing.{if_none}
+use Rattle.session_core.proofs.Standing.{after_cut, cut_keeps, of_cut}
+use Rattle.rs_frame.specs.Spelling.{canonical}
 use Rattle.session_core.proofs.Soundness.{end_below, sound_more}
 use Rattle.session_core.proofs.session.Session.part.Goals as goal
 
@@ -23,7 +22,9 @@ unfolding pos_by
 act-requires-clause-position g c = rw c.nothing_more-prepared.ensures.made (omega (arith, c.self.invariant.made.position, c.self.invariant.plain.checked.top_position))
 
 pub act-requires-clause-spelled : goal.act-requires-clause-spelled
-act-requires-clause-spelled g c = rw (c.nothing_more-prepared.ensures.spelled, if_none (agrees_resumption c.self.inside.settings c.self.inside.state.setup)) refl
+act-requires-clause-spelled g c =
+    c.nothing_more-prepared.ensures.spelled
+    ∙ ap (map canonical) (sym (cut_keeps c.self.inside.settings c.self.inside.state c.args.conn c.args.answer c.requires.of_cut))
 
 pub act-requires-clause-long : goal.act-requires-clause-long
 act-requires-clause-long g c = rw c.nothing_more-prepared.ensures.spelled tt
