@@ -84,13 +84,13 @@ kept_all h t S = record {
 }
 
 -- of what it accepted or refused, where nothing was drawn
-pub kept_on : (h : Settings) (t : There) (S S' : List Entry) → Legal h S → Goes h S S' → ((d : ℕ) → refused S' d ≡ refused S d) → ((d : ℕ) → drawn S' d ≡ drawn S d) → Keeps h t t S S'
+pub kept_on : (h : Settings) (t : There) (S S' : List Entry) → Legal h S → Goes h S S' → ((d : ℕ) → refused S' d ≡ refused S d) → bytes_down t S' ≡ bytes_down t S → Keeps h t t S S'
 kept_on h There.Nowhere S S' legal goes refusals same = record { gives = record { more = []; frames_are = refl; most = omega arith; gave = refl }; same = refl }
 kept_on h (There.Accepted d) S S' legal goes refusals same =
     let z = goes.sends d in
     record {
-      gives = record { more = z.more; frames_are = z.due_is; most = z.drawn_most; gave = still_given h d S S' z (same d) (drawn_le h S d legal) };
-      same = same d;
+      gives = record { more = z.more; frames_are = z.due_is; most = z.drawn_most; gave = still_given h d S S' z same (drawn_le h S d legal) };
+      same = same;
     }
 kept_on h (There.Refused d n) S S' legal goes refusals same = record {
   gives = record {
@@ -133,7 +133,7 @@ KeepsTo s t r r' t' = Keeps s.server t t' r.server r'.server
 not_nowhere : (a : Answer) (n : ℕ) → there_of a n ≡ There.Nowhere → ⊥
 not_nowhere a n h1 = grind (arith, common_steps)
 
-opened_so : (a : Answer) (n d : ℕ) → there_of a n ≡ There.Accepted d → answer.Opened d ≡ a
+pub opened_so : (a : Answer) (n d : ℕ) → there_of a n ≡ There.Accepted d → answer.Opened d ≡ a
 opened_so a n d h1 = grind (arith, common_steps)
 
 none_offered : (a : Answer) (n d m : ℕ) → there_of a n ≡ There.Refused d m → m ≡ 0
@@ -168,5 +168,5 @@ arrives_keeps s c There.Nowhere t' r legal is at = meets_keeps s c (crossed_up s
 arrives_keeps s c (There.Accepted d) t' r legal is at =
     let h = hears_on s.server d (drawn r.client c) (due s.client r.client c) r.server in
     subst (λ (u : There). KeepsTo s (There.Accepted d) r (hears_up s c d r) u) (sym (there_is c r.link (There.Accepted d) t' is at))
-    (kept_on s.server (There.Accepted d) r.server (hears s.server d (drawn r.client c) (due s.client r.client c) r.server) legal h.goes h.refused_are (λ e. hears_drawn s.server d e (drawn r.client c) (due s.client r.client c) r.server))
+    (kept_on s.server (There.Accepted d) r.server (hears s.server d (drawn r.client c) (due s.client r.client c) r.server) legal h.goes h.refused_are (hears_drawn s.server d d (drawn r.client c) (due s.client r.client c) r.server))
 arrives_keeps s c (There.Refused d n) t' r legal is at = stays s c (There.Refused d n) t' r is at
