@@ -1,4 +1,4 @@
--- A connection that the client alone gives up, and what the server draws on it.
+-- The connection is gone: at both ends, or at the client alone; and what the server draws on it then.
 use Rattle.std.proofs.Common.{◌≡◌, ◌≤◌, ◌<◌, ◌&&◌, ℕ, Bool, true, nat_lt, nat_le, List, Option, Some, None, IfSome, refl, ap, subst, sym, ◌∙◌, arith}
 use Rattle.std.proofs.lemmas.Bool.Decides.{nat_tests}
 use Rattle.rs_wire.specs.declared.words.Side.TheVariants.{Client, Server}
@@ -16,25 +16,57 @@ use Rattle.cable.specs.declared.carrying.Most.{Most}
 use Rattle.cable.specs.declared.hearing.Crossing.{Crossing}
 use Rattle.cable.specs.declared.hearing.Known.{Known}
 use Rattle.cable.specs.declared.hearing.Known.TheVariants as known
-use Rattle.cable.specs.Played.{Draws, Ends, Lates, LatesOn, Link, There, adds, bytes_down, dropped_after, drops, drops_on, with_server}
+use Rattle.cable.specs.Played.{Draws, Ends, Lates, LatesOn, Link, There, adds, bytes_down, dropped_after, drops, drops_on, with_server, cuts, cuts_on, cuts_there}
 use Rattle.cable.specs.Hearing.{Carried}
-use Rattle.cable.specs.Wires.{At, IsLost, Knows, Reaches, WireAt, Wires, dropped_by, sides_of}
-use Rattle.cable.proofs.Followed.{StaysBy, end_on, link_at, server_at}
+use Rattle.cable.specs.Wires.{At, IsLost, Knows, Reaches, Wires, dropped_by, sides_of}
+use Rattle.cable.proofs.Followed.{StaysBy, end_on, link_at, server_at, still_alone}
 use Rattle.cable.proofs.Grows.{drew_where}
 use Rattle.cable.proofs.Lost.{lost_alone, lost_as, no_link}
 use Rattle.cable.proofs.Sending.{drew_elsewhere}
+use Rattle.std.proofs.lemmas.Grind.{common_steps}
+use Rattle.rs_wire.specs.declared.settings.Settings.{Settings}
+
+-- ---- a cut
+
+pub cut_nowhere : (v v0 : Wires) (r : Ends) (o : Option Wire) → v ≡ v0 → v.wire ≡ None → o ≡ None → At v0 r → Reaches (record v { wire = o }) (λ r'. r' ≡ cuts (sides_of v0) r)
+cut_nowhere v v0 r o shown is gone at0 =
+    let k = still_alone v v0 r o shown is gone at0 in
+    record { ends = r; at = k.0; holds = ap (λ (x : Option Link). cuts_on x (sides_of v0) r) (sym k.1) }
+
+cut_openings : (h : Settings) (t : There) (S : List Entry) → openings S ≤ openings (cuts_there h t S)
+unfolding openings
+cut_openings h t S = grind (arith, common_steps)
+
+cut_here : (v : Wires) (r : Ends) (w : Wire) (u' s' : Seen) → (is : v.wire ≡ Some w) → (at : At v r) → Legal u'.settings u'.entries → Fair u'.settings u'.entries → Legal s'.settings s'.entries → Fair s'.settings s'.entries → u' ≡ record v.client { entries = u'.entries; spare = u'.spare } → s' ≡ record v.server { entries = s'.entries; spare = s'.spare }
+    → u'.entries ≡ adds v.client.settings v.client.entries (event.Cut w.client) → s'.entries ≡ cuts_there v.server.settings (link_at v r w is at).there v.server.entries → Reaches (record { client = u'; server = s'; wire = None; dropped = v.dropped }) (λ r'. r' ≡ cuts (sides_of v) r)
+cut_here v r w u' s' is at legal fair slegal sfair same kept now there =
+    let here = link_at v r w is at in
+    record {
+      ends = cuts_on (Some (record { client = w.client; there = here.there })) (sides_of v) r;
+      at = record {
+        client_is = end_on Client v.client u' same legal fair at.client_is;
+        server_is = end_on Server v.server s' kept slegal sfair at.server_is;
+        client = ap (λ (l : List Entry). adds v.client.settings l (event.Cut w.client)) at.client ∙ sym now;
+        server = ap (λ (l : List Entry). cuts_there v.server.settings here.there l) at.server ∙ sym there;
+        wire = refl;
+        dropped = at.dropped;
+        lost = lost_as v.dropped r.server (cuts_there v.server.settings here.there r.server) r.link None (λ d. lost_alone r.server _ r.link d (cut_openings v.server.settings here.there r.server)) at.lost;
+      };
+      holds = ap (λ (o : Option Link). cuts_on o (sides_of v) r) (sym here.up.link);
+    }
+
+pub cut_played : (v v0 : Wires) (r : Ends) (w : Wire) (o : Option Wire) (u' s' : Seen) → v ≡ v0 → o ≡ None → (is : v.wire ≡ Some w) → (at : At v r) → Legal u'.settings u'.entries → Fair u'.settings u'.entries → Legal s'.settings s'.entries → Fair s'.settings s'.entries → u' ≡ record v.client { entries = u'.entries; spare = u'.spare } → s' ≡ record v.server { entries = s'.entries; spare = s'.spare }
+    → u'.entries ≡ adds v.client.settings v.client.entries (event.Cut w.client) → s'.entries ≡ cuts_there v.server.settings (link_at v r w is at).there v.server.entries → Reaches (record { client = u'; server = s'; wire = o; dropped = v.dropped }) (λ r'. r' ≡ cuts (sides_of v0) r)
+cut_played v v0 r w o u' s' shown gone is at legal fair slegal sfair same kept now there =
+    subst (λ (x : Option Wire). Reaches (record { client = u'; server = s'; wire = x; dropped = v.dropped }) (λ r'. r' ≡ cuts (sides_of v0) r)) (sym gone)
+    (subst (λ (x : Wires). Reaches (record { client = u'; server = s'; wire = None; dropped = v.dropped }) (λ r'. r' ≡ cuts (sides_of x) r)) shown (cut_here v r w u' s' is at legal fair slegal sfair same kept now there))
 
 -- ---- drop
 
 pub drop_nowhere : (v v0 : Wires) (r : Ends) (o : Option Wire) → v ≡ v0 → v.wire ≡ None → o ≡ None → At v0 r → Reaches (record v { wire = o }) (λ r'. r' ≡ drops (sides_of v0) r)
 drop_nowhere v v0 r o shown is gone at0 =
-    let at = subst (λ (x : Wires). At x r) (sym shown) at0 in
-    let none : r.link ≡ None = subst (λ (x : Option Wire). WireAt x v r) is at.wire in
-    record {
-      ends = r;
-      at = record { client_is = at.client_is; server_is = at.server_is; client = at.client; server = at.server; wire = subst (λ (x : Option Wire). WireAt x (record v { wire = o }) r) (sym gone) none; dropped = at.dropped; lost = at.lost };
-      holds = ap (λ (x : Option Link). drops_on x (sides_of v0) r) (sym none);
-    }
+    let k = still_alone v v0 r o shown is gone at0 in
+    record { ends = r; at = k.0; holds = ap (λ (x : Option Link). drops_on x (sides_of v0) r) (sym k.1) }
 
 above : (d n : ℕ) → (nat_lt 0 d && nat_le d n) ≡ true → 0 < d
 above d n h1 = grind (arith, nat_tests)

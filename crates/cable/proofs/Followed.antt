@@ -1,44 +1,36 @@
 -- The ends that a cable follows, line by line.
 use Rattle.std.proofs.lemmas.Grind.{common_steps}
-use Rattle.std.proofs.Common.{◌≡◌, ◌≤◌, ◌<◌, ◌+◌, ◌-◌, ◌||◌, inl, inr, ℕ, suc, Bool, true, false, cond, List, [], ◌∷◌, ◌++◌, length, take, Option, Some, None, refl, ap, subst, sym, ◌∙◌, arith, append-nil}
+use Rattle.std.proofs.Common.{◌≡◌, ◌≤◌, ◌+◌, ◌-◌, ◌||◌, ℕ, Bool, false, cond, List, [], ◌∷◌, ◌++◌, length, take, Option, Some, None, refl, ap, subst, sym, ◌∙◌, arith, append-nil}
 use Rattle.rs_wire.specs.declared.words.Side.{Side}
 use Rattle.rs_wire.specs.declared.words.Side.TheVariants.{Client, Server}
 use Rattle.rs_wire.specs.declared.settings.Settings.{Settings}
-use Rattle.rs_wire.specs.Settings.{IsChecked}
 use Rattle.rs_wire.specs.declared.call.Call.{Call}
 use Rattle.rs_wire.specs.declared.call.Call.TheVariants as call
 use Rattle.rs_wire.specs.Calls.{CanBeAsked}
 use Rattle.rs_frame.specs.Framed.{framed_all}
 use Rattle.rs_chunk.specs.Rest.{Rest}
-use Rattle.tape.specs.declared.event.Event.{Event}
 use Rattle.tape.specs.declared.event.Event.TheVariants as event
-use Rattle.tape.specs.declared.answer.Answer.{Answer}
-use Rattle.tape.specs.declared.answer.Answer.TheVariants as answer
 use Rattle.tape.specs.declared.entry.Entry.{Entry}
 use Rattle.tape.specs.Answers.{leaves}
-use Rattle.session_model.specs.Life.{begun, closed, is_live, live, openings}
-use Rattle.session_model.specs.Frames.{came, drawn, due, first_bad, given}
+use Rattle.session_model.specs.Life.{is_live, live, openings}
+use Rattle.session_model.specs.Frames.{drawn, due, given}
 use Rattle.session_model.specs.Legal.{Fair, IsPlain, Legal}
 use Rattle.session_model.specs.Joined.{refused}
-use Rattle.session_model.specs.Answers.{answer_to, facts}
+use Rattle.session_model.specs.Answers.{answer_to}
 use Rattle.session_core.specs.Seen.{Seen}
 use Rattle.session_model.proofs.Queue.{drawn_le}
 use Rattle.session_laws.proofs.Spelled.{due_spelled}
-use Rattle.cable.specs.declared.TheConstants.{MOST_ROUNDS}
 use Rattle.cable.specs.declared.wire.Wire.{Wire}
 use Rattle.cable.specs.declared.carrying.Most.{Most}
-use Rattle.cable.specs.declared.carrying.Most.TheVariants as most
 use Rattle.cable.specs.declared.hearing.Crossing.{Crossing}
-use Rattle.cable.specs.declared.hearing.Known.TheVariants as known
-use Rattle.cable.specs.Played.{CarriesDown, CarriesUp, Downs, Drains, Draws, Ends, Link, OnLink, Round, Sides, There, Ups, adds, answered, arrivals, arrives_up, asks, asks_often, at_most, bytes_down, crossed, cuts, cuts_on, cuts_there, frames_down, gave, hears, hears_down, moved, nothing, opens, with_client, with_server}
+use Rattle.cable.specs.Played.{CarriesDown, CarriesUp, Downs, Draws, Ends, Link, OnLink, Sides, There, Ups, adds, answered, arrivals, arrives_up, asks, at_most, bytes_down, frames_down, gave, hears, hears_down, moved, with_client, with_server}
 use Rattle.cable.specs.Played.{Gives as GivesDown}
 use Rattle.cable.specs.Hearing.{Carried, CrossedTo, Crosses, IsHearer}
 use Rattle.cable_script.specs.Line.{IsSayable}
-use Rattle.cable.specs.Wires.{Arrives, At, ClientAt, Gave, IsAt, IsLost, IsMoved, IsPlainEnd, Keeps, LinkAt, Reaches, ServerAt, WireAt, Wires, sides_of, wire_of}
-use Rattle.cable.proofs.Drawing.{same_trans}
+use Rattle.cable.specs.Wires.{Arrives, At, ClientAt, Gave, IsLost, IsMoved, IsPlainEnd, LinkAt, Reaches, ServerAt, WireAt, Wires, sides_of}
 use Rattle.cable.proofs.Grows.{Goes, Quiet, added_quiet, drew_where, hears_on}
-use Rattle.cable.proofs.Lost.{arrives_dropped, lost_alone, lost_arrives, lost_as, lost_gave, lost_more}
-use Rattle.cable.proofs.Moving.{Gives, Keeps as KeepsDown, arrives_keeps, gives_crosses, grew_or, grew_twice, kept_on, moved_on_link, nothing_fed}
+use Rattle.cable.proofs.Lost.{arrives_dropped, lost_arrives, lost_as, lost_gave, lost_more}
+use Rattle.cable.proofs.Moving.{Gives, Keeps as KeepsDown, arrives_keeps, gives_crosses, grew_or, kept_on, moved_on_link, nothing_fed}
 use Rattle.cable.proofs.Sending.{crosses_quiet, drew_arrivals, hears_drawn, still_given}
 use Rattle.cable.proofs.Wiring.{Sent, fed, knows_quiet, server_more, settings_of}
 
@@ -191,6 +183,23 @@ server_called v v0 r s' side asked shown is at0 legal fair same now =
 pub link_at : (v : Wires) (r : Ends) (w : Wire) → v.wire ≡ Some w → At v r → LinkAt w v r
 link_at v r w is at = subst (λ (o : Option Wire). WireAt o v r) is at.wire
 
+-- a line that looks for a connection finds none, and leaves all as it was
+pub still_alone : (v v0 : Wires) (r : Ends) (o : Option Wire) → v ≡ v0 → v.wire ≡ None → o ≡ None → At v0 r → At (record v { wire = o }) r × (r.link ≡ None)
+still_alone v v0 r o shown is gone at0 =
+    let at = subst (λ (x : Wires). At x r) (sym shown) at0 in
+    let none : r.link ≡ None = subst (λ (x : Option Wire). WireAt x v r) is at.wire in (
+      record {
+        client_is = at.client_is;
+        server_is = at.server_is;
+        client = at.client;
+        server = at.server;
+        wire = subst (λ (x : Option Wire). WireAt x (record v { wire = o }) r) (sym gone) none;
+        dropped = at.dropped;
+        lost = at.lost;
+      },
+      none,
+    )
+
 -- the server before it hears, after the client carried
 pub carried_at : (v : Wires) (r : Ends) (m : Most) (w : Wire) (u' : Seen) (rest : Rest) (some : Bool) → (is : v.wire ≡ Some w) → (at : At v r) → Legal u'.settings u'.entries → Fair u'.settings u'.entries → u' ≡ record v.client { entries = u'.entries; spare = u'.spare } → Carried w.client m v.client u' w.up.rest rest some
     → ServerAt v.client.settings (with_client r u'.entries) (link_at v r w is at).there v.server (fed w rest)
@@ -268,25 +277,15 @@ up_played v v0 r m w w' u' s' rest a b some shown flag is at legal fair slegal s
 
 pub up_nowhere : (v v0 : Wires) (r : Ends) (m : Most) (o : Option Wire) → v ≡ v0 → v.wire ≡ None → o ≡ None → At v0 r → Reaches (record v { wire = o }) (λ r'. Ups (sides_of v0) m r r' × IsMoved false r r')
 up_nowhere v v0 r m o shown is gone at0 =
-    let at = subst (λ (x : Wires). At x r) (sym shown) at0 in
-    let none : r.link ≡ None = subst (λ (o : Option Wire). WireAt o v r) is at.wire in
-    record {
-      ends = r;
-      at = record { client_is = at.client_is; server_is = at.server_is; client = at.client; server = at.server; wire = subst (λ (x : Option Wire). WireAt x (record v { wire = o }) r) (sym gone) none; dropped = at.dropped; lost = at.lost };
-      holds = (subst (λ (o : Option Link). OnLink o r r (λ l. CarriesUp (sides_of v0) m l r r)) (sym none) refl, refl);
-    }
+    let k = still_alone v v0 r o shown is gone at0 in
+    record { ends = r; at = k.0; holds = (subst (λ (x : Option Link). OnLink x r r (λ l. CarriesUp (sides_of v0) m l r r)) (sym k.1) refl, refl) }
 
 -- ---- down
 
 pub down_nowhere : (v v0 : Wires) (r : Ends) (m : Most) (o : Option Wire) → v ≡ v0 → v.wire ≡ None → o ≡ None → At v0 r → Reaches (record v { wire = o }) (λ r'. Downs (sides_of v0) m r r' × IsMoved false r r')
 down_nowhere v v0 r m o shown is gone at0 =
-    let at = subst (λ (x : Wires). At x r) (sym shown) at0 in
-    let none : r.link ≡ None = subst (λ (o : Option Wire). WireAt o v r) is at.wire in
-    record {
-      ends = r;
-      at = record { client_is = at.client_is; server_is = at.server_is; client = at.client; server = at.server; wire = subst (λ (x : Option Wire). WireAt x (record v { wire = o }) r) (sym gone) none; dropped = at.dropped; lost = at.lost };
-      holds = (subst (λ (o : Option Link). OnLink o r r (λ l. CarriesDown (sides_of v0) m l r r)) (sym none) refl, refl);
-    }
+    let k = still_alone v v0 r o shown is gone at0 in
+    record { ends = r; at = k.0; holds = (subst (λ (x : Option Link). OnLink x r r (λ l. CarriesDown (sides_of v0) m l r r)) (sym k.1) refl, refl) }
 
 -- the frames of a connection go on as the server gives
 gave_gives : (h : Settings) (m : Most) (t t' : There) (S S' : List Entry) (piece : List ℕ) → GivesDown h m t t' S S' → take (bytes_down t' S') (framed_all (frames_down h t' S')) ≡ take (bytes_down t S) (framed_all (frames_down h t S)) ++ piece → Gives h t t' S S' piece
@@ -386,134 +385,3 @@ pub down_played : (v v0 : Wires) (r : Ends) (m : Most) (w w' : Wire) (u' s' : Se
     → (k : Gave m v.client.settings r (link_at v r w is at).there v.server s' w w' a) → IsHearer w'.client (bytes_down k.there s'.entries) (frames_down v.server.settings k.there s'.entries) v.client u' x b → Reaches (record { client = u'; server = s'; wire = Some (record w' { down = x }); dropped = v.dropped }) (λ r'. Downs (sides_of v0) m r r' × IsMoved some r r')
 down_played v v0 r m w w' u' s' x a b some shown flag is at legal fair slegal sfair same kept k h =
     subst (λ (y : Wires). DownTo (record { client = u'; server = s'; wire = Some (record w' { down = x }); dropped = v.dropped }) y m r some) shown (subst (λ (y : Bool). DownTo (record { client = u'; server = s'; wire = Some (record w' { down = x }); dropped = v.dropped }) v m r y) (sym flag) (down_here v r m w w' u' s' x a b is at legal fair slegal sfair same kept k h))
-
--- ---- from line to line
-
-pub keeps_none : (v : Wires) → Keeps v v
-keeps_none v = record { client = refl; server = refl }
-
-pub keeps_on : (u v w : Wires) → Keeps u v → Keeps v w → Keeps u w
-keeps_on u v w h k = record { client = same_trans u.client v.client w.client h.client k.client; server = same_trans u.server v.server w.server h.server k.server }
-
-pub sides_kept : (v w : Wires) → Keeps v w → sides_of w ≡ sides_of v
-sides_kept v w k =
-    ap (λ (g : Settings). record { client = g; server = w.server.settings }) (ap (λ (u : Seen). u.settings) k.client) ∙ ap (λ (h : Settings). record { client = v.client.settings; server = h }) (ap (λ (u : Seen). u.settings) k.server)
-
-pub first_holds : (w : Wires) (P Q : Ends → Type 0) → Reaches w (λ r. P r × Q r) → Reaches w P
-first_holds w P Q b = record { ends = b.ends; at = b.at; holds = b.holds.0 }
-
--- ---- a call that is made often
-
--- the calls that are left make of these what all make of those at first
-abbrev pub AreCallsLeft : ℕ → ℕ → Sides → Side → Call → Ends → Ends → Type 0
-AreCallsLeft n i s side c r now = asks_often (n - i) s side c now ≡ asks_often n s side c r
-
-pub often_begins : (n : ℕ) (s : Sides) (side : Side) (c : Call) (v : Wires) (r : Ends) → At v r → Reaches v (AreCallsLeft n 0 s side c r)
-often_begins n s side c v r at =
-    let all : n - 0 ≡ n = omega arith in
-    record { ends = r; at = at; holds = ap (λ (k : ℕ). asks_often k s side c r) all }
-
-asked_once : (n : ℕ) (s : Sides) (side : Side) (c : Call) (r : Ends) → asks_often (suc n) s side c r ≡ asks_often n s side c (asks s side c r)
-unfolding asks_often
-asked_once n s side c r = refl
-
-pub often_on : (n i : ℕ) (s : Sides) (side : Side) (c : Call) (v w : Wires) (r : Ends) → i < n → (b : Reaches v (AreCallsLeft n i s side c r)) → Reaches w (λ r'. r' ≡ asks s side c b.ends) → Reaches w (AreCallsLeft n (i + 1) s side c r)
-often_on n i s side c v w r below b one =
-    let step : n - i ≡ suc (n - (i + 1)) = omega (arith, below) in
-    let more : asks_often (n - i) s side c b.ends ≡ asks_often (n - (i + 1)) s side c (asks s side c b.ends) = ap (λ (k : ℕ). asks_often k s side c b.ends) step ∙ asked_once (n - (i + 1)) s side c b.ends in
-    record { ends = one.ends; at = one.at; holds = ap (asks_often (n - (i + 1)) s side c) one.holds ∙ (sym more ∙ b.holds) }
-
-asked_none : (s : Sides) (side : Side) (c : Call) (r : Ends) → asks_often 0 s side c r ≡ r
-unfolding asks_often
-asked_none s side c r = refl
-
-pub often_ends : (n i : ℕ) (s : Sides) (side : Side) (c : Call) (v : Wires) (r : Ends) → n ≤ i → Reaches v (AreCallsLeft n i s side c r) → Reaches v (λ r'. r' ≡ asks_often n s side c r)
-often_ends n i s side c v r past b =
-    let none : n - i ≡ 0 = omega (arith, past) in
-    record { ends = b.ends; at = b.at; holds = sym (asked_none s side c b.ends) ∙ (ap (λ (k : ℕ). asks_often k s side c b.ends) (sym none) ∙ b.holds) }
-
--- ---- a round, and a drain
-
-pub still_at : (v w : Wires) (Holds : Ends → Ends → Type 0) → IsAt v → ((r : Ends) → At v r → Reaches w (Holds r)) → IsAt w
-still_at v w Holds i h = let b = h i.0 i.1 in (b.ends, b.at)
-
-pub round_played : (s : Sides) (v w : Wires) (r : Ends) (a b : Bool) → Reaches v (λ r'. Ups s most.All r r' × IsMoved a r r') → ((between : Ends) → At v between → Reaches w (λ r'. Downs s most.All between r' × IsMoved b between r')) → Reaches w (λ r'. Round s r r' × IsMoved (a || b) r r')
-round_played s v w r a b up down =
-    let d = down up.ends up.at in
-    record { ends = d.ends; at = d.at; holds = ((up.ends, up.holds.0, d.holds.0), grew_twice a b (moved r) (moved up.ends) (moved d.ends) up.holds.1 d.holds.1) }
-
--- what the rounds that are left make of these, all rounds make of those at first
-abbrev pub IsLeft : ℕ → Sides → Ends → Ends → Type 0
-IsLeft i s r now = (r' : Ends) → Drains (MOST_ROUNDS - i) s now r' → Drains MOST_ROUNDS s r r'
-
-pub drain_begins : (s : Sides) (v : Wires) (r : Ends) → At v r → Reaches v (IsLeft 0 s r)
-drain_begins s v r at = record { ends = r; at = at; holds = λ r' d. d }
-
-drains_more : (n : ℕ) (s : Sides) (r between r' : Ends) → Round s r between → moved r < moved between → Drains n s between r' → Drains (suc n) s r r'
-unfolding Drains
-drains_more n s r between r' round more d = (between, round, inr (λ same. absurd (omega (arith, same, more)), d))
-
-drains_last : (n : ℕ) (s : Sides) (r between : Ends) → Round s r between → moved between ≡ moved r → Drains (suc n) s r between
-unfolding Drains
-drains_last n s r between round same = (between, round, inl (same, refl))
-
-drains_none : (s : Sides) (r : Ends) → Drains 0 s r r
-unfolding Drains
-drains_none s r = refl
-
-pub drain_on : (s : Sides) (v w : Wires) (r : Ends) (i : ℕ) → i < MOST_ROUNDS → Reaches v (IsLeft i s r) → ((now : Ends) → At v now → Reaches w (λ r'. Round s now r' × IsMoved true now r')) → Reaches w (IsLeft (i + 1) s r)
-drain_on s v w r i below b round =
-    let d = round b.ends b.at in
-    let step : suc (MOST_ROUNDS - (i + 1)) ≡ MOST_ROUNDS - i = omega (arith, below) in
-    record { ends = d.ends; at = d.at; holds = λ r' more. b.holds r' (subst (λ (k : ℕ). Drains k s b.ends r') step (drains_more (MOST_ROUNDS - (i + 1)) s b.ends d.ends r' d.holds.0 d.holds.1 more)) }
-
-pub drain_stops : (s : Sides) (v w : Wires) (r : Ends) (i : ℕ) → i < MOST_ROUNDS → Reaches v (IsLeft i s r) → ((now : Ends) → At v now → Reaches w (λ r'. Round s now r' × IsMoved false now r')) → Reaches w (Drains MOST_ROUNDS s r)
-drain_stops s v w r i below b round =
-    let d = round b.ends b.at in
-    let step : suc (MOST_ROUNDS - (i + 1)) ≡ MOST_ROUNDS - i = omega (arith, below) in
-    record { ends = d.ends; at = d.at; holds = b.holds d.ends (subst (λ (k : ℕ). Drains k s b.ends d.ends) step (drains_last (MOST_ROUNDS - (i + 1)) s b.ends d.ends d.holds.0 d.holds.1)) }
-
-pub drain_ends : (s : Sides) (v : Wires) (r : Ends) (i : ℕ) → MOST_ROUNDS ≤ i → Reaches v (IsLeft i s r) → Reaches v (Drains MOST_ROUNDS s r)
-drain_ends s v r i past b =
-    let none : 0 ≡ MOST_ROUNDS - i = omega (arith, past) in
-    record { ends = b.ends; at = b.at; holds = b.holds b.ends (subst (λ (k : ℕ). Drains k s b.ends b.ends) none (drains_none s b.ends)) }
-
--- ---- a cut
-
-pub cut_nowhere : (v v0 : Wires) (r : Ends) (o : Option Wire) → v ≡ v0 → v.wire ≡ None → o ≡ None → At v0 r → Reaches (record v { wire = o }) (λ r'. r' ≡ cuts (sides_of v0) r)
-cut_nowhere v v0 r o shown is gone at0 =
-    let at = subst (λ (x : Wires). At x r) (sym shown) at0 in
-    let none : r.link ≡ None = subst (λ (o : Option Wire). WireAt o v r) is at.wire in
-    record {
-      ends = r;
-      at = record { client_is = at.client_is; server_is = at.server_is; client = at.client; server = at.server; wire = subst (λ (x : Option Wire). WireAt x (record v { wire = o }) r) (sym gone) none; dropped = at.dropped; lost = at.lost };
-      holds = ap (λ (o : Option Link). cuts_on o (sides_of v0) r) (sym none);
-    }
-
-cut_openings : (h : Settings) (t : There) (S : List Entry) → openings S ≤ openings (cuts_there h t S)
-unfolding openings
-cut_openings h t S = grind (arith, common_steps)
-
-cut_here : (v : Wires) (r : Ends) (w : Wire) (u' s' : Seen) → (is : v.wire ≡ Some w) → (at : At v r) → Legal u'.settings u'.entries → Fair u'.settings u'.entries → Legal s'.settings s'.entries → Fair s'.settings s'.entries → u' ≡ record v.client { entries = u'.entries; spare = u'.spare } → s' ≡ record v.server { entries = s'.entries; spare = s'.spare }
-    → u'.entries ≡ adds v.client.settings v.client.entries (event.Cut w.client) → s'.entries ≡ cuts_there v.server.settings (link_at v r w is at).there v.server.entries → Reaches (record { client = u'; server = s'; wire = None; dropped = v.dropped }) (λ r'. r' ≡ cuts (sides_of v) r)
-cut_here v r w u' s' is at legal fair slegal sfair same kept now there =
-    let here = link_at v r w is at in
-    record {
-      ends = cuts_on (Some (record { client = w.client; there = here.there })) (sides_of v) r;
-      at = record {
-        client_is = end_on Client v.client u' same legal fair at.client_is;
-        server_is = end_on Server v.server s' kept slegal sfair at.server_is;
-        client = ap (λ (l : List Entry). adds v.client.settings l (event.Cut w.client)) at.client ∙ sym now;
-        server = ap (λ (l : List Entry). cuts_there v.server.settings here.there l) at.server ∙ sym there;
-        wire = refl;
-        dropped = at.dropped;
-        lost = lost_as v.dropped r.server (cuts_there v.server.settings here.there r.server) r.link None (λ d. lost_alone r.server _ r.link d (cut_openings v.server.settings here.there r.server)) at.lost;
-      };
-      holds = ap (λ (o : Option Link). cuts_on o (sides_of v) r) (sym here.up.link);
-    }
-
-pub cut_played : (v v0 : Wires) (r : Ends) (w : Wire) (o : Option Wire) (u' s' : Seen) → v ≡ v0 → o ≡ None → (is : v.wire ≡ Some w) → (at : At v r) → Legal u'.settings u'.entries → Fair u'.settings u'.entries → Legal s'.settings s'.entries → Fair s'.settings s'.entries → u' ≡ record v.client { entries = u'.entries; spare = u'.spare } → s' ≡ record v.server { entries = s'.entries; spare = s'.spare }
-    → u'.entries ≡ adds v.client.settings v.client.entries (event.Cut w.client) → s'.entries ≡ cuts_there v.server.settings (link_at v r w is at).there v.server.entries → Reaches (record { client = u'; server = s'; wire = o; dropped = v.dropped }) (λ r'. r' ≡ cuts (sides_of v0) r)
-cut_played v v0 r w o u' s' shown gone is at legal fair slegal sfair same kept now there =
-    subst (λ (x : Option Wire). Reaches (record { client = u'; server = s'; wire = x; dropped = v.dropped }) (λ r'. r' ≡ cuts (sides_of v0) r)) (sym gone)
-    (subst (λ (x : Wires). Reaches (record { client = u'; server = s'; wire = None; dropped = v.dropped }) (λ r'. r' ≡ cuts (sides_of x) r)) shown (cut_here v r w u' s' is at legal fair slegal sfair same kept now there))

@@ -1,17 +1,16 @@
 -- What moves, and what crosses to the client, as the server goes on.
 use Rattle.std.proofs.lemmas.Grind.{common_steps}
-use Rattle.std.proofs.Common.{◌≡◌, ◌≤◌, ◌<◌, ◌+◌, ◌||◌, ℕ, Bool, true, false, cond, List, [], ◌∷◌, ◌++◌, length, take, Option, Some, None, refl, ap, subst, sym, ◌∙◌, arith, append-nil}
+use Rattle.std.proofs.Common.{◌≡◌, ◌≤◌, ◌+◌, ◌||◌, ℕ, Bool, true, false, List, [], ◌∷◌, ◌++◌, take, Option, Some, refl, ap, subst, sym, ◌∙◌, arith, append-nil}
 use Rattle.rs_wire.specs.declared.settings.Settings.{Settings}
 use Rattle.rs_frame.specs.declared.frame.Frame.{Frame}
 use Rattle.rs_frame.specs.Framed.{framed_all}
 use Rattle.rs_chunk.specs.Rest.{Rest}
-use Rattle.tape.specs.declared.event.Event.{Event}
 use Rattle.tape.specs.declared.event.Event.TheVariants as event
 use Rattle.tape.specs.declared.answer.Answer.{Answer}
 use Rattle.tape.specs.declared.answer.Answer.TheVariants as answer
 use Rattle.tape.specs.declared.entry.Entry.{Entry}
 use Rattle.session_model.specs.Life.{openings}
-use Rattle.session_model.specs.Frames.{draws, drawn, due, given}
+use Rattle.session_model.specs.Frames.{drawn, due}
 use Rattle.session_model.specs.Answers.{answer_to}
 use Rattle.session_model.specs.Joined.{refused}
 use Rattle.session_model.specs.Legal.{Fair, IsPlain, Legal}
@@ -24,8 +23,7 @@ use Rattle.cable.specs.declared.arrival.Arrival.{Arrival}
 use Rattle.cable.specs.declared.arrival.Arrival.TheVariants as arrival
 use Rattle.cable.specs.Played.{Ends, Link, Sides, There, answered, arrives_up, arrivals, bytes_down, bytes_on, crossed_up, frames_down, hears, hears_if_accepted, hears_up, meets, moved, opened_by, there_of}
 use Rattle.cable.specs.Hearing.{CrossedTo, Grew}
-use Rattle.cable.specs.Wires.{IsMoved}
-use Rattle.cable.proofs.Grows.{Goes, Quiet, Sends, hears_on}
+use Rattle.cable.proofs.Grows.{Goes, hears_on}
 use Rattle.cable.proofs.Opening.{number_is}
 use Rattle.cable.proofs.Sending.{crosses_on, hears_drawn, still_given}
 

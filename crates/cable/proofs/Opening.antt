@@ -19,8 +19,8 @@ use Rattle.cable.specs.declared.arrival.Arrival.{Arrival}
 use Rattle.cable.specs.declared.arrival.Arrival.TheVariants as arrival
 use Rattle.cable.specs.Played.{There, Ends, Link, Sides, answered, crossed_up, hears_if_accepted, link_of, meets, opened_by, opens, pair_of, there_of, unless_linked, with_client, with_link}
 use Rattle.tape.specs.Answers.{leaves}
-use Rattle.cable.proofs.Crosses.{Heard, heard_nothing}
-use Rattle.cable.proofs.Grows.{IsHeard, Same, goes_one, same_step}
+use Rattle.cable.proofs.Crosses.{Heard}
+use Rattle.cable.proofs.Grows.{Same, goes_one, same_step}
 use Rattle.cable.proofs.Pairing.{DownHeard, Linked, LinkedThere, Paired, UpHeard, more_opening, paired_up, quiet_client, same_heard, sends_down, silent_heard}
 
 -- ---- the number of an opening

@@ -40,7 +40,11 @@ impl<T: Tape> Model for Cable<T> {
     ghost Value = { Wires };
 
     ghost view = { λ c. record {
-        client = c.client; server = c.server; wire = c.wire; dropped = c.dropped } };
+      client = c.client;
+      server = c.server;
+      wire = c.wire;
+      dropped = c.dropped;
+    } };
 }
 
 fn any(first: bool, second: bool) -> bool
@@ -53,7 +57,11 @@ impl<T: Tape> Cable<T> {
     /// Two ends that no connection joins.
     pub fn new(client: Session<T>, server: Session<T>) -> Cable<T>
         ensures { result ≡ record {
-            client = client; server = server; wire = None; dropped = None } }
+          client = client;
+          server = server;
+          wire = None;
+          dropped = None;
+        } }
     {
         Cable {
             client,

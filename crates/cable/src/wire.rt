@@ -125,10 +125,7 @@ pub(crate) fn give<T: Tape>(
 }
 
 /// The server cuts a connection that it accepted and that is live.
-pub(crate) fn cut_there<T: Tape>(
-    server: &mut Session<T>,
-    wire: &Wire,
-) -> Result<(), OutOfMemory>
+pub(crate) fn cut_there<T: Tape>(server: &mut Session<T>, wire: &Wire) -> Result<(), OutOfMemory>
     requires at { IsServerAt server.old wire.now }
     ensures server { server.new ≡
         record server.old { entries = server.new.entries; spare = server.new.spare } }

@@ -1,6 +1,7 @@
-use Rattle.std.proofs.Common.{◌≡◌, ◌∙◌, sym, subst}
+use Rattle.std.proofs.Common.{◌∙◌, sym, subst}
 use Rattle.cable.specs.Wires.{At, IsAt, Wires}
-use Rattle.cable.proofs.Followed.{cut_nowhere, cut_played, link_at}
+use Rattle.cable.proofs.Followed.{link_at}
+use Rattle.cable.proofs.Dropping.{cut_nowhere, cut_played}
 use Rattle.cable.proofs.cable.Cable.cut.Goals as goal
 
 pub cut_there-requires : goal.cut_there-requires

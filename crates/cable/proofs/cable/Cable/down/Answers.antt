@@ -1,4 +1,4 @@
-use Rattle.std.proofs.Common.{◌≡◌, ◌∙◌, sym, subst}
+use Rattle.std.proofs.Common.{◌∙◌, sym, subst}
 use Rattle.cable.specs.Played.{bytes_down, frames_down}
 use Rattle.cable.specs.Wires.{At, IsAt, Wires}
 use Rattle.cable.proofs.Followed.{down_nowhere, down_played, gave_crosses, link_at}

@@ -4,7 +4,7 @@ use Rattle.cable_script.specs.declared.line.Line.{Line}
 use Rattle.cable.specs.declared.carrying.Most.TheVariants as most
 use Rattle.cable.specs.Played.{Downs, Lates, PlaysLine, Ups, an_item, asks_often}
 use Rattle.cable.specs.Wires.{Reaches, sides_of}
-use Rattle.cable.proofs.Followed.{first_holds}
+use Rattle.cable.proofs.Rounds.{first_holds}
 use Rattle.cable.proofs.cable.Cable.line.Goals as goal
 
 pub returns-in_ok-up-in-Up-clause-played : goal.returns-in_ok-up-in-Up-clause-played

@@ -1,7 +1,7 @@
 use Rattle.std.proofs.Common.{◌≡◌, arith, subst}
 use Rattle.cable.specs.Played.{Sides, asks}
 use Rattle.cable.specs.Wires.{Reaches, sides_of}
-use Rattle.cable.proofs.Followed.{keeps_none, keeps_on, often_begins, often_ends, often_on, sides_kept, still_at}
+use Rattle.cable.proofs.Rounds.{keeps_none, keeps_on, often_begins, often_ends, often_on, sides_kept, still_at}
 use Rattle.cable.proofs.cable.Cable.often.Goals as goal
 
 pub loop-init : goal.loop-init

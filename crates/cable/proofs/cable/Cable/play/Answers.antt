@@ -2,7 +2,7 @@ use Rattle.std.proofs.Common.{◌≡◌, ◌==◌, ◌∙◌, OnOk, length, true
 use Rattle.std.proofs.lemmas.Bool.Decides.{nat_tests}
 use Rattle.cable.specs.Played.{Ends, PlaysLines, Sides, begins, nothing}
 use Rattle.cable.specs.Wires.{Reaches, sides_of}
-use Rattle.cable.proofs.Followed.{sides_kept}
+use Rattle.cable.proofs.Rounds.{sides_kept}
 use Rattle.cable.proofs.Playing.{begins_opened, played_none}
 use Rattle.cable.proofs.cable.Cable.play.Goals as goal
 

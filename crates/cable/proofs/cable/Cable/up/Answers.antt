@@ -1,4 +1,4 @@
-use Rattle.std.proofs.Common.{◌≡◌, ◌∙◌, sym, subst}
+use Rattle.std.proofs.Common.{◌∙◌, sym, subst}
 use Rattle.cable.specs.Wires.{At, IsAt, Wires}
 use Rattle.cable.proofs.Followed.{carried_at, link_at, up_nowhere, up_played}
 use Rattle.cable.proofs.cable.Cable.up.Goals as goal
