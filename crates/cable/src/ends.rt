@@ -18,7 +18,7 @@ pub fn settings_of(alloc: Global, script: &Script, side: Side) -> Result<Checked
 {
     let mut settings = Settings::usual(alloc, side)?;
     for line in script.settings() {
-        line.apply(side, &mut settings);
+        line.apply(alloc, side, &mut settings)?;
     }
     match check(settings) {
         Ok(settings) => Ok(settings),

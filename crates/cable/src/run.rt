@@ -26,8 +26,8 @@ pub struct Ran<T: Tape> {
     pub want: bool,
 }
 
-/// Runs a script between a client and a server of which nothing happened yet, both without resumption,
-/// leases and fragments. The client opens the connection before the first line; every caller is
+/// Runs a script between a client and a server of which nothing happened yet, both without
+/// leases. The client opens the connection before the first line; every caller is
 /// number 0.
 ///
 /// Where `want` is false, the script was played to its end.

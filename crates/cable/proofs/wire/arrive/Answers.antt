@@ -4,7 +4,7 @@ use Rattle.cable.specs.Played.{There}
 use Rattle.cable.specs.Wires.{Arrives, ServerAt}
 use Rattle.cable.proofs.Results.{if_ok}
 use Rattle.cable.proofs.Wiring.{accepted_crosses, arrives_heard, arrives_refused, is_nowhere}
-use Rattle.cable.proofs.cable.arrive.Goals as goal
+use Rattle.cable.proofs.wire.arrive.Goals as goal
 
 pub greet-requires-clause-at : goal.greet-requires-clause-at
 greet-requires-clause-at g c =

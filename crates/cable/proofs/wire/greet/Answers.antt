@@ -1,6 +1,6 @@
 use Rattle.session_model.specs.Frames.{drawn, due}
 use Rattle.cable.proofs.Wiring.{greets_heard, greets_nothing, greets_refused, met_accepted, nears_of}
-use Rattle.cable.proofs.cable.greet.Goals as goal
+use Rattle.cable.proofs.wire.greet.Goals as goal
 
 pub hear-requires : goal.hear-requires
 hear-requires g c =

@@ -3,7 +3,7 @@ use Rattle.cable.specs.declared.hearing.Known.{Known}
 use Rattle.cable.specs.Wires.{Gave}
 use Rattle.cable.proofs.Results.{if_ok}
 use Rattle.cable.proofs.Wiring.{accepted_number, gave_draws, gave_nothing, gave_refusal, left_within}
-use Rattle.cable.proofs.cable.give.Goals as goal
+use Rattle.cable.proofs.wire.give.Goals as goal
 
 pub carry-requires-clause-number : goal.carry-requires-clause-number
 carry-requires-clause-number g c =
