@@ -1,5 +1,5 @@
 -- What is held of the frames made, as a session keeps it.
-use Rattle.std.proofs.Common.{◌≡◌, ◌≤◌, ◌<◌, ◌+◌, ◌-◌, ◌^◌, ◌&&◌, ◌↔◌, leb, ℕ, Bool, true, false, cond, max, List, [], ◌∷◌, ◌++◌, length, map, take, drop, zero, suc, refl, ap, sym, subst, ◌∙◌, arith, length-append, append_assoc, append-nil}
+use Rattle.std.proofs.Common.{◌≡◌, ◌≤◌, ◌<◌, ◌+◌, ◌-◌, ◌^◌, ◌&&◌, ◌↔◌, leb, ℕ, Bool, true, false, List, [], ◌∷◌, ◌++◌, length, map, take, drop, zero, suc, refl, ap, sym, subst, ◌∙◌, arith, length-append, append_assoc, append-nil}
 use Rattle.std.specs.Prelude.{get_or}
 use Rattle.std.specs.List.{AllByRecursion}
 use Rattle.std.proofs.lemmas.Bool.{le-leb}
@@ -8,7 +8,7 @@ use Rattle.std.proofs.lemmas.List.{length-take, take-append-drop}
 use Rattle.std.proofs.lemmas.Bool.Decides.{nat_tests}
 use Rattle.rs_frame.specs.declared.frame.Frame.{Frame}
 use Rattle.rs_frame.specs.Spelling.{IsSpellable, canonical, length_of}
-use Rattle.position.specs.Boundaries.{is_boundary, is_boundary_by, pos, pos_by, IsBoundary}
+use Rattle.position.specs.Boundaries.{is_boundary, is_boundary_by, pos, pos_by}
 use Rattle.position.proofs.Boundaries.{pos-append}
 use Rattle.position.proofs.Held.{boundary_test, test_boundary}
 use Rattle.replay_buffer.specs.Held.{Buffer, HasSpare, Held, IsHeldBoundary, IsHeldOf, Spare, end_of, from_least, spare_after, with_newest}

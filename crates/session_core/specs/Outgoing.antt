@@ -1,5 +1,5 @@
 -- The frames of a call that is accepted.
-use Rattle.std.specs.Prelude.{◌≡◌, ℕ, false, List, [], Option, None, if◌then◌else◌, ◌∷◌, Some, IfSome}
+use Rattle.std.specs.Prelude.{◌≡◌, ℕ, false, List, [], Option, None, if◌then◌else◌, ◌∷◌, Some}
 use Rattle.rs_wire.specs.Words.{gone_word, rule_word}
 use Rattle.rs_wire.specs.declared.call.Call.TheVariants as call
 use Rattle.rs_wire.specs.declared.settings.Settings.{Settings}
