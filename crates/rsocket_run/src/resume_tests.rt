@@ -145,7 +145,7 @@ server job: job 1 fnf 100
 ",
     },
     Script {
-        shows: "what the server draws late finds the connection gone once the session resumed on another",
+        shows: "what the server draws late is in vain once the session resumed on another",
         script: "\
 resume tok1
 up 1000
@@ -166,7 +166,7 @@ server draw 1: stale 2
 ",
     },
     Script {
-        shows: "a server that could not hold what it made refuses, and draws on where the client is gone",
+        shows: "a server that could not hold all that it made refuses, and draws on late",
         script: "\
 resume tok1
 set hold 4
@@ -262,8 +262,8 @@ fn each_script_has_its_report(rt: HostRuntime) -> Result<(), Fail> {
     Ok(())
 }
 
-/// The report where the SETUP was lost, which has 77 bytes with its length: the server knows nothing
-/// of the session.
+/// The report where the SETUP was lost, which has 77 bytes with its length: the server knows
+/// nothing of the session.
 const NO_SETUP_CAME: &str = "\
 client made 1 8 handled 0 0
 server made 0 0 handled 0 0
@@ -394,8 +394,8 @@ client made 3 25 handled 202 301213
 server made 202 301213 handled 3 25
 ";
 
-/// Whether all comes where the connection is lost twice: within the SETUP's requests, and once so many
-/// bytes of the answers came.
+/// Whether all comes where the connection is lost twice: within the first requests, and once so
+/// many bytes of the answers came.
 fn comes_whole(alloc: Global, crossed: u32) -> Result<bool, Fail> {
     let script = format!(in alloc;
         "\
