@@ -1,43 +1,36 @@
 -- The ends that a cable follows, line by line.
 use Rattle.std.proofs.lemmas.Grind.{common_steps}
-use Rattle.std.proofs.Common.{◌≡◌, ◌≤◌, ◌<◌, ◌+◌, ◌-◌, ◌||◌, inl, inr, ℕ, suc, Bool, true, false, cond, List, [], ◌∷◌, ◌++◌, length, take, Option, Some, None, refl, ap, subst, sym, ◌∙◌, arith, append-nil}
+use Rattle.std.proofs.Common.{◌≡◌, ◌≤◌, ◌+◌, ◌-◌, ◌||◌, ℕ, Bool, false, cond, List, [], ◌∷◌, ◌++◌, length, take, Option, Some, None, refl, ap, subst, sym, ◌∙◌, arith, append-nil}
 use Rattle.rs_wire.specs.declared.words.Side.{Side}
 use Rattle.rs_wire.specs.declared.words.Side.TheVariants.{Client, Server}
 use Rattle.rs_wire.specs.declared.settings.Settings.{Settings}
-use Rattle.rs_wire.specs.Settings.{IsChecked}
 use Rattle.rs_wire.specs.declared.call.Call.{Call}
 use Rattle.rs_wire.specs.declared.call.Call.TheVariants as call
 use Rattle.rs_wire.specs.Calls.{CanBeAsked}
 use Rattle.rs_frame.specs.Framed.{framed_all}
 use Rattle.rs_chunk.specs.Rest.{Rest}
-use Rattle.tape.specs.declared.event.Event.{Event}
 use Rattle.tape.specs.declared.event.Event.TheVariants as event
-use Rattle.tape.specs.declared.answer.Answer.{Answer}
-use Rattle.tape.specs.declared.answer.Answer.TheVariants as answer
 use Rattle.tape.specs.declared.entry.Entry.{Entry}
 use Rattle.tape.specs.Answers.{leaves}
-use Rattle.session_model.specs.Life.{begun, closed, is_live, live, openings}
-use Rattle.session_model.specs.Frames.{came, drawn, due, first_bad, given}
+use Rattle.session_model.specs.Life.{is_live, live, openings}
+use Rattle.session_model.specs.Frames.{drawn, due, given}
 use Rattle.session_model.specs.Legal.{Fair, IsPlain, Legal}
 use Rattle.session_model.specs.Joined.{refused}
-use Rattle.session_model.specs.Answers.{answer_to, facts}
+use Rattle.session_model.specs.Answers.{answer_to}
 use Rattle.session_core.specs.Seen.{Seen}
 use Rattle.session_model.proofs.Queue.{drawn_le}
 use Rattle.session_laws.proofs.Spelled.{due_spelled}
-use Rattle.cable.specs.declared.TheConstants.{MOST_ROUNDS}
-use Rattle.cable.specs.declared.cable.Wire.{Wire}
+use Rattle.cable.specs.declared.wire.Wire.{Wire}
 use Rattle.cable.specs.declared.carrying.Most.{Most}
-use Rattle.cable.specs.declared.carrying.Most.TheVariants as most
 use Rattle.cable.specs.declared.hearing.Crossing.{Crossing}
-use Rattle.cable.specs.declared.hearing.Known.TheVariants as known
-use Rattle.cable.specs.Played.{CarriesDown, CarriesUp, Downs, Drains, Draws, Ends, Link, OnLink, Round, Sides, There, Ups, adds, answered, arrivals, arrives_up, asks, asks_often, at_most, bytes_down, crossed, cuts, cuts_on, cuts_there, frames_down, gave, hears, hears_down, moved, nothing, opens, with_client, with_server}
+use Rattle.cable.specs.Played.{CarriesDown, CarriesUp, Downs, Draws, Ends, Link, OnLink, Sides, There, Ups, adds, answered, arrivals, arrives_up, asks, at_most, bytes_down, frames_down, gave, hears, hears_down, moved, with_client, with_server}
 use Rattle.cable.specs.Played.{Gives as GivesDown}
 use Rattle.cable.specs.Hearing.{Carried, CrossedTo, Crosses, IsHearer}
-use Rattle.cable.specs.Line.{IsSayable}
-use Rattle.cable.specs.Wires.{Arrives, At, ClientAt, Gave, IsAt, IsMoved, IsPlainEnd, Keeps, LinkAt, Reaches, ServerAt, WireAt, Wires, sides_of, wire_of}
-use Rattle.cable.proofs.Drawing.{same_trans}
+use Rattle.cable_script.specs.Line.{IsSayable}
+use Rattle.cable.specs.Wires.{Arrives, At, ClientAt, Gave, IsLost, IsMoved, IsPlainEnd, LinkAt, Reaches, ServerAt, WireAt, Wires, sides_of}
 use Rattle.cable.proofs.Grows.{Goes, Quiet, added_quiet, drew_where, hears_on}
-use Rattle.cable.proofs.Moving.{Gives, Keeps as KeepsDown, arrives_keeps, gives_crosses, grew_or, grew_twice, kept_on, moved_on_link, nothing_fed}
+use Rattle.cable.proofs.Lost.{arrives_dropped, lost_arrives, lost_as, lost_gave, lost_more}
+use Rattle.cable.proofs.Moving.{Gives, Keeps as KeepsDown, arrives_keeps, gives_crosses, grew_or, kept_on, moved_on_link, nothing_fed}
 use Rattle.cable.proofs.Sending.{crosses_quiet, drew_arrivals, hears_drawn, still_given}
 use Rattle.cable.proofs.Wiring.{Sent, fed, knows_quiet, server_more, settings_of}
 
@@ -52,10 +45,10 @@ end_on side v v' same legal fair h = record {
 }
 
 -- under the settings from before
-legal_there : (side : Side) (v v' : Seen) → v' ≡ record v { entries = v'.entries; spare = v'.spare } → IsPlainEnd side v' → Legal v.settings v'.entries
+pub legal_there : (side : Side) (v v' : Seen) → v' ≡ record v { entries = v'.entries; spare = v'.spare } → IsPlainEnd side v' → Legal v.settings v'.entries
 legal_there side v v' same h = subst (λ (g : Settings). Legal g v'.entries) (settings_of v v' same) h.legal
 
-fair_there : (side : Side) (v v' : Seen) → v' ≡ record v { entries = v'.entries; spare = v'.spare } → IsPlainEnd side v' → Fair v.settings v'.entries
+pub fair_there : (side : Side) (v v' : Seen) → v' ≡ record v { entries = v'.entries; spare = v'.spare } → IsPlainEnd side v' → Fair v.settings v'.entries
 fair_there side v v' same h = subst (λ (g : Settings). Fair g v'.entries) (settings_of v v' same) h.fair
 
 -- what is due at the client went on, and it gave this piece
@@ -91,13 +84,27 @@ client_wire None v r u' same client before after q h = h
 client_wire (Some w) v r u' same client before after q h = client_link v r w u' same client before after q h
 
 client_at : (v : Wires) (r : Ends) (u' : Seen) → At v r → IsPlainEnd Client u' → u' ≡ record v.client { entries = u'.entries; spare = u'.spare } → StandsBy v.client.settings v.client.entries u'.entries → At (record v { client = u' }) (with_client r u'.entries)
-client_at v r u' at after same q = record { client_is = after; server_is = at.server_is; client = refl; server = at.server; wire = client_wire v.wire v r u' same at.client at.client_is after q at.wire }
+client_at v r u' at after same q = record { client_is = after; server_is = at.server_is; client = refl; server = at.server; wire = client_wire v.wire v r u' same at.client at.client_is after q at.wire; dropped = at.dropped; lost = at.lost }
 
-server_link : (v : Wires) (r : Ends) (w : Wire) (s' : Seen) → s' ≡ record v.server { entries = s'.entries; spare = s'.spare } → IsPlainEnd Server v.server → IsPlainEnd Server s' → StandsBy v.server.settings v.server.entries s'.entries → LinkAt w v r → LinkAt w (record v { server = s' }) (with_server r s'.entries)
+-- nothing comes at the server, and it gives nothing on the connection that joins the ends
+pub record StaysBy (r : Ends) (v s' : Seen) : Type 0 where
+  pub quiet : Quiet v.entries s'.entries
+  pub goes : Goes v.settings v.entries s'.entries
+  pub still : (c : ℕ) (t : There) → r.link ≡ Some (record { client = c; there = t }) → bytes_down t s'.entries ≡ bytes_down t v.entries
+
+bytes_still : (t : There) (S S' : List Entry) → ((c : ℕ) → drawn S' c ≡ drawn S c) → bytes_down t S' ≡ bytes_down t S
+bytes_still There.Nowhere S S' same = refl
+bytes_still (There.Accepted d) S S' same = same d
+bytes_still (There.Refused d n) S S' same = refl
+
+stays_by : (r : Ends) (v s' : Seen) → StandsBy v.settings v.entries s'.entries → StaysBy r v s'
+stays_by r v s' q = record { quiet = q.quiet; goes = q.goes; still = λ c t is. bytes_still t v.entries s'.entries q.drawn_are }
+
+server_link : (v : Wires) (r : Ends) (w : Wire) (s' : Seen) → s' ≡ record v.server { entries = s'.entries; spare = s'.spare } → IsPlainEnd Server v.server → IsPlainEnd Server s' → StaysBy r v.server s' → LinkAt w v r → LinkAt w (record v { server = s' }) (with_server r s'.entries)
 server_link v r w s' same before after q h =
     let k = v.server.settings in
     let ks : s'.settings ≡ k = settings_of v.server s' same in
-    let kept = kept_on k h.there v.server.entries s'.entries before.legal q.goes q.quiet.refused_are q.drawn_are in
+    let kept = kept_on k h.there v.server.entries s'.entries before.legal q.goes q.quiet.refused_are (q.still w.client h.there h.up.link) in
     record {
       there = h.there;
       up = record { server = refl; link = h.up.link; number = h.up.number; knows = knows_quiet h.there w.known (drawn r.client w.client) (due v.client.settings r.client w.client) v.server s' w.up ks q.quiet h.up.knows };
@@ -105,12 +112,22 @@ server_link v r w s' same before after q h =
           (gives_crosses v.client.settings k w.client h.there h.there v.client.entries v.server.entries s'.entries w.down.rest w.down.rest w.down.over [] before.plain (legal_there Server v.server s' same after) (fair_there Server v.server s' same after) kept.gives (nothing_fed w.down.rest) h.down);
     }
 
-server_wire : (o : Option Wire) (v : Wires) (r : Ends) (s' : Seen) → s' ≡ record v.server { entries = s'.entries; spare = s'.spare } → IsPlainEnd Server v.server → IsPlainEnd Server s' → StandsBy v.server.settings v.server.entries s'.entries → WireAt o v r → WireAt o (record v { server = s' }) (with_server r s'.entries)
+server_wire : (o : Option Wire) (v : Wires) (r : Ends) (s' : Seen) → s' ≡ record v.server { entries = s'.entries; spare = s'.spare } → IsPlainEnd Server v.server → IsPlainEnd Server s' → StaysBy r v.server s' → WireAt o v r → WireAt o (record v { server = s' }) (with_server r s'.entries)
 server_wire None v r s' same before after q h = h
 server_wire (Some w) v r s' same before after q h = server_link v r w s' same before after q h
 
-server_at : (v : Wires) (r : Ends) (s' : Seen) → At v r → IsPlainEnd Server s' → s' ≡ record v.server { entries = s'.entries; spare = s'.spare } → StandsBy v.server.settings v.server.entries s'.entries → At (record v { server = s' }) (with_server r s'.entries)
-server_at v r s' at after same q = record { client_is = at.client_is; server_is = after; client = at.client; server = refl; wire = server_wire v.wire v r s' same at.server_is after q at.wire }
+pub server_at : (v : Wires) (r : Ends) (s' : Seen) → At v r → IsPlainEnd Server s' → s' ≡ record v.server { entries = s'.entries; spare = s'.spare } → StaysBy r v.server s' → At (record v { server = s' }) (with_server r s'.entries)
+server_at v r s' at after same q =
+    let most : openings r.server ≤ openings s'.entries = omega (arith, q.quiet.openings_are, ap openings at.server) in
+    record {
+      client_is = at.client_is;
+      server_is = after;
+      client = at.client;
+      server = refl;
+      wire = server_wire v.wire v r s' same at.server_is after q at.wire;
+      dropped = at.dropped;
+      lost = lost_as v.dropped r.server s'.entries r.link r.link (λ d. lost_more r.server s'.entries r.link d most) at.lost;
+    }
 
 -- ---- a call
 
@@ -157,7 +174,7 @@ server_called v v0 r s' side asked shown is at0 legal fair same now =
     (subst (λ (y : Side). Reaches (record v { server = s' }) (λ r'. r' ≡ asks (sides_of v) y asked r)) (sym is)
     (record {
       ends = with_server r s'.entries;
-      at = server_at v r s' at (end_on Server v.server s' same legal fair at.server_is) same (asked_by v.server s' asked now);
+      at = server_at v r s' at (end_on Server v.server s' same legal fair at.server_is) same (stays_by r v.server s' (asked_by v.server s' asked now));
       holds = ap (with_server r) (now ∙ ap (λ (l : List Entry). adds v.server.settings l (event.Asked asked)) (sym at.server));
     }))
 
@@ -165,6 +182,23 @@ server_called v v0 r s' side asked shown is at0 legal fair same now =
 
 pub link_at : (v : Wires) (r : Ends) (w : Wire) → v.wire ≡ Some w → At v r → LinkAt w v r
 link_at v r w is at = subst (λ (o : Option Wire). WireAt o v r) is at.wire
+
+-- a line that looks for a connection finds none, and leaves all as it was
+pub still_alone : (v v0 : Wires) (r : Ends) (o : Option Wire) → v ≡ v0 → v.wire ≡ None → o ≡ None → At v0 r → At (record v { wire = o }) r × (r.link ≡ None)
+still_alone v v0 r o shown is gone at0 =
+    let at = subst (λ (x : Wires). At x r) (sym shown) at0 in
+    let none : r.link ≡ None = subst (λ (x : Option Wire). WireAt x v r) is at.wire in (
+      record {
+        client_is = at.client_is;
+        server_is = at.server_is;
+        client = at.client;
+        server = at.server;
+        wire = subst (λ (x : Option Wire). WireAt x (record v { wire = o }) r) (sym gone) none;
+        dropped = at.dropped;
+        lost = at.lost;
+      },
+      none,
+    )
 
 -- the server before it hears, after the client carried
 pub carried_at : (v : Wires) (r : Ends) (m : Most) (w : Wire) (u' : Seen) (rest : Rest) (some : Bool) → (is : v.wire ≡ Some w) → (at : At v r) → Legal u'.settings u'.entries → Fair u'.settings u'.entries → u' ≡ record v.client { entries = u'.entries; spare = u'.spare } → Carried w.client m v.client u' w.up.rest rest some
@@ -181,7 +215,7 @@ arrives_client : (s : Sides) (c : ℕ) (t : There) (r : Ends) → (arrives_up s 
 arrives_client s c t r = grind (arith, common_steps)
 
 up_here : (v : Wires) (r : Ends) (m : Most) (w w' : Wire) (u' s' : Seen) (rest : Rest) (a b : Bool) → (is : v.wire ≡ Some w) → (at : At v r) → Legal u'.settings u'.entries → Fair u'.settings u'.entries → Legal s'.settings s'.entries → Fair s'.settings s'.entries → u' ≡ record v.client { entries = u'.entries; spare = u'.spare } → s' ≡ record v.server { entries = s'.entries; spare = s'.spare }
-    → Carried w.client m v.client u' w.up.rest rest a → Arrives v.client.settings (with_client r u'.entries) (link_at v r w is at).there v.server s' (fed w rest) w' b → Reaches (record { client = u'; server = s'; wire = Some w' }) (λ r'. Ups (sides_of v) m r r' × IsMoved (a || b) r r')
+    → Carried w.client m v.client u' w.up.rest rest a → Arrives v.client.settings (with_client r u'.entries) (link_at v r w is at).there v.server s' (fed w rest) w' b → Reaches (record { client = u'; server = s'; wire = Some w'; dropped = v.dropped }) (λ r'. Ups (sides_of v) m r r' × IsMoved (a || b) r r')
 up_here v r m w w' u' s' rest a b is at legal fair slegal sfair same kept k h =
     let here = link_at v r w is at in
     let s = sides_of v in
@@ -223,6 +257,8 @@ up_here v r m w w' u' s' rest a b is at legal fair slegal sfair same kept k h =
           up = subst (λ (g : Settings). ServerAt g r' h.there s' w') (sym gs) h.at;
           down = subst (λ (n : ℕ). ClientAt n h.there u' s' w'.down) (sym number) down3;
         };
+        dropped = arrives_dropped s c here.there r1 ∙ at.dropped;
+        lost = lost_as v.dropped r.server r'.server r.link r'.link (λ d. lost_arrives s c here.there r1 d) at.lost;
       };
       holds = (
         subst (λ (o : Option Link). OnLink o r r' (λ l. CarriesUp s m l r r')) (sym here.up.link) (u'.entries, subst (λ (C : List Entry). Draws v.client.settings c m C u'.entries) (sym at.client) k.draws, refl),
@@ -235,31 +271,21 @@ UpTo w v m r some = Reaches w (λ r'. Ups (sides_of v) m r r' × IsMoved some r 
 
 -- a carrying line was played, at the value that a cable shows
 pub up_played : (v v0 : Wires) (r : Ends) (m : Most) (w w' : Wire) (u' s' : Seen) (rest : Rest) (a b some : Bool) → v ≡ v0 → some ≡ (a || b) → (is : v.wire ≡ Some w) → (at : At v r) → Legal u'.settings u'.entries → Fair u'.settings u'.entries → Legal s'.settings s'.entries → Fair s'.settings s'.entries → u' ≡ record v.client { entries = u'.entries; spare = u'.spare } → s' ≡ record v.server { entries = s'.entries; spare = s'.spare }
-    → Carried w.client m v.client u' w.up.rest rest a → Arrives v.client.settings (with_client r u'.entries) (link_at v r w is at).there v.server s' (fed w rest) w' b → Reaches (record { client = u'; server = s'; wire = Some w' }) (λ r'. Ups (sides_of v0) m r r' × IsMoved some r r')
+    → Carried w.client m v.client u' w.up.rest rest a → Arrives v.client.settings (with_client r u'.entries) (link_at v r w is at).there v.server s' (fed w rest) w' b → Reaches (record { client = u'; server = s'; wire = Some w'; dropped = v.dropped }) (λ r'. Ups (sides_of v0) m r r' × IsMoved some r r')
 up_played v v0 r m w w' u' s' rest a b some shown flag is at legal fair slegal sfair same kept k h =
-    subst (λ (x : Wires). UpTo (record { client = u'; server = s'; wire = Some w' }) x m r some) shown (subst (λ (y : Bool). UpTo (record { client = u'; server = s'; wire = Some w' }) v m r y) (sym flag) (up_here v r m w w' u' s' rest a b is at legal fair slegal sfair same kept k h))
+    subst (λ (x : Wires). UpTo (record { client = u'; server = s'; wire = Some w'; dropped = v.dropped }) x m r some) shown (subst (λ (y : Bool). UpTo (record { client = u'; server = s'; wire = Some w'; dropped = v.dropped }) v m r y) (sym flag) (up_here v r m w w' u' s' rest a b is at legal fair slegal sfair same kept k h))
 
-pub up_nowhere : (v v0 : Wires) (r : Ends) (m : Most) (o : Option Wire) → v ≡ v0 → v.wire ≡ None → o ≡ None → At v0 r → Reaches (record { client = v.client; server = v.server; wire = o }) (λ r'. Ups (sides_of v0) m r r' × IsMoved false r r')
+pub up_nowhere : (v v0 : Wires) (r : Ends) (m : Most) (o : Option Wire) → v ≡ v0 → v.wire ≡ None → o ≡ None → At v0 r → Reaches (record v { wire = o }) (λ r'. Ups (sides_of v0) m r r' × IsMoved false r r')
 up_nowhere v v0 r m o shown is gone at0 =
-    let at = subst (λ (x : Wires). At x r) (sym shown) at0 in
-    let none : r.link ≡ None = subst (λ (o : Option Wire). WireAt o v r) is at.wire in
-    record {
-      ends = r;
-      at = record { client_is = at.client_is; server_is = at.server_is; client = at.client; server = at.server; wire = subst (λ (x : Option Wire). WireAt x (record { client = v.client; server = v.server; wire = o }) r) (sym gone) none };
-      holds = (subst (λ (o : Option Link). OnLink o r r (λ l. CarriesUp (sides_of v0) m l r r)) (sym none) refl, refl);
-    }
+    let k = still_alone v v0 r o shown is gone at0 in
+    record { ends = r; at = k.0; holds = (subst (λ (x : Option Link). OnLink x r r (λ l. CarriesUp (sides_of v0) m l r r)) (sym k.1) refl, refl) }
 
 -- ---- down
 
-pub down_nowhere : (v v0 : Wires) (r : Ends) (m : Most) (o : Option Wire) → v ≡ v0 → v.wire ≡ None → o ≡ None → At v0 r → Reaches (record { client = v.client; server = v.server; wire = o }) (λ r'. Downs (sides_of v0) m r r' × IsMoved false r r')
+pub down_nowhere : (v v0 : Wires) (r : Ends) (m : Most) (o : Option Wire) → v ≡ v0 → v.wire ≡ None → o ≡ None → At v0 r → Reaches (record v { wire = o }) (λ r'. Downs (sides_of v0) m r r' × IsMoved false r r')
 down_nowhere v v0 r m o shown is gone at0 =
-    let at = subst (λ (x : Wires). At x r) (sym shown) at0 in
-    let none : r.link ≡ None = subst (λ (o : Option Wire). WireAt o v r) is at.wire in
-    record {
-      ends = r;
-      at = record { client_is = at.client_is; server_is = at.server_is; client = at.client; server = at.server; wire = subst (λ (x : Option Wire). WireAt x (record { client = v.client; server = v.server; wire = o }) r) (sym gone) none };
-      holds = (subst (λ (o : Option Link). OnLink o r r (λ l. CarriesDown (sides_of v0) m l r r)) (sym none) refl, refl);
-    }
+    let k = still_alone v v0 r o shown is gone at0 in
+    record { ends = r; at = k.0; holds = (subst (λ (x : Option Link). OnLink x r r (λ l. CarriesDown (sides_of v0) m l r r)) (sym k.1) refl, refl) }
 
 -- the frames of a connection go on as the server gives
 gave_gives : (h : Settings) (m : Most) (t t' : There) (S S' : List Entry) (piece : List ℕ) → GivesDown h m t t' S S' → take (bytes_down t' S') (framed_all (frames_down h t' S')) ≡ take (bytes_down t S) (framed_all (frames_down h t S)) ++ piece → Gives h t t' S S' piece
@@ -301,7 +327,7 @@ heard_more g r C' t v w x sent h =
     record { server = y.server; link = y.link; number = y.number; knows = y.knows }
 
 down_here : (v : Wires) (r : Ends) (m : Most) (w w' : Wire) (u' s' : Seen) (x : Crossing) (a b : Bool) → (is : v.wire ≡ Some w) → (at : At v r) → Legal u'.settings u'.entries → Fair u'.settings u'.entries → Legal s'.settings s'.entries → Fair s'.settings s'.entries → u' ≡ record v.client { entries = u'.entries; spare = u'.spare } → s' ≡ record v.server { entries = s'.entries; spare = s'.spare }
-    → (k : Gave m v.client.settings r (link_at v r w is at).there v.server s' w w' a) → IsHearer w'.client (bytes_down k.there s'.entries) (frames_down v.server.settings k.there s'.entries) v.client u' x b → Reaches (record { client = u'; server = s'; wire = Some (record w' { down = x }) }) (λ r'. Downs (sides_of v) m r r' × IsMoved (a || b) r r')
+    → (k : Gave m v.client.settings r (link_at v r w is at).there v.server s' w w' a) → IsHearer w'.client (bytes_down k.there s'.entries) (frames_down v.server.settings k.there s'.entries) v.client u' x b → Reaches (record { client = u'; server = s'; wire = Some (record w' { down = x }); dropped = v.dropped }) (λ r'. Downs (sides_of v) m r r' × IsMoved (a || b) r r')
 down_here v r m w w' u' s' x a b is at legal fair slegal sfair same kept k h =
     let here = link_at v r w is at in
     let s = sides_of v in
@@ -328,6 +354,7 @@ down_here v r m w w' u' s' x a b is at legal fair slegal sfair same kept k h =
     let up2 : ServerAt u'.settings r' k.there s' (record w' { down = x }) = subst (λ (q : Settings). ServerAt q r' k.there s' (record w' { down = x })) (sym gs) up1 in
     let down0 : CrossedTo g w'.client n (frames_down s'.settings k.there s'.entries) u'.entries x.rest x.over = subst (λ (q : Settings). CrossedTo g w'.client n (frames_down q k.there s'.entries) u'.entries x.rest x.over) (sym ks) h.crosses in
     let down1 : ClientAt w'.client k.there u' s' x = subst (λ (q : Settings). CrossedTo q w'.client n (frames_down s'.settings k.there s'.entries) u'.entries x.rest x.over) (sym gs) down0 in
+    let given : GivesDown v.server.settings m here.there k.there r.server s'.entries = subst (λ (S : List Entry). GivesDown v.server.settings m here.there k.there S s'.entries) (sym at.server) k.gives in
     let quiet = gave_arrivals v.server.settings m here.there k.there v.server.entries s'.entries k.gives in
     let before : moved r ≡ (drawn v.client.entries c + bytes_down here.there v.server.entries) + (arrivals v.client.entries + arrivals v.server.entries) =
     moved_on_link r c here.there here.up.link ∙ (ap (λ (l : List Entry). (drawn l c + bytes_down here.there r.server) + (arrivals l + arrivals r.server)) at.client ∙ ap (λ (l : List Entry). (drawn v.client.entries c + bytes_down here.there l) + (arrivals v.client.entries + arrivals l)) at.server) in
@@ -341,10 +368,12 @@ down_here v r m w w' u' s' x a b is at legal fair slegal sfair same kept k h =
         client = client_is;
         server = refl;
         wire = record { there = k.there; up = up2; down = down1 };
+        dropped = at.dropped;
+        lost = lost_as v.dropped r.server s'.entries r.link r'.link (λ d l. lost_gave v.server.settings m here.there k.there r.server s'.entries c d given (subst (λ (o : Option Link). IsLost r.server o d) here.up.link l)) at.lost;
       };
       holds = (
         subst (λ (o : Option Link). OnLink o r r' (λ l. CarriesDown s m l r r')) (sym here.up.link)
-            (k.there, s'.entries, subst (λ (S : List Entry). GivesDown v.server.settings m here.there k.there S s'.entries) (sym at.server) k.gives, refl),
+            (k.there, s'.entries, given, refl),
         grew_or a b (bytes_down here.there v.server.entries) n (arrivals v.client.entries) (arrivals u'.entries) (drawn v.client.entries c + arrivals v.server.entries) (moved r) (moved r') k.grew h.grew (omega (arith, before)) (omega (arith, after, undrawn c, quiet)),
       );
     }
@@ -353,196 +382,6 @@ abbrev DownTo : Wires → Wires → Most → Ends → Bool → Type 0
 DownTo w v m r some = Reaches w (λ r'. Downs (sides_of v) m r r' × IsMoved some r r')
 
 pub down_played : (v v0 : Wires) (r : Ends) (m : Most) (w w' : Wire) (u' s' : Seen) (x : Crossing) (a b some : Bool) → v ≡ v0 → some ≡ (a || b) → (is : v.wire ≡ Some w) → (at : At v r) → Legal u'.settings u'.entries → Fair u'.settings u'.entries → Legal s'.settings s'.entries → Fair s'.settings s'.entries → u' ≡ record v.client { entries = u'.entries; spare = u'.spare } → s' ≡ record v.server { entries = s'.entries; spare = s'.spare }
-    → (k : Gave m v.client.settings r (link_at v r w is at).there v.server s' w w' a) → IsHearer w'.client (bytes_down k.there s'.entries) (frames_down v.server.settings k.there s'.entries) v.client u' x b → Reaches (record { client = u'; server = s'; wire = Some (record w' { down = x }) }) (λ r'. Downs (sides_of v0) m r r' × IsMoved some r r')
+    → (k : Gave m v.client.settings r (link_at v r w is at).there v.server s' w w' a) → IsHearer w'.client (bytes_down k.there s'.entries) (frames_down v.server.settings k.there s'.entries) v.client u' x b → Reaches (record { client = u'; server = s'; wire = Some (record w' { down = x }); dropped = v.dropped }) (λ r'. Downs (sides_of v0) m r r' × IsMoved some r r')
 down_played v v0 r m w w' u' s' x a b some shown flag is at legal fair slegal sfair same kept k h =
-    subst (λ (y : Wires). DownTo (record { client = u'; server = s'; wire = Some (record w' { down = x }) }) y m r some) shown (subst (λ (y : Bool). DownTo (record { client = u'; server = s'; wire = Some (record w' { down = x }) }) v m r y) (sym flag) (down_here v r m w w' u' s' x a b is at legal fair slegal sfair same kept k h))
-
--- ---- from line to line
-
-pub keeps_none : (v : Wires) → Keeps v v
-keeps_none v = record { client = refl; server = refl }
-
-pub keeps_on : (u v w : Wires) → Keeps u v → Keeps v w → Keeps u w
-keeps_on u v w h k = record { client = same_trans u.client v.client w.client h.client k.client; server = same_trans u.server v.server w.server h.server k.server }
-
-pub sides_kept : (v w : Wires) → Keeps v w → sides_of w ≡ sides_of v
-sides_kept v w k =
-    ap (λ (g : Settings). record { client = g; server = w.server.settings }) (ap (λ (u : Seen). u.settings) k.client) ∙ ap (λ (h : Settings). record { client = v.client.settings; server = h }) (ap (λ (u : Seen). u.settings) k.server)
-
-pub first_holds : (w : Wires) (P Q : Ends → Type 0) → Reaches w (λ r. P r × Q r) → Reaches w P
-first_holds w P Q b = record { ends = b.ends; at = b.at; holds = b.holds.0 }
-
--- ---- a call that is made often
-
--- the calls that are left make of these what all make of those at first
-abbrev pub AreCallsLeft : ℕ → ℕ → Sides → Side → Call → Ends → Ends → Type 0
-AreCallsLeft n i s side c r now = asks_often (n - i) s side c now ≡ asks_often n s side c r
-
-pub often_begins : (n : ℕ) (s : Sides) (side : Side) (c : Call) (v : Wires) (r : Ends) → At v r → Reaches v (AreCallsLeft n 0 s side c r)
-often_begins n s side c v r at =
-    let all : n - 0 ≡ n = omega arith in
-    record { ends = r; at = at; holds = ap (λ (k : ℕ). asks_often k s side c r) all }
-
-asked_once : (n : ℕ) (s : Sides) (side : Side) (c : Call) (r : Ends) → asks_often (suc n) s side c r ≡ asks_often n s side c (asks s side c r)
-unfolding asks_often
-asked_once n s side c r = refl
-
-pub often_on : (n i : ℕ) (s : Sides) (side : Side) (c : Call) (v w : Wires) (r : Ends) → i < n → (b : Reaches v (AreCallsLeft n i s side c r)) → Reaches w (λ r'. r' ≡ asks s side c b.ends) → Reaches w (AreCallsLeft n (i + 1) s side c r)
-often_on n i s side c v w r below b one =
-    let step : n - i ≡ suc (n - (i + 1)) = omega (arith, below) in
-    let more : asks_often (n - i) s side c b.ends ≡ asks_often (n - (i + 1)) s side c (asks s side c b.ends) = ap (λ (k : ℕ). asks_often k s side c b.ends) step ∙ asked_once (n - (i + 1)) s side c b.ends in
-    record { ends = one.ends; at = one.at; holds = ap (asks_often (n - (i + 1)) s side c) one.holds ∙ (sym more ∙ b.holds) }
-
-asked_none : (s : Sides) (side : Side) (c : Call) (r : Ends) → asks_often 0 s side c r ≡ r
-unfolding asks_often
-asked_none s side c r = refl
-
-pub often_ends : (n i : ℕ) (s : Sides) (side : Side) (c : Call) (v : Wires) (r : Ends) → n ≤ i → Reaches v (AreCallsLeft n i s side c r) → Reaches v (λ r'. r' ≡ asks_often n s side c r)
-often_ends n i s side c v r past b =
-    let none : n - i ≡ 0 = omega (arith, past) in
-    record { ends = b.ends; at = b.at; holds = sym (asked_none s side c b.ends) ∙ (ap (λ (k : ℕ). asks_often k s side c b.ends) (sym none) ∙ b.holds) }
-
--- ---- a round, and a drain
-
-pub still_at : (v w : Wires) (Holds : Ends → Ends → Type 0) → IsAt v → ((r : Ends) → At v r → Reaches w (Holds r)) → IsAt w
-still_at v w Holds i h = let b = h i.0 i.1 in (b.ends, b.at)
-
-pub round_played : (s : Sides) (v w : Wires) (r : Ends) (a b : Bool) → Reaches v (λ r'. Ups s most.All r r' × IsMoved a r r') → ((between : Ends) → At v between → Reaches w (λ r'. Downs s most.All between r' × IsMoved b between r')) → Reaches w (λ r'. Round s r r' × IsMoved (a || b) r r')
-round_played s v w r a b up down =
-    let d = down up.ends up.at in
-    record { ends = d.ends; at = d.at; holds = ((up.ends, up.holds.0, d.holds.0), grew_twice a b (moved r) (moved up.ends) (moved d.ends) up.holds.1 d.holds.1) }
-
--- what the rounds that are left make of these, all rounds make of those at first
-abbrev pub IsLeft : ℕ → Sides → Ends → Ends → Type 0
-IsLeft i s r now = (r' : Ends) → Drains (MOST_ROUNDS - i) s now r' → Drains MOST_ROUNDS s r r'
-
-pub drain_begins : (s : Sides) (v : Wires) (r : Ends) → At v r → Reaches v (IsLeft 0 s r)
-drain_begins s v r at = record { ends = r; at = at; holds = λ r' d. d }
-
-drains_more : (n : ℕ) (s : Sides) (r between r' : Ends) → Round s r between → moved r < moved between → Drains n s between r' → Drains (suc n) s r r'
-unfolding Drains
-drains_more n s r between r' round more d = (between, round, inr (λ same. absurd (omega (arith, same, more)), d))
-
-drains_last : (n : ℕ) (s : Sides) (r between : Ends) → Round s r between → moved between ≡ moved r → Drains (suc n) s r between
-unfolding Drains
-drains_last n s r between round same = (between, round, inl (same, refl))
-
-drains_none : (s : Sides) (r : Ends) → Drains 0 s r r
-unfolding Drains
-drains_none s r = refl
-
-pub drain_on : (s : Sides) (v w : Wires) (r : Ends) (i : ℕ) → i < MOST_ROUNDS → Reaches v (IsLeft i s r) → ((now : Ends) → At v now → Reaches w (λ r'. Round s now r' × IsMoved true now r')) → Reaches w (IsLeft (i + 1) s r)
-drain_on s v w r i below b round =
-    let d = round b.ends b.at in
-    let step : suc (MOST_ROUNDS - (i + 1)) ≡ MOST_ROUNDS - i = omega (arith, below) in
-    record { ends = d.ends; at = d.at; holds = λ r' more. b.holds r' (subst (λ (k : ℕ). Drains k s b.ends r') step (drains_more (MOST_ROUNDS - (i + 1)) s b.ends d.ends r' d.holds.0 d.holds.1 more)) }
-
-pub drain_stops : (s : Sides) (v w : Wires) (r : Ends) (i : ℕ) → i < MOST_ROUNDS → Reaches v (IsLeft i s r) → ((now : Ends) → At v now → Reaches w (λ r'. Round s now r' × IsMoved false now r')) → Reaches w (Drains MOST_ROUNDS s r)
-drain_stops s v w r i below b round =
-    let d = round b.ends b.at in
-    let step : suc (MOST_ROUNDS - (i + 1)) ≡ MOST_ROUNDS - i = omega (arith, below) in
-    record { ends = d.ends; at = d.at; holds = b.holds d.ends (subst (λ (k : ℕ). Drains k s b.ends d.ends) step (drains_last (MOST_ROUNDS - (i + 1)) s b.ends d.ends d.holds.0 d.holds.1)) }
-
-pub drain_ends : (s : Sides) (v : Wires) (r : Ends) (i : ℕ) → MOST_ROUNDS ≤ i → Reaches v (IsLeft i s r) → Reaches v (Drains MOST_ROUNDS s r)
-drain_ends s v r i past b =
-    let none : 0 ≡ MOST_ROUNDS - i = omega (arith, past) in
-    record { ends = b.ends; at = b.at; holds = b.holds b.ends (subst (λ (k : ℕ). Drains k s b.ends b.ends) none (drains_none s b.ends)) }
-
--- ---- a cut
-
-pub cut_nowhere : (v v0 : Wires) (r : Ends) (o : Option Wire) → v ≡ v0 → v.wire ≡ None → o ≡ None → At v0 r → Reaches (record { client = v.client; server = v.server; wire = o }) (λ r'. r' ≡ cuts (sides_of v0) r)
-cut_nowhere v v0 r o shown is gone at0 =
-    let at = subst (λ (x : Wires). At x r) (sym shown) at0 in
-    let none : r.link ≡ None = subst (λ (o : Option Wire). WireAt o v r) is at.wire in
-    record {
-      ends = r;
-      at = record { client_is = at.client_is; server_is = at.server_is; client = at.client; server = at.server; wire = subst (λ (x : Option Wire). WireAt x (record { client = v.client; server = v.server; wire = o }) r) (sym gone) none };
-      holds = ap (λ (o : Option Link). cuts_on o (sides_of v0) r) (sym none);
-    }
-
-cut_here : (v : Wires) (r : Ends) (w : Wire) (u' s' : Seen) → (is : v.wire ≡ Some w) → (at : At v r) → Legal u'.settings u'.entries → Fair u'.settings u'.entries → Legal s'.settings s'.entries → Fair s'.settings s'.entries → u' ≡ record v.client { entries = u'.entries; spare = u'.spare } → s' ≡ record v.server { entries = s'.entries; spare = s'.spare }
-    → u'.entries ≡ adds v.client.settings v.client.entries (event.Cut w.client) → s'.entries ≡ cuts_there v.server.settings (link_at v r w is at).there v.server.entries → Reaches (record { client = u'; server = s'; wire = None }) (λ r'. r' ≡ cuts (sides_of v) r)
-cut_here v r w u' s' is at legal fair slegal sfair same kept now there =
-    let here = link_at v r w is at in
-    record {
-      ends = cuts_on (Some (record { client = w.client; there = here.there })) (sides_of v) r;
-      at = record {
-        client_is = end_on Client v.client u' same legal fair at.client_is;
-        server_is = end_on Server v.server s' kept slegal sfair at.server_is;
-        client = ap (λ (l : List Entry). adds v.client.settings l (event.Cut w.client)) at.client ∙ sym now;
-        server = ap (λ (l : List Entry). cuts_there v.server.settings here.there l) at.server ∙ sym there;
-        wire = refl;
-      };
-      holds = ap (λ (o : Option Link). cuts_on o (sides_of v) r) (sym here.up.link);
-    }
-
-pub cut_played : (v v0 : Wires) (r : Ends) (w : Wire) (o : Option Wire) (u' s' : Seen) → v ≡ v0 → o ≡ None → (is : v.wire ≡ Some w) → (at : At v r) → Legal u'.settings u'.entries → Fair u'.settings u'.entries → Legal s'.settings s'.entries → Fair s'.settings s'.entries → u' ≡ record v.client { entries = u'.entries; spare = u'.spare } → s' ≡ record v.server { entries = s'.entries; spare = s'.spare }
-    → u'.entries ≡ adds v.client.settings v.client.entries (event.Cut w.client) → s'.entries ≡ cuts_there v.server.settings (link_at v r w is at).there v.server.entries → Reaches (record { client = u'; server = s'; wire = o }) (λ r'. r' ≡ cuts (sides_of v0) r)
-cut_played v v0 r w o u' s' shown gone is at legal fair slegal sfair same kept now there =
-    subst (λ (x : Option Wire). Reaches (record { client = u'; server = s'; wire = x }) (λ r'. r' ≡ cuts (sides_of v0) r)) (sym gone)
-    (subst (λ (x : Wires). Reaches (record { client = u'; server = s'; wire = None }) (λ r'. r' ≡ cuts (sides_of x) r)) shown (cut_here v r w u' s' is at legal fair slegal sfair same kept now there))
-
--- ---- the first connection
-
-first_answer : (g : Settings) → answer_to g [] (event.Open None false) ≡ answer.Opened 1
-unfolding facts openings begun closed
-first_answer g = refl
-
-abbrev fresh_wire : ℕ → ℕ → Wire
-fresh_wire most here = record { client = 1; known = known.Nothing; up = record { rest = record { bytes = []; max_in = most }; over = false }; down = record { rest = record { bytes = []; max_in = here }; over = false } }
-
-abbrev first_sides : Settings → Seen → Sides
-first_sides g v = record { client = g; server = v.settings }
-
-first_server : (g : Settings) (v : Seen) (C : List Entry) (most here : ℕ) → v.entries ≡ [] → IsPlain g → Legal g C → Fair g C → C ≡ adds g [] (event.Open None false) → most ≡ v.settings.max_in → IsChecked v.settings
-    → ServerAt g (opens (first_sides g v) nothing) There.Nowhere v (fresh_wire most here)
-unfolding begun closed drawn facts openings
-first_server g v C most here h1 h2 h3 h4 h5 h6 h7 = grind (arith, common_steps, first_answer, due_spelled)
-
-abbrev first_entries : List Entry
-first_entries = record { who = 0; event = event.Open None false; answer = answer.Opened 1 } ∷ []
-
-opened_first : (g : Settings) (C : List Entry) → C ≡ adds g [] (event.Open None false) → C ≡ first_entries
-unfolding begun closed facts openings
-opened_first g C h1 = grind (arith, common_steps, first_answer)
-
-nothing_crossed : (g : Settings) (here : ℕ) → here ≡ g.max_in → IsChecked g → CrossedTo g 1 0 [] first_entries (record { bytes = []; max_in = here }) false
-unfolding openings came first_bad crossed
-nothing_crossed g here most checked = record {
-  ahead = record { longest = most; below = omega (arith, checked.max_in.below); spellable = tt };
-  opened = refl;
-  bytes = refl;
-  bad = refl;
-  parts = λ none. ([], refl);
-}
-
-first_client : (g : Settings) (C : List Entry) (here : ℕ) → C ≡ adds g [] (event.Open None false) → here ≡ g.max_in → IsChecked g → CrossedTo g 1 0 [] C (record { bytes = []; max_in = here }) false
-first_client g C here is most checked = subst (λ (l : List Entry). CrossedTo g 1 0 [] l (record { bytes = []; max_in = here }) false) (sym (opened_first g C is)) (nothing_crossed g here most checked)
-
--- the client opened the first connection
-pub first_opened : (v v0 : Wires) (u' : Seen) (a : Answer) (o : Option Wire) (most here : ℕ) → v ≡ v0 → At v0 nothing → Legal u'.settings u'.entries → Fair u'.settings u'.entries → u' ≡ record v.client { entries = u'.entries; spare = u'.spare } → u'.entries ≡ adds v.client.settings v.client.entries (event.Open None false)
-    → a ≡ answer_to v.client.settings v.client.entries (event.Open None false) → o ≡ wire_of a most here → most ≡ v.server.settings.max_in → here ≡ u'.settings.max_in → IsChecked v.server.settings → IsChecked u'.settings → Reaches (record { client = u'; server = v.server; wire = o }) (λ r. r ≡ opens (sides_of v0) nothing)
-first_opened v v0 u' a o most here shown at0 legal fair same now right wire longest longest_here checked checked_here =
-    let at = subst (λ (x : Wires). At x nothing) (sym shown) at0 in
-    let g = v.client.settings in
-    let e : Event = event.Open None false in
-    let gs : u'.settings ≡ g = settings_of v.client u' same in
-    let C : u'.entries ≡ adds g [] e = now ∙ ap (λ (l : List Entry). adds g l e) (sym at.client) in
-    let opened : a ≡ answer.Opened 1 = right ∙ (ap (λ (l : List Entry). answer_to g l e) (sym at.client) ∙ first_answer g) in
-    let w = fresh_wire most here in
-    let wire_is : o ≡ Some w = wire ∙ ap (λ (b : Answer). wire_of b most here) opened in
-    let after = end_on Client v.client u' same legal fair at.client_is in
-    let server = first_server g v.server u'.entries most here (sym at.server) at.client_is.plain (legal_there Client v.client u' same after) (fair_there Client v.client u' same after) C longest checked in
-    let client : CrossedTo u'.settings 1 0 [] u'.entries (record { bytes = []; max_in = here }) false = first_client u'.settings u'.entries here (C ∙ ap (λ (k : Settings). adds k [] e) (sym gs)) longest_here checked_here in
-    subst (λ (x : Wires). Reaches (record { client = u'; server = v.server; wire = o }) (λ r. r ≡ opens (sides_of x) nothing)) shown (record {
-      ends = opens (sides_of v) nothing;
-      at = record {
-        client_is = after;
-        server_is = at.server_is;
-        client = sym C;
-        server = at.server;
-        wire = subst (λ (x : Option Wire). WireAt x (record { client = u'; server = v.server; wire = o }) (opens (sides_of v) nothing)) (sym wire_is)
-            (record { there = There.Nowhere; up = subst (λ (k : Settings). ServerAt k (opens (sides_of v) nothing) There.Nowhere v.server w) (sym gs) server; down = client });
-      };
-      holds = refl;
-    })
+    subst (λ (y : Wires). DownTo (record { client = u'; server = s'; wire = Some (record w' { down = x }); dropped = v.dropped }) y m r some) shown (subst (λ (y : Bool). DownTo (record { client = u'; server = s'; wire = Some (record w' { down = x }); dropped = v.dropped }) v m r y) (sym flag) (down_here v r m w w' u' s' x a b is at legal fair slegal sfair same kept k h))

@@ -1,17 +1,16 @@
 -- What moves, and what crosses to the client, as the server goes on.
 use Rattle.std.proofs.lemmas.Grind.{common_steps}
-use Rattle.std.proofs.Common.{◌≡◌, ◌≤◌, ◌<◌, ◌+◌, ◌||◌, ℕ, Bool, true, false, cond, List, [], ◌∷◌, ◌++◌, length, take, Option, Some, None, refl, ap, subst, sym, ◌∙◌, arith, append-nil}
+use Rattle.std.proofs.Common.{◌≡◌, ◌≤◌, ◌+◌, ◌||◌, ℕ, Bool, true, false, List, [], ◌∷◌, ◌++◌, take, Option, Some, refl, ap, subst, sym, ◌∙◌, arith, append-nil}
 use Rattle.rs_wire.specs.declared.settings.Settings.{Settings}
 use Rattle.rs_frame.specs.declared.frame.Frame.{Frame}
 use Rattle.rs_frame.specs.Framed.{framed_all}
 use Rattle.rs_chunk.specs.Rest.{Rest}
-use Rattle.tape.specs.declared.event.Event.{Event}
 use Rattle.tape.specs.declared.event.Event.TheVariants as event
 use Rattle.tape.specs.declared.answer.Answer.{Answer}
 use Rattle.tape.specs.declared.answer.Answer.TheVariants as answer
 use Rattle.tape.specs.declared.entry.Entry.{Entry}
 use Rattle.session_model.specs.Life.{openings}
-use Rattle.session_model.specs.Frames.{draws, drawn, due, given}
+use Rattle.session_model.specs.Frames.{drawn, due}
 use Rattle.session_model.specs.Answers.{answer_to}
 use Rattle.session_model.specs.Joined.{refused}
 use Rattle.session_model.specs.Legal.{Fair, IsPlain, Legal}
@@ -24,8 +23,7 @@ use Rattle.cable.specs.declared.arrival.Arrival.{Arrival}
 use Rattle.cable.specs.declared.arrival.Arrival.TheVariants as arrival
 use Rattle.cable.specs.Played.{Ends, Link, Sides, There, answered, arrives_up, arrivals, bytes_down, bytes_on, crossed_up, frames_down, hears, hears_if_accepted, hears_up, meets, moved, opened_by, there_of}
 use Rattle.cable.specs.Hearing.{CrossedTo, Grew}
-use Rattle.cable.specs.Wires.{IsMoved}
-use Rattle.cable.proofs.Grows.{Goes, Quiet, Sends, hears_on}
+use Rattle.cable.proofs.Grows.{Goes, hears_on}
 use Rattle.cable.proofs.Opening.{number_is}
 use Rattle.cable.proofs.Sending.{crosses_on, hears_drawn, still_given}
 
@@ -84,13 +82,13 @@ kept_all h t S = record {
 }
 
 -- of what it accepted or refused, where nothing was drawn
-pub kept_on : (h : Settings) (t : There) (S S' : List Entry) → Legal h S → Goes h S S' → ((d : ℕ) → refused S' d ≡ refused S d) → ((d : ℕ) → drawn S' d ≡ drawn S d) → Keeps h t t S S'
+pub kept_on : (h : Settings) (t : There) (S S' : List Entry) → Legal h S → Goes h S S' → ((d : ℕ) → refused S' d ≡ refused S d) → bytes_down t S' ≡ bytes_down t S → Keeps h t t S S'
 kept_on h There.Nowhere S S' legal goes refusals same = record { gives = record { more = []; frames_are = refl; most = omega arith; gave = refl }; same = refl }
 kept_on h (There.Accepted d) S S' legal goes refusals same =
     let z = goes.sends d in
     record {
-      gives = record { more = z.more; frames_are = z.due_is; most = z.drawn_most; gave = still_given h d S S' z (same d) (drawn_le h S d legal) };
-      same = same d;
+      gives = record { more = z.more; frames_are = z.due_is; most = z.drawn_most; gave = still_given h d S S' z same (drawn_le h S d legal) };
+      same = same;
     }
 kept_on h (There.Refused d n) S S' legal goes refusals same = record {
   gives = record {
@@ -133,7 +131,7 @@ KeepsTo s t r r' t' = Keeps s.server t t' r.server r'.server
 not_nowhere : (a : Answer) (n : ℕ) → there_of a n ≡ There.Nowhere → ⊥
 not_nowhere a n h1 = grind (arith, common_steps)
 
-opened_so : (a : Answer) (n d : ℕ) → there_of a n ≡ There.Accepted d → answer.Opened d ≡ a
+pub opened_so : (a : Answer) (n d : ℕ) → there_of a n ≡ There.Accepted d → answer.Opened d ≡ a
 opened_so a n d h1 = grind (arith, common_steps)
 
 none_offered : (a : Answer) (n d m : ℕ) → there_of a n ≡ There.Refused d m → m ≡ 0
@@ -168,5 +166,5 @@ arrives_keeps s c There.Nowhere t' r legal is at = meets_keeps s c (crossed_up s
 arrives_keeps s c (There.Accepted d) t' r legal is at =
     let h = hears_on s.server d (drawn r.client c) (due s.client r.client c) r.server in
     subst (λ (u : There). KeepsTo s (There.Accepted d) r (hears_up s c d r) u) (sym (there_is c r.link (There.Accepted d) t' is at))
-    (kept_on s.server (There.Accepted d) r.server (hears s.server d (drawn r.client c) (due s.client r.client c) r.server) legal h.goes h.refused_are (λ e. hears_drawn s.server d e (drawn r.client c) (due s.client r.client c) r.server))
+    (kept_on s.server (There.Accepted d) r.server (hears s.server d (drawn r.client c) (due s.client r.client c) r.server) legal h.goes h.refused_are (hears_drawn s.server d d (drawn r.client c) (due s.client r.client c) r.server))
 arrives_keeps s c (There.Refused d n) t' r legal is at = stays s c (There.Refused d n) t' r is at

@@ -17,10 +17,10 @@ use Rattle.session_model.specs.Answers.{answer_to, facts}
 use Rattle.session_model.specs.Joined.{IsOpening, bytes_offered, frames_offered, is_accepted, only, refused, refuses}
 use Rattle.cable.specs.declared.arrival.Arrival.{Arrival}
 use Rattle.cable.specs.declared.arrival.Arrival.TheVariants as arrival
-use Rattle.cable.specs.Played.{There, Ends, Link, Sides, answered, crossed_up, hears_if_accepted, link_of, meets, opened_by, opens, pair_of, there_of, with_client, with_link}
+use Rattle.cable.specs.Played.{There, Ends, Link, Sides, answered, crossed_up, hears_if_accepted, link_of, meets, opened_by, opens, pair_of, there_of, unless_linked, with_client, with_link}
 use Rattle.tape.specs.Answers.{leaves}
-use Rattle.cable.proofs.Crosses.{Heard, heard_nothing}
-use Rattle.cable.proofs.Grows.{IsHeard, Same, goes_one, same_step}
+use Rattle.cable.proofs.Crosses.{Heard}
+use Rattle.cable.proofs.Grows.{Same, goes_one, same_step}
 use Rattle.cable.proofs.Pairing.{DownHeard, Linked, LinkedThere, Paired, UpHeard, more_opening, paired_up, quiet_client, same_heard, sends_down, silent_heard}
 
 -- ---- the number of an opening
@@ -85,10 +85,15 @@ paired_with s r (answer.Got d) is p = unlinked s r _ (open_goes s r (answer.Got 
 paired_with s r (answer.GotJob j) is p = unlinked s r _ (open_goes s r (answer.GotJob j) p)
 paired_with s r answer.Parted is p = unlinked s r _ (open_goes s r answer.Parted p)
 paired_with s r (answer.PeerError code) is p = unlinked s r _ (open_goes s r (answer.PeerError code) p)
+paired_with s r (answer.ResumeRefused why) is p = unlinked s r _ (open_goes s r (answer.ResumeRefused why) p)
 paired_with s r (answer.Closed w) is p = unlinked s r _ (open_goes s r (answer.Closed w) p)
 
 pub paired_open : (s : Sides) (r : Ends) → Paired s r → Paired s (opens s r)
 paired_open s r p = paired_with s r (answer_to s.client r.client (event.Open None false)) refl p
+
+pub paired_unless : (s : Sides) (o : Option Link) (r next : Ends) → Paired s r → Paired s next → Paired s (unless_linked o r next)
+paired_unless s None r next p q = q
+paired_unless s (Some l) r next p q = p
 
 -- ---- at the server
 
@@ -173,6 +178,7 @@ linked_new s answer.Handled c n r number opening is none silent = linked_refused
 linked_new s (answer.PeerError x) c n r number opening is none silent = linked_refused s c n r opening is silent
 linked_new s (answer.Violation x) c n r number opening is none silent = linked_refused s c n r opening is silent
 linked_new s (answer.SetupRefused x) c n r number opening is none silent = linked_refused s c n r opening is silent
+linked_new s (answer.ResumeRefused x) c n r number opening is none silent = linked_refused s c n r opening is silent
 linked_new s (answer.Stale x) c n r number opening is none silent = linked_refused s c n r opening is silent
 linked_new s (answer.Refused x) c n r number opening is none silent = linked_refused s c n r opening is silent
 linked_new s (answer.Closed x) c n r number opening is none silent = linked_refused s c n r opening is silent

@@ -6,8 +6,8 @@ use Rattle.session_core.specs.Seen.{Seen, told_by}
 use Rattle.cable.specs.Played.{Sides}
 use Rattle.cable.specs.Report.{report_of}
 use Rattle.rs_wire.specs.declared.settings.Settings.{Settings}
-use Rattle.cable.specs.declared.script.setting.SettingLine.{SettingLine}
-use Rattle.cable.specs.Setting.{settings_by}
+use Rattle.cable_script.specs.declared.setting.SettingLine.{SettingLine}
+use Rattle.cable_script.specs.Setting.{settings_by}
 use Rattle.cable.specs.Shelves.{GotTapes, IsEnd, end_of}
 use Rattle.cable.proofs.Settings.{settings_side}
 

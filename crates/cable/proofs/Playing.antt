@@ -8,7 +8,7 @@ use Rattle.tape.specs.declared.entry.Entry.{Entry}
 use Rattle.session_model.specs.Legal.{Fair, IsPlain, Legal}
 use Rattle.session_core.specs.Seen.{Seen}
 use Rattle.session_laws.specs.Ends.{AreEnds}
-use Rattle.cable.specs.declared.script.line.Line.{Line}
+use Rattle.cable_script.specs.declared.line.Line.{Line}
 use Rattle.cable.specs.Played.{Ends, Played, PlaysLine, PlaysLines, Sides, begins, nothing, opens}
 use Rattle.cable.specs.Wires.{At, Keeps, Reaches, Wires, sides_of}
 
@@ -52,14 +52,14 @@ pub plain_ends : (g h : Settings) (C S : List Entry) → g.side ≡ Client → h
 plain_ends g h C S client server cp sp cl cf sl sf = record { client = client; server = server; client_plain = cp; server_plain = sp; client_legal = cl; server_legal = sl; client_fair = cf; server_fair = sf }
 
 -- the lines of the script were played
-pub run_played : (client server : Seen) (v w : Wires) (C S : Seen) (script lines : List Line) → v ≡ record { client = client; server = server; wire = None } → C ≡ w.client → S ≡ w.server → lines ≡ script
+pub run_played : (client server : Seen) (v w : Wires) (C S : Seen) (script lines : List Line) → v ≡ record { client = client; server = server; wire = None; dropped = None } → C ≡ w.client → S ≡ w.server → lines ≡ script
     → Reaches w (PlaysLines (sides_of v) lines (begins (sides_of v) lines)) → Played (record { client = client.settings; server = server.settings }) script C.entries S.entries
 run_played client server v w C S script lines h1 h2 h3 h4 h5 = grind (arith, common_steps)
 
-pub run_client : (client server : Seen) (v w : Wires) (C : Seen) → v ≡ record { client = client; server = server; wire = None } → Keeps v w → C ≡ w.client → C ≡ record client { entries = C.entries; spare = C.spare }
+pub run_client : (client server : Seen) (v w : Wires) (C : Seen) → v ≡ record { client = client; server = server; wire = None; dropped = None } → Keeps v w → C ≡ w.client → C ≡ record client { entries = C.entries; spare = C.spare }
 run_client client server v w C is k c_is = c_is ∙ (k.client ∙ (ap (λ (u : Wires). record u.client { entries = w.client.entries; spare = w.client.spare }) is ∙ ap (λ (u : Seen). record client { entries = u.entries; spare = u.spare }) (sym c_is)))
 
-pub run_server : (client server : Seen) (v w : Wires) (S : Seen) → v ≡ record { client = client; server = server; wire = None } → Keeps v w → S ≡ w.server → S ≡ record server { entries = S.entries; spare = S.spare }
+pub run_server : (client server : Seen) (v w : Wires) (S : Seen) → v ≡ record { client = client; server = server; wire = None; dropped = None } → Keeps v w → S ≡ w.server → S ≡ record server { entries = S.entries; spare = S.spare }
 run_server client server v w S is k s_is = s_is ∙ (k.server ∙ (ap (λ (u : Wires). record u.server { entries = w.server.entries; spare = w.server.spare }) is ∙ ap (λ (u : Seen). record server { entries = u.entries; spare = u.spare }) (sym s_is)))
 
 pub legal_as : (first last : Seen) → last ≡ record first { entries = last.entries; spare = last.spare } → Legal last.settings last.entries → Legal first.settings last.entries

@@ -1,12 +1,14 @@
 -- What crosses, while both ends go on.
 use Rattle.std.proofs.lemmas.Grind.{common_steps}
-use Rattle.std.proofs.Common.{◌≡◌, ◌≤◌, ℕ, Bool, true, false, is_none, is_some, List, [], ◌∷◌, ◌++◌, length, take, drop, refl, ap, sym, ◌∙◌, append_assoc, arith}
+use Rattle.std.proofs.Common.{◌≡◌, ◌≢◌, ◌≤◌, ℕ, Bool, true, false, is_none, is_some, List, [], ◌∷◌, ◌++◌, length, take, drop, refl, ap, sym, ◌∙◌, append_assoc, arith}
+use Rattle.std.proofs.lemmas.Bool.{ne_eqb}
 use Rattle.std.proofs.lemmas.List.{take-append-le}
 use Rattle.rs_wire.specs.declared.settings.Settings.{Settings}
 use Rattle.rs_frame.specs.declared.frame.Frame.{Frame}
 use Rattle.rs_frame.specs.Framed.{framed_all}
 use Rattle.rs_chunk.specs.Rest.{Rest}
 use Rattle.tape.specs.declared.entry.Entry.{Entry}
+use Rattle.tape.specs.declared.event.Event.TheVariants as event
 use Rattle.tape.specs.declared.answer.Answer.{Answer}
 use Rattle.tape.specs.declared.answer.Answer.TheVariants as answer
 use Rattle.tape.specs.Answers.{leaves}
@@ -92,3 +94,23 @@ draws_arrive g c (x ∷ drawing) past n d = draw_arrives g c (drawing ++ past) x
 pub drew_arrivals : (here : Bool) (g : Settings) (c : ℕ) (m : Most) (past past' : List Entry) → DrawsWhere here g c m past past' → arrivals past' ≡ arrivals past
 drew_arrivals true g c m past past' d = ap arrivals d.2 ∙ draws_arrive g c d.0 past _ d.1
 drew_arrivals false g c m past past' d = ap arrivals d.2 ∙ draw_arrives g c past d.0 _ d.1
+
+-- draws on another connection
+
+draws_nothing : (e c : ℕ) (a : Answer) (room : ℕ) → e ≢ c → draws e a (event.Draw c room) ≡ 0
+draws_nothing e c a room h1 = grind (arith, common_steps, ne_eqb)
+
+draw_elsewhere : (g : Settings) (c e : ℕ) (past : List Entry) (x : Entry) (a : Answer) → e ≢ c → IsDraw g c past x a → drawn (x ∷ past) e ≡ drawn past e
+unfolding drawn
+draw_elsewhere g c e past x a far d =
+    let none : draws e x.answer x.event ≡ 0 = ap (λ (y : Entry). draws e y.answer y.event) d.entry ∙ draws_nothing e c a d.room far in
+    omega (arith, none)
+
+draws_elsewhere : (g : Settings) (c e : ℕ) (drawing past : List Entry) (n : ℕ) → e ≢ c → DrawInSum g c drawing past n → drawn (drawing ++ past) e ≡ drawn past e
+unfolding DrawInSum
+draws_elsewhere g c e [] past n far d = refl
+draws_elsewhere g c e (x ∷ drawing) past n far d = draw_elsewhere g c e (drawing ++ past) x (answer.Drawn d.0) far d.3 ∙ draws_elsewhere g c e drawing past d.1 far d.2
+
+pub drew_elsewhere : (here : Bool) (g : Settings) (c e : ℕ) (m : Most) (past past' : List Entry) → e ≢ c → DrawsWhere here g c m past past' → drawn past' e ≡ drawn past e
+drew_elsewhere true g c e m past past' far d = ap (λ (l : List Entry). drawn l e) d.2 ∙ draws_elsewhere g c e d.0 past _ far d.1
+drew_elsewhere false g c e m past past' far d = ap (λ (l : List Entry). drawn l e) d.2 ∙ draw_elsewhere g c e past d.0 _ far d.1

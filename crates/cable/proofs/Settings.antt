@@ -4,21 +4,27 @@ use Rattle.std.proofs.Common.{◌≡◌, ℕ, ◌<◌, ◌≤◌, ◌+◌, Bool,
 use Rattle.std.proofs.lemmas.List.{drop_all}
 use Rattle.std.specs.List.{AllByRecursion}
 use Rattle.rs_wire.specs.declared.words.Side.{Side}
+use Rattle.rs_wire.specs.declared.words.Side.TheVariants.{Client}
 use Rattle.rs_wire.specs.declared.settings.Settings.{Settings}
 use Rattle.rs_wire.specs.declared.settings.SettingFault.{SettingFault}
 use Rattle.rs_wire.specs.Settings.{IsIn, fault_of, usual}
-use Rattle.fragment.specs.Splitting.{IsMtu}
+use Rattle.cable_script.specs.Setting.{IsMtu, IsSetting, IsSettingLine, IsToken, is_for, put, set_by, set_by_all, settings_by}
 use Rattle.session_model.specs.Legal.{IsPlain}
-use Rattle.cable.specs.declared.script.setting.Setting.{Setting}
-use Rattle.cable.specs.declared.script.setting.SettingLine.{SettingLine}
-use Rattle.cable.specs.Setting.{IsSetting, IsSettingLine, is_for, put, set_by, set_by_all, settings_by}
+use Rattle.cable_script.specs.declared.setting.Setting.{Setting}
+use Rattle.cable_script.specs.declared.setting.SettingLine.{SettingLine}
+use Rattle.cable_script.specs.declared.setting.SettingLine.TheVariants as lines
+use Rattle.cable_script.specs.declared.TheConstants.{MOST_TOKEN}
 
--- each is in its range, of an end without resumption and leases
+-- a client that resumes has a token of 1 to 64 bytes, and no other end has one
+abbrev IsTokenFor : Side → Bool → ℕ → Type 0
+IsTokenFor Client true size = IsIn 1 size MOST_TOKEN
+IsTokenFor _ _ size = size ≡ 0
+
+-- each is in its range, of an end without leases
 record IsSound (s : Settings) : Type 0 where
-  pub no_resumption : s.resume ≡ false
   pub no_leases : s.lease ≡ false
+  pub token : IsTokenFor s.side s.resume (length s.token)
   pub mtu : IsMtu s.mtu
-  pub no_token : length s.token ≡ 0
   pub keepalive : IsIn 1 s.keepalive_ms 2147483647
   pub lifetime : IsIn 1 s.lifetime_ms 2147483647
   pub hold : s.hold ≤ 1073741824
@@ -35,6 +41,9 @@ record IsSound (s : Settings) : Type 0 where
 no_fault : (s : Settings) → IsSound s → fault_of s ≡ None
 no_fault s h1 = grind (arith, common_steps)
 
+token_size : (side : Side) (resume : Bool) (size : ℕ) → IsTokenFor side resume size → size ≤ 65535
+token_size side resume size h1 = grind (arith, common_steps)
+
 plain : (s : Settings) → IsSound s → IsPlain s
 plain s h = record {
   checked = record {
@@ -50,11 +59,10 @@ plain s h = record {
     last_id = h.last_id;
     top_position = h.top_position;
     session_hold = h.session_hold;
-    token = omega (arith, h.no_token);
+    token = token_size s.side s.resume (length s.token) h.token;
     metadata_mime = h.metadata_mime;
     content_mime = h.content_mime;
   };
-  no_resumption = h.no_resumption;
   no_leases = h.no_leases;
 }
 
@@ -64,28 +72,43 @@ usual_sound side = grind (arith, common_steps)
 put_sound : (x : Setting) (s : Settings) → IsSetting x → IsSound s → IsSound (put x s)
 put_sound x s h1 h2 = grind (arith, common_steps)
 
+resumed_sound : (side : Side) (token : List ℕ) (s : Settings) → s.side ≡ side → IsToken token → IsSound s → IsSound (set_by side (lines.Resume token) s)
+resumed_sound side token s h1 h2 h3 = grind (arith, common_steps)
+
 set_if : (b : Bool) (x : Setting) (s : Settings) → IsSetting x → IsSound s → IsSound (if b then put x s else s)
 set_if true x s ok h = put_sound x s ok h
 set_if false x s ok h = h
 
-set_all : (side : Side) (lines : List SettingLine) (s : Settings) → AllByRecursion IsSettingLine lines → IsSound s → IsSound (set_by_all side lines s)
+put_side : (b : Bool) (x : Setting) (s : Settings) → (if b then put x s else s).side ≡ s.side
+put_side b x s = grind (arith, common_steps)
+
+-- one line
+
+one_sound : (side : Side) (l : SettingLine) (s : Settings) → s.side ≡ side → IsSettingLine l → IsSound s → IsSound (set_by side l s)
+one_sound side (lines.Set end x) s same ok h = set_if (is_for end side) x s ok h
+one_sound side (lines.Resume token) s same ok h = resumed_sound side token s same ok h
+
+one_side : (side : Side) (l : SettingLine) (s : Settings) → (set_by side l s).side ≡ s.side
+one_side side (lines.Set end x) s = put_side (is_for end side) x s
+one_side side (lines.Resume token) s = refl
+
+-- all of them
+
+set_all : (side : Side) (lines : List SettingLine) (s : Settings) → s.side ≡ side → AllByRecursion IsSettingLine lines → IsSound s → IsSound (set_by_all side lines s)
 unfolding set_by_all
-set_all side [] s ok h = h
-set_all side (l ∷ lines) s ok h = set_all side lines (set_by side l s) ok.1 (set_if (is_for l.side side) l.setting s ok.0 h)
+set_all side [] s same ok h = h
+set_all side (l ∷ lines) s same ok h = set_all side lines (set_by side l s) (one_side side l s ∙ same) ok.1 (one_sound side l s same ok.0 h)
 
 -- the settings of an end under setting lines are in their ranges
 pub settings_plain : (side : Side) (lines : List SettingLine) → AllByRecursion IsSettingLine lines → IsPlain (settings_by side lines)
-settings_plain side lines ok = plain (settings_by side lines) (set_all side lines (usual side) ok (usual_sound side))
+settings_plain side lines ok = plain (settings_by side lines) (set_all side lines (usual side) refl ok (usual_sound side))
 
 -- ---- their side
-
-put_side : (b : Bool) (x : Setting) (s : Settings) → (if b then put x s else s).side ≡ s.side
-put_side b x s = grind (arith, common_steps)
 
 all_side : (side : Side) (lines : List SettingLine) (s : Settings) → (set_by_all side lines s).side ≡ s.side
 unfolding set_by_all
 all_side side [] s = refl
-all_side side (l ∷ lines) s = all_side side lines (set_by side l s) ∙ put_side (is_for l.side side) l.setting s
+all_side side (l ∷ lines) s = all_side side lines (set_by side l s) ∙ one_side side l s
 
 pub settings_side : (side : Side) (lines : List SettingLine) → (settings_by side lines).side ≡ side
 settings_side side lines = all_side side lines (usual side)

@@ -1,7 +1,7 @@
 -- The connection of a cable, and what the server knows of it.
 use Rattle.std.proofs.lemmas.Grind.{common_steps}
 use Rattle.std.proofs.lemmas.Bool.Decides.{nat_tests}
-use Rattle.std.proofs.Common.{◌≡◌, ◌≤◌, ◌<◌, ◌+◌, ◌-◌, ◌&&◌, ℕ, Bool, true, false, cond, nat_lt, nat_le, List, [], ◌∷◌, ◌++◌, length, take, Option, Some, None, refl, ap, subst, sym, ◌∙◌, arith, append-nil}
+use Rattle.std.proofs.Common.{◌≡◌, ◌≤◌, ◌<◌, ◌+◌, ◌-◌, ◌&&◌, ℕ, Bool, true, false, cond, nat_lt, nat_le, List, [], ◌∷◌, ◌++◌, length, take, Some, refl, ap, subst, sym, ◌∙◌, arith, append-nil}
 use Rattle.rs_wire.specs.declared.settings.Settings.{Settings}
 use Rattle.rs_frame.specs.declared.frame.Frame.{Frame}
 use Rattle.rs_frame.specs.Framed.{framed_all}
@@ -19,13 +19,13 @@ use Rattle.session_core.specs.Seen.{Seen}
 use Rattle.session_laws.proofs.Framing.{AreSpellable}
 use Rattle.cable.specs.declared.arrival.Arrival.{Arrival}
 use Rattle.cable.specs.declared.arrival.Arrival.TheVariants as arrival
-use Rattle.cable.specs.declared.cable.Wire.{Wire}
+use Rattle.cable.specs.declared.wire.Wire.{Wire}
 use Rattle.cable.specs.declared.carrying.Left.{Left}
 use Rattle.cable.specs.declared.carrying.Most.{Most}
 use Rattle.cable.specs.declared.hearing.Crossing.{Crossing}
 use Rattle.cable.specs.declared.hearing.Known.{Known}
 use Rattle.cable.specs.declared.hearing.Known.TheVariants as known
-use Rattle.cable.specs.Played.{Ends, Link, Sides, There, adds, answered, arrivals, arrives_up, at_most, crossed, cuts_there, hears_if_accepted, hears_up, meets, opened_by, there_of, with_client}
+use Rattle.cable.specs.Played.{Ends, Sides, There, adds, answered, arrivals, arrives_up, at_most, crossed, cuts_there, hears_if_accepted, hears_up, meets, opened_by, there_of, with_client}
 use Rattle.cable.specs.Hearing.{Ahead, Carried, CrossedTo, Crosses, Grew, IsHearer, IsMet, IsMetBy, Nears, Offered, known_of}
 use Rattle.cable.specs.Wires.{Arrives, Gave, Knows, ServerAt}
 use Rattle.cable.proofs.Grows.{Quiet, Sends, drew_where}

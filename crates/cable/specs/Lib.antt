@@ -1,11 +1,6 @@
-pub mod Line
 pub mod Lines
 pub mod Played
 pub mod Hearing
 pub mod Wires
 pub mod Report
-pub mod Setting
-pub mod Scripted
 pub mod Shelves
-pub mod Script
-pub mod Words

@@ -8,10 +8,11 @@ use Rattle.session_model.specs.Lists.{IsPrefix}
 use Rattle.session_model.specs.Frames.{made, handled}
 use Rattle.session_model.specs.Legal.{Fair, Legal}
 use Rattle.session_model.specs.Joined.{Joined}
-use Rattle.cable.specs.declared.script.line.Line.{Line}
+use Rattle.cable_script.specs.declared.line.Line.{Line}
 use Rattle.cable.specs.Played.{Played, Sides, pair_of}
-use Rattle.cable.specs.Setting.{settings_by, sides_by}
-use Rattle.cable.specs.Scripted.{Scripted}
+use Rattle.cable_script.specs.Setting.{settings_by}
+use Rattle.cable_script.specs.declared.setting.SettingLine.{SettingLine}
+use Rattle.cable_script.specs.Scripted.{Scripted}
 use Rattle.cable.specs.Report.{report_of}
 
 -- an end with these settings and these entries, the newest first, over a tape that tells them where a fresh one tells; its spare
@@ -21,6 +22,10 @@ end_of g fresh entries = record { settings = g; entries = entries; tells = is_so
 
 abbrev pub IsEnd : Settings → Option (List Entry) → List Entry → Seen → Type 0
 IsEnd g fresh entries v = v ≡ record (end_of g fresh entries) { spare = v.spare }
+
+-- the settings of the two ends that setting lines make
+abbrev pub sides_by : List SettingLine → Sides
+sides_by lines = record { client = settings_by Client lines; server = settings_by Server lines }
 
 -- the two ends of a run of these lines under these settings, their entries the newest first: each list is a session's, the bytes of
 -- the two crossed, and what each end has handled is a prefix of what the other made

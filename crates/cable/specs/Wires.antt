@@ -1,5 +1,5 @@
 -- What the code of a cable keeps, and the two ends that it follows.
-use Rattle.std.specs.Prelude.{◌≡◌, ◌<◌, ◌≤◌, ℕ, Bool, [], ◌++◌, false, List, length, take, Option, Some, None}
+use Rattle.std.specs.Prelude.{◌≡◌, ◌≢◌, ◌<◌, ◌≤◌, ℕ, Bool, [], ◌++◌, false, List, length, take, Option, Some, None, IfSome}
 use Rattle.rs_wire.specs.declared.words.Side.{Side}
 use Rattle.rs_wire.specs.declared.words.Side.TheVariants.{Client, Server}
 use Rattle.rs_wire.specs.declared.settings.Settings.{Settings}
@@ -10,14 +10,14 @@ use Rattle.tape.specs.declared.answer.Answer.{Answer}
 use Rattle.tape.specs.declared.answer.Answer.TheVariants as answer
 use Rattle.session_model.specs.Frames.{drawn, due}
 use Rattle.session_model.specs.Legal.{Fair, IsPlain, Legal}
-use Rattle.session_model.specs.Joined.{refused}
+use Rattle.session_model.specs.Joined.{IsOpening, refused}
 use Rattle.session_core.specs.Seen.{Seen}
-use Rattle.cable.specs.declared.cable.Wire.{Wire}
+use Rattle.cable.specs.declared.wire.Wire.{Wire}
 use Rattle.cable.specs.declared.carrying.Most.{Most}
 use Rattle.cable.specs.declared.hearing.Crossing.{Crossing}
 use Rattle.cable.specs.declared.hearing.Known.{Known}
 use Rattle.cable.specs.declared.hearing.Known.TheVariants as known
-use Rattle.cable.specs.Played.{Ends, Gives, Sides, There, arrivals, arrives_up, bytes_down, frames_down, gave, moved}
+use Rattle.cable.specs.Played.{Ends, Gives, Link, Sides, There, arrivals, arrives_up, bytes_down, frames_down, gave, moved}
 use Rattle.cable.specs.Hearing.{Crosses, Grew, Nears}
 
 -- what is seen of a cable
@@ -25,6 +25,8 @@ pub record Wires : Type 0 where
   pub client : Seen
   pub server : Seen
   pub wire : Option Wire
+  -- the last connection that the server accepted and the client alone gave up
+  pub dropped : Option ℕ
 
 abbrev pub sides_of : Wires → Sides
 sides_of v = record { client = v.client.settings; server = v.server.settings }
@@ -82,6 +84,16 @@ abbrev pub WireAt : Option Wire → Wires → Ends → Type 0
 WireAt None v r = r.link ≡ None
 WireAt (Some w) v r = LinkAt w v r
 
+-- the last connection that the client alone gave up, once it gives up one of which the server knows this
+abbrev pub dropped_by : Known → Option ℕ → Option ℕ
+dropped_by (known.Accepted e) before = Some e
+dropped_by _ before = before
+
+-- an opening of the server, and none of the connection that joins the ends
+pub record IsLost (S : List Entry) (l : Option Link) (d : ℕ) : Type 0 where
+  pub opening : IsOpening S d
+  pub apart : (c : ℕ) → l ≢ Some (record { client = c; there = There.Accepted d })
+
 -- an end of a plain session: its answers are right, and whoever brought the events kept their conditions
 pub record IsPlainEnd (side : Side) (v : Seen) : Type 0 where
   pub side_is : v.settings.side ≡ side
@@ -96,6 +108,8 @@ pub record At (v : Wires) (r : Ends) : Type 0 where
   pub client : r.client ≡ v.client.entries
   pub server : r.server ≡ v.server.entries
   pub wire : WireAt v.wire v r
+  pub dropped : r.dropped ≡ v.dropped
+  pub lost : IfSome v.dropped (IsLost r.server r.link)
 
 -- it follows some ends
 abbrev pub IsAt : Wires → Type 0

@@ -9,7 +9,7 @@ ghost use Rattle.session_core.specs.Seen.{IsNoDrawEvent};
 ghost use Rattle.cable.specs.Played.{adds, an_item};
 ghost use Rattle.cable.specs.Hearing.{IsNoWant};
 
-use crate::ITEM_BYTE;
+use cable_script::ITEM_BYTE;
 use rs_wire::{Blob, Call, Message, OutOfMemory};
 use session_core::Session;
 use std::alloc::Global;

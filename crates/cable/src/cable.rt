@@ -1,48 +1,37 @@
-//! Two ends of a session, and the connection between them.
+//! Two ends of a session, and the lines that are played between them.
 
-ghost use Rattle.std.specs.Prelude.{◌≡◌, ◌<◌, ◌^◌, ◌||◌, [], None, false, IfOk, OnOk, length};
+ghost use Rattle.std.specs.Prelude.{◌≡◌, ◌<◌, ◌^◌, ◌||◌, None, IfOk, OnOk, length};
 ghost use Rattle.std.specs.List.{AllByRecursion};
-ghost use Rattle.rs_wire.specs.declared.words.Side.TheVariants.{Server};
-ghost use Rattle.rs_wire.specs.declared.settings.Settings.{Settings as Limits};
 ghost use Rattle.rs_wire.specs.Calls.{CanBeAsked};
-ghost use Rattle.cable.specs.Line.{IsLine};
-ghost use Rattle.cable.specs.Played.{Downs, Drains, Ends, PlaysLine, PlaysLines, Round, There, Ups, asks, asks_often, begins, cuts, cuts_there, nothing, opens};
-ghost use Rattle.cable.specs.Wires.{Arrives, At, Gave, IsAt, IsMoved, IsServerAt, Keeps, Reaches, ServerAt, sides_of, wire_of};
+ghost use Rattle.cable_script.specs.Line.{IsLine};
+ghost use Rattle.cable.specs.Played.{Downs, Drains, Ends, Lates, PlaysLine, PlaysLines, Round, Ups, asks, asks_often, begins, cuts, drops, nothing, opens, unless_linked};
+ghost use Rattle.cable.specs.Wires.{At, IsAt, IsMoved, Keeps, Reaches, sides_of};
 
 use crate::MOST_ROUNDS;
 use crate::bringing::{ask, connect, cut, item};
-use crate::carrying::{Most, carry, offer};
-use crate::hearing::{Crossing, Known, hear, meet};
-use crate::script::line::Line;
+use crate::carrying::{Most, carry};
+use crate::hearing::hear;
+use crate::wire::{Wire, arrive, cut_there, dropped_after, give, wire_of};
+use cable_script::Line;
 use rs_chunk::Reader;
 use rs_wire::{Call, OutOfMemory, Side};
 use session_core::Session;
 use std::alloc::Global;
 use std::marker::Model;
-use tape::{Answer, Tape};
+use tape::Tape;
 
 /// The most bytes of one draw.
 const ROOM: usize = 16_384;
 
-/// A connection, which the client opened.
-#[derive(Drop)]
-pub(crate) struct Wire {
-    /// Its number at the client.
-    pub client: u64,
-    /// What the server knows of it.
-    pub known: Known,
-    /// What crossed to the server.
-    pub up: Crossing,
-    /// What crossed to the client.
-    pub down: Crossing,
-}
-
-/// Two ends, and the connection that joins them, from the client's opening to its cut.
+/// Two ends, and the connection that joins them, from the client's opening until it is cut there.
 #[derive(Drop)]
 pub(crate) struct Cable<T: Tape> {
     client: Session<T>,
     server: Session<T>,
     wire: Option<Wire>,
+    /// The last connection that the server accepted and the client alone gave up: its number at the
+    /// server.
+    dropped: Option<u64>,
 }
 
 impl<T: Tape> Model for Cable<T> {
@@ -50,7 +39,12 @@ impl<T: Tape> Model for Cable<T> {
 
     ghost Value = { Wires };
 
-    ghost view = { λ c. record { client = c.client; server = c.server; wire = c.wire } };
+    ghost view = { λ c. record {
+      client = c.client;
+      server = c.server;
+      wire = c.wire;
+      dropped = c.dropped;
+    } };
 }
 
 fn any(first: bool, second: bool) -> bool
@@ -59,125 +53,21 @@ fn any(first: bool, second: bool) -> bool
     first || second
 }
 
-fn crossing(alloc: Global, max_in: u32) -> Crossing
-    ensures { result ≡ record { rest = record { bytes = []; max_in = max_in }; over = false } }
-{
-    Crossing {
-        rest: Reader::new(alloc, max_in),
-        over: false,
-    }
-}
-
-// The connection that the client's answer opens.
-fn wire_of(alloc: Global, answer: &Answer, up_max: u32, down_max: u32) -> Option<Wire>
-    ensures { result ≡ wire_of answer.now up_max down_max }
-{
-    let Answer::Opened(client) = answer else {
-        return None;
-    };
-    Some(Wire {
-        client: *client,
-        known: Known::Nothing,
-        up: crossing(alloc, up_max),
-        down: crossing(alloc, down_max),
-    })
-}
-
-// The first frame opens the connection at the server, which then hears what crossed after it:
-// whether it heard something.
-fn greet<T: Tape>(
-    alloc: Global,
-    server: &mut Session<T>,
-    wire: &mut Wire,
-) -> Result<bool, OutOfMemory>
-    requires side { server.old.settings.side ≡ Server }
-    requires at { (g : Limits) × (r : Ends) × ServerAt g r There.Nowhere server.old wire.old }
-    ensures server { server.new ≡
-        record server.old { entries = server.new.entries; spare = server.new.spare } }
-    ensures arrived { (g : Limits) (r : Ends) → ServerAt g r There.Nowhere server.old wire.old →
-        IfOk result (Arrives g r There.Nowhere server.old server.new wire.old wire.new) }
-{
-    wire.known = meet(alloc, server, &mut wire.up)?;
-    match wire.known {
-        Known::Nothing => Ok(false),
-        Known::Accepted(conn) => {
-            hear(alloc, server, conn, &mut wire.up)?;
-            Ok(true)
-        }
-        Known::Refused(_) => Ok(true),
-    }
-}
-
-// The server hears what crossed, and nothing on a connection that it refused: whether it heard
-// something.
-fn arrive<T: Tape>(
-    alloc: Global,
-    server: &mut Session<T>,
-    wire: &mut Wire,
-) -> Result<bool, OutOfMemory>
-    requires side { server.old.settings.side ≡ Server }
-    requires at { IsServerAt server.old wire.old }
-    ensures server { server.new ≡
-        record server.old { entries = server.new.entries; spare = server.new.spare } }
-    ensures arrived { (g : Limits) (r : Ends) (t : There) → ServerAt g r t server.old wire.old →
-        IfOk result (Arrives g r t server.old server.new wire.old wire.new) }
-{
-    match wire.known {
-        Known::Nothing => greet(alloc, server, wire),
-        Known::Accepted(conn) => hear(alloc, server, conn, &mut wire.up),
-        Known::Refused(_) => {
-            wire.up.rest = Reader::new(alloc, 0);
-            Ok(false)
-        }
-    }
-}
-
-// The server gives what it can, and lets it cross: whether it gave something.
-fn give<T: Tape>(
-    server: &mut Session<T>,
-    wire: &mut Wire,
-    most: Most,
-    buffer: &mut [u8],
-) -> Result<bool, OutOfMemory>
-    requires some { 0 < length buffer.old }
-    requires few { length buffer.old < 2 ^ 32 }
-    requires at { IsServerAt server.old wire.old }
-    ensures server { server.new ≡
-        record server.old { entries = server.new.entries; spare = server.new.spare } }
-    ensures gave { (g : Limits) (r : Ends) (t : There) → ServerAt g r t server.old wire.old →
-        IfOk result (Gave most g r t server.old server.new wire.old wire.new) }
-{
-    match &mut wire.known {
-        Known::Nothing => Ok(false),
-        Known::Accepted(conn) => carry(server, *conn, most, buffer, &mut wire.down.rest),
-        Known::Refused(left) => offer(left, most, &mut wire.down.rest),
-    }
-}
-
-// The server cuts a connection that it accepted and that is live.
-fn cut_there<T: Tape>(server: &mut Session<T>, wire: &Wire) -> Result<(), OutOfMemory>
-    requires at { IsServerAt server.old wire.now }
-    ensures server { server.new ≡
-        record server.old { entries = server.new.entries; spare = server.new.spare } }
-    ensures cut { (g : Limits) (r : Ends) (t : There) → ServerAt g r t server.old wire.now →
-        OnOk result (server.new.entries ≡
-        cuts_there server.old.settings t server.old.entries) }
-{
-    match wire.known {
-        Known::Accepted(conn) if server.live() == conn => cut(server, conn),
-        _ => Ok(()),
-    }
-}
-
 impl<T: Tape> Cable<T> {
     /// Two ends that no connection joins.
     pub fn new(client: Session<T>, server: Session<T>) -> Cable<T>
-        ensures { result ≡ record { client = client; server = server; wire = None } }
+        ensures { result ≡ record {
+          client = client;
+          server = server;
+          wire = None;
+          dropped = None;
+        } }
     {
         Cable {
             client,
             server,
             wire: None,
+            dropped: None,
         }
     }
 
@@ -189,13 +79,16 @@ impl<T: Tape> Cable<T> {
         (self.client, self.server)
     }
 
-    // The client opens the first connection.
-    fn open_first(&mut self, alloc: Global) -> Result<(), OutOfMemory>
-        requires at { At self.old nothing }
+    // A line `open`, where no connection joins the ends.
+    fn open(&mut self, alloc: Global) -> Result<(), OutOfMemory>
+        requires at { IsAt self.old }
         ensures ends { Keeps self.old self.new }
-        ensures opened { OnOk result
-            (Reaches self.new (λ r. r ≡ opens (sides_of self.old) nothing)) }
+        ensures played { (r : Ends) → At self.old r → OnOk result (Reaches self.new
+            (λ r'. r' ≡ unless_linked r.link r (opens (sides_of self.old) r))) }
     {
+        if self.wire.is_some() {
+            return Ok(());
+        }
         let answer = connect(&mut self.client)?;
         self.client.legal();
         let up_max = self.server.settings().settings().max_in;
@@ -330,6 +223,40 @@ impl<T: Tape> Cable<T> {
         Ok(())
     }
 
+    // A line `drop`: the connection is gone at the client alone.
+    fn give_up(&mut self) -> Result<(), OutOfMemory>
+        requires at { IsAt self.old }
+        ensures ends { Keeps self.old self.new }
+        ensures played { (r : Ends) → At self.old r →
+            OnOk result (Reaches self.new (λ r'. r' ≡ drops (sides_of self.old) r)) }
+    {
+        let Some(wire) = self.wire.take() else {
+            return Ok(());
+        };
+        cut(&mut self.client, wire.client)?;
+        self.client.legal();
+        self.dropped = dropped_after(&wire, self.dropped);
+        Ok(())
+    }
+
+    // A line `late`: what the server draws on the connection that was dropped last is lost.
+    fn late(&mut self, alloc: Global, most: Most, buffer: &mut [u8]) -> Result<(), OutOfMemory>
+        requires some { 0 < length buffer.old }
+        requires few { length buffer.old < 2 ^ 32 }
+        requires at { IsAt self.old }
+        ensures ends { Keeps self.old self.new }
+        ensures played { (r : Ends) → At self.old r →
+            OnOk result (Reaches self.new (Lates (sides_of self.old) most r)) }
+    {
+        let Some(conn) = self.dropped else {
+            return Ok(());
+        };
+        let mut lost = Reader::new(alloc, 0);
+        carry(&mut self.server, conn, most, buffer, &mut lost)?;
+        self.server.legal();
+        Ok(())
+    }
+
     fn line(&mut self, alloc: Global, line: &Line, buffer: &mut [u8]) -> Result<(), OutOfMemory>
         requires some { 0 < length buffer.old }
         requires few { length buffer.old < 2 ^ 32 }
@@ -360,6 +287,9 @@ impl<T: Tape> Cable<T> {
             }
             Line::Drain => self.drain(alloc, buffer),
             Line::Cut => self.cut(),
+            Line::Open => self.open(alloc),
+            Line::Drop => self.give_up(),
+            Line::Late { most } => self.late(alloc, Most::Bytes(most.get()), buffer),
         }
     }
 
@@ -390,7 +320,7 @@ impl<T: Tape> Cable<T> {
         if lines.is_empty() {
             return Ok(());
         }
-        self.open_first(alloc)?;
+        self.open(alloc)?;
         let mut buffer = Vec::new(alloc);
         buffer.resize(ROOM, 0)?;
         self.all(alloc, lines, &mut buffer)

@@ -2,10 +2,10 @@
 
 ghost use Rattle.std.specs.Prelude.{◌≡◌, ◌+◌, ◌<◌, [], IfOk, IfSome, OnErr, OnOk};
 ghost use Rattle.session_model.specs.Legal.{IsPlain};
-ghost use Rattle.cable.specs.Setting.{settings_by};
+ghost use Rattle.cable_script.specs.Setting.{settings_by};
 ghost use Rattle.cable.specs.Shelves.{GotTapes, IsEnd};
 
-use crate::script::Script;
+use cable_script::Script;
 use rs_wire::{Checked, OutOfMemory, Settings, Side, check};
 use session_core::Session;
 use std::alloc::Global;
@@ -18,7 +18,7 @@ pub fn settings_of(alloc: Global, script: &Script, side: Side) -> Result<Checked
 {
     let mut settings = Settings::usual(alloc, side)?;
     for line in script.settings() {
-        line.apply(side, &mut settings);
+        line.apply(alloc, side, &mut settings)?;
     }
     match check(settings) {
         Ok(settings) => Ok(settings),

@@ -7,7 +7,6 @@ ghost use Rattle.cable.specs.Report.{counts_of, report_of, told_lines};
 mod answers;
 mod entries;
 mod events;
-pub(crate) mod text;
 
 use crate::reports::entries::{put_counts, put_entries};
 use crate::run::Ran;

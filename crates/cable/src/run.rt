@@ -10,7 +10,7 @@ ghost use Rattle.cable.specs.Played.{Played, pair_of};
 
 use crate::cable::Cable;
 use crate::laws::played_laws;
-use crate::script::Script;
+use cable_script::Script;
 use session_core::Session;
 use std::alloc::Global;
 use tape::Tape;
@@ -26,8 +26,8 @@ pub struct Ran<T: Tape> {
     pub want: bool,
 }
 
-/// Runs a script between a client and a server of which nothing happened yet, both without resumption,
-/// leases and fragments. The client opens the connection before the first line; every caller is
+/// Runs a script between a client and a server of which nothing happened yet, both without
+/// leases. The client opens the connection before the first line; every caller is
 /// number 0.
 ///
 /// Where `want` is false, the script was played to its end.

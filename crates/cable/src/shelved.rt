@@ -7,7 +7,7 @@ ghost use Rattle.cable.specs.Shelves.{GotTapes, Reports};
 use crate::ends::both_ends;
 use crate::reports::report;
 use crate::run::{Ran, scheduled};
-use crate::script::Script;
+use cable_script::Script;
 use rs_wire::OutOfMemory;
 use std::alloc::Global;
 use tape::{Shelf, Tape};

@@ -1,6 +1,6 @@
 -- Positions: bytes of resumable frames, without their length fields (RSocket 1.0, "Resuming Operation"). The oldest
 -- frame is the first. What is defined by a length `len` is so of frames and of their bytes alike.
-use Rattle.std.specs.Prelude.{◌≡◌, ℕ, ◌+◌, ◌-◌, ◌==◌, nat_le, max, if◌then◌else◌, List, [], ◌∷◌, take}
+use Rattle.std.specs.Prelude.{◌≡◌, ℕ, ◌+◌, ◌-◌, ◌==◌, ◌||◌, ◌&&◌, Bool, nat_le, max, if◌then◌else◌, List, [], ◌∷◌, take}
 use Rattle.rs_frame.specs.declared.frame.Frame.{Frame}
 use Rattle.rs_frame.specs.Spelling.{length_of}
 
@@ -12,6 +12,11 @@ pos_by len (f ∷ fs) = len f + pos_by len fs
 -- the position after some first frames
 abbrev pub IsBoundaryBy : {A : Type 0} → (A → ℕ) → List A → ℕ → Type 0
 IsBoundaryBy len fs p = (n : ℕ) × (pos_by len (take n fs) ≡ p)
+
+-- there is a boundary at the position
+unfoldable pub is_boundary_by : {A : Type 0} → (A → ℕ) → List A → ℕ → Bool
+is_boundary_by len [] p = p == 0
+is_boundary_by len (f ∷ fs) p = (p == 0) || (nat_le (len f) p && is_boundary_by len fs (p - len f))
 
 -- the greatest boundary that is not above the position up to which the peer is known to have them
 unfoldable pub acked_by : {A : Type 0} → (A → ℕ) → List A → ℕ → ℕ
@@ -35,6 +40,9 @@ pos fs = pos_by length_of fs
 
 abbrev pub IsBoundary : List Frame → ℕ → Type 0
 IsBoundary fs p = IsBoundaryBy length_of fs p
+
+abbrev pub is_boundary : List Frame → ℕ → Bool
+is_boundary fs p = is_boundary_by length_of fs p
 
 abbrev pub acked : List Frame → ℕ → ℕ
 acked fs told = acked_by length_of fs told

@@ -1,13 +1,15 @@
 //! Laws of positions.
 
-ghost use Rattle.std.specs.Prelude.{◌≡◌, ◌+◌, ◌-◌, ◌≤◌, ◌++◌, ℕ, List, take, drop};
+ghost use Rattle.std.specs.Prelude.{◌≡◌, ◌+◌, ◌-◌, ◌≤◌, ◌↔◌, ◌++◌, IsTrue, ℕ, List, take, drop};
 ghost use Rattle.rs_frame.specs.declared.frame.Frame.{Frame};
-ghost use Rattle.position.specs.Boundaries.{pos, IsBoundary, acked, least_boundary, first, frames_from};
+ghost use Rattle.position.specs.Boundaries.{pos, is_boundary, IsBoundary, acked, least_boundary, first, frames_from};
 
 /// What holds of the positions of all frames. The call does nothing; its clauses are the laws.
 pub fn boundary_laws()
     // Positions add up.
     ensures sum { (fs gs : List Frame) → pos (fs ++ gs) ≡ pos fs + pos gs }
+    // The test says where there is a boundary.
+    ensures test { (fs : List Frame) (p : ℕ) → IsTrue (is_boundary fs p) ↔ IsBoundary fs p }
     // What is acknowledged is the greatest boundary that is not above what the peer has.
     ensures acked_boundary { (fs : List Frame) (told : ℕ) → IsBoundary fs (acked fs told) }
     ensures acked_at_most { (fs : List Frame) (told : ℕ) → acked fs told ≤ told }

@@ -165,8 +165,9 @@ impl Replay {
         fill(buffer, &framed[skip as usize..])
     }
 
-    // The held frames from a held boundary on, each after its length field.
-    fn framed(&self, from: u64) -> &[u8]
+    /// The held frames from a held boundary on, each after its length field. It takes the time of a
+    /// binary search among the frames.
+    pub fn framed(&self, from: u64) -> &[u8]
         requires { IsHeldBoundary self.now.held from }
         ensures { result.now ≡ framed_from self.now.held from }
     {

@@ -180,6 +180,9 @@ pub enum Cause {
     /// The peer broke a rule.
     #[error("the peer broke a rule: {0}")]
     Broken(Rule),
+    /// The session could not be resumed: the position of RESUME_OK was refused.
+    #[error("the session cannot be resumed: {0}")]
+    Resume(Gone),
     /// The connection was cut, and resumption was not agreed.
     #[error("the connection was cut")]
     Cut,

@@ -2,14 +2,14 @@
 use Rattle.std.proofs.Common.{true, false, not, append_assoc, refl, ◌≡◌, ℕ, ◌+◌, ◌≤◌, List, [], ◌∷◌, ◌++◌, length, map, Option, inl, inr, sym, ap, subst, ◌∙◌, arith}
 use Rattle.std.specs.List.{AllByRecursion}
 use Rattle.std.proofs.lemmas.List.{length-append}
-use Rattle.cable.specs.declared.script.line.Line.{Line}
-use Rattle.cable.specs.declared.script.ScriptFault.TheVariants.{Line as WrongLine}
-use Rattle.cable.specs.Line.{IsLine, text_of}
-use Rattle.cable.specs.declared.script.setting.SettingLine.{SettingLine}
-use Rattle.cable.specs.Setting.{IsSettingLine, setting_text}
-use Rattle.cable.specs.Scripted.{Scripted}
-use Rattle.cable.specs.Script.{IsFault, IsScript}
-use Rattle.cable.proofs.OneScript.{none_wrong}
+use Rattle.cable_script.specs.declared.line.Line.{Line}
+use Rattle.cable_script.specs.declared.script.ScriptFault.TheVariants.{Line as WrongLine}
+use Rattle.cable_script.specs.Line.{IsLine, text_of}
+use Rattle.cable_script.specs.declared.setting.SettingLine.{SettingLine}
+use Rattle.cable_script.specs.Setting.{IsSettingLine, setting_text}
+use Rattle.cable_script.specs.Scripted.{Scripted}
+use Rattle.cable_script.specs.Script.{IsFault, IsScript}
+use Rattle.cable_script.proofs.OneScript.{none_wrong}
 use Rattle.plain_text.specs.Lines.{lines_of}
 use Rattle.std.proofs.lemmas.List.Elements.{filter-append}
 use Rattle.capture.specs.declared.lines.BadFrame.{BadFrame}

@@ -1,8 +1,8 @@
 -- What was read is all of the input.
 use Rattle.std.proofs.Common.{◌≡◌, ℕ, ◌≤◌, ◌+◌, List, [], ◌++◌, length, Option, Some, sym, ap, subst, ◌∙◌, append-nil, ⊎_elim, arith}
 use Rattle.outside.specs.Streams.{ByteStream}
-use Rattle.cable.specs.Scripted.{Scripted}
-use Rattle.cable.specs.Script.{IsScript}
+use Rattle.cable_script.specs.Scripted.{Scripted}
+use Rattle.cable_script.specs.Script.{IsScript}
 use Rattle.rsocket_run.specs.Run.{WasScript}
 use Rattle.rsocket_run.specs.Streams.{IsReadTo}
 

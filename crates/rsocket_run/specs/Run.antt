@@ -5,9 +5,9 @@ use Rattle.outside.specs.Streams.{ByteStream}
 use Rattle.rs_frame.specs.declared.frame.Frame.{Frame}
 use Rattle.rs_frame.specs.Framed.{framed_all}
 use Rattle.tape.specs.declared.entry.Entry.{Entry}
-use Rattle.cable.specs.Scripted.{Scripted}
-use Rattle.cable.specs.Script.{IsScript, IsFault}
-use Rattle.cable.specs.declared.script.ScriptFault.TheVariants.{Line as WrongLine}
+use Rattle.cable_script.specs.Scripted.{Scripted}
+use Rattle.cable_script.specs.Script.{IsScript, IsFault}
+use Rattle.cable_script.specs.declared.script.ScriptFault.TheVariants.{Line as WrongLine}
 use Rattle.cable.specs.Shelves.{GotTapes, Reports}
 use Rattle.capture.specs.Captured.{IsBadAt, IsCapture, all_lines}
 use Rattle.capture.specs.Text.{IsTextOf, IsWrongLine}

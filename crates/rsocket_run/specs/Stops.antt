@@ -2,8 +2,8 @@
 use Rattle.std.specs.Prelude.{◌≡◌, ℕ, ◌⊎◌, List, [], ◌++◌, Option, Result, Ok, Err, IfErr}
 use Rattle.outside.specs.Causes.{one_more}
 use Rattle.outside.specs.Streams.{ByteStream}
-use Rattle.cable.specs.declared.script.ScriptFault.{ScriptFault}
-use Rattle.cable.specs.declared.script.ScriptFault.TheVariants as scripts
+use Rattle.cable_script.specs.declared.script.ScriptFault.{ScriptFault}
+use Rattle.cable_script.specs.declared.script.ScriptFault.TheVariants as scripts
 use Rattle.capture.specs.declared.lines.CaptureFault.{CaptureFault}
 use Rattle.capture.specs.declared.lines.CaptureFault.TheVariants as captures
 use Rattle.capture.specs.declared.back.LineFault.{LineFault}

@@ -25,6 +25,8 @@ mod frames_tests;
 #[cfg(test)]
 mod order_tests;
 #[cfg(test)]
+mod resume_tests;
+#[cfg(test)]
 mod script_tests;
 #[cfg(test)]
 mod settings_tests;

@@ -5,7 +5,7 @@ ghost use Rattle.rsocket_run.specs.Stops.{of_capture, of_input, of_script, of_te
 ghost use Rattle.rsocket_run.specs.declared.stop.Stop.TheVariants as stops;
 
 use crate::input::Unread;
-use cable::ScriptFault;
+use cable_script::ScriptFault;
 use capture::{BadFrame, CaptureFault, LineFault};
 use command_line::WordsFault;
 use rs_wire::OutOfMemory;

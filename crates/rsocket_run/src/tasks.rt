@@ -8,7 +8,8 @@ ghost use Rattle.rsocket_run.specs.Streams.{HasRead};
 
 use crate::input::read_to;
 use crate::stop::Stop;
-use cable::{Script, play};
+use cable::play;
+use cable_script::Script;
 use capture::{from_lines, to_lines};
 use outside::Source;
 use std::alloc::Global;

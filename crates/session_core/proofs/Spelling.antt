@@ -1,23 +1,32 @@
 -- The frames that are made can be spelled.
-use Rattle.std.proofs.Common.{◌<◌, ◌^◌, Option, Some, None, IfSome}
+use Rattle.std.proofs.Common.{◌<◌, ◌^◌, Option, Some, None, IfSome, ℕ, true, false, cond, List, [], ◌∷◌, arith}
 use Rattle.std.specs.List.{AllByRecursion}
+use Rattle.rs_wire.specs.Settings.{IsChecked}
+use Rattle.rs_wire.specs.Words.{gone_word, rule_word}
 use Rattle.rs_wire.specs.declared.settings.Settings.{Settings}
 use Rattle.rs_wire.specs.declared.call.Call.TheVariants as call
+use Rattle.rs_frame.specs.declared.frame.Frame.{Frame}
+use Rattle.rs_frame.specs.declared.frame.Frame.TheVariants as frame
 use Rattle.rs_frame.specs.Spelling.{IsSpellable}
+use Rattle.replay_buffer.specs.Held.{IsHeldBoundary}
 use Rattle.tape.specs.declared.event.Event.{Event}
 use Rattle.tape.specs.declared.event.Event.TheVariants as event
 use Rattle.tape.specs.declared.answer.Answer.{Answer}
 use Rattle.tape.specs.declared.answer.Answer.TheVariants as answer
 use Rattle.interactions.specs.Seen.{known_to}
-use Rattle.session_model.specs.Frames.{makes, spoken}
+use Rattle.session_model.specs.Frames.{closing_error, makes, resume_frame, setup_frame, spoken}
 use Rattle.session_model.specs.Legal.{IsFair, IsPlain}
 use Rattle.session_model.specs.Means.{Means}
+use Rattle.session_model.proofs.Beside.{closing_spellable, gone_short, ok_spellable, resume_spellable, setup_spellable, words_short}
 use Rattle.session_model.proofs.Ids.{IdsFit, started_fits}
 use Rattle.session_model.proofs.Refusals.{unrefused}
 use Rattle.session_model.proofs.Spelled.{IsWhole, done_spellable, makes_spellable, spoken_spellable, spoken_whole}
 use Rattle.session_core.specs.declared.state.State.{State}
-use Rattle.session_core.specs.Fits.{facts_of}
-use Rattle.session_core.specs.Outgoing.{CanGo, frame_made}
+use Rattle.session_core.specs.Fits.{ArePositionsBelow, facts_of}
+use Rattle.session_core.specs.Kept.{again_from}
+use Rattle.session_core.specs.Outgoing.{CanGo, frame_made, greeting, notices}
+use Rattle.session_core.proofs.Keeping.{held_test}
+use Rattle.session_core.proofs.Agreeing.{IsAccepted, again_accepted}
 
 -- the ids of the streams have 31 bits
 pub made_spelled : (g : Settings) (s : State) (e : Event) (a : Answer) → IsPlain g → (known_to s.streams).even < 2 ^ 31 → (known_to s.streams).odd < 2 ^ 31 → IsFair g e
@@ -45,3 +54,31 @@ frame_goes g s (event.Asked asked) answer.Done plain even odd fair means =
     (spoken_whole (known_to s.streams) 0 asked)
 frame_goes g s e answer.Done plain even odd fair means = absurd means
 frame_goes g s e a plain even odd fair means = tt
+
+-- the frames of the connection
+greeting_spelled : (g : Settings) (s : State) (e : Event) → IsChecked g → ArePositionsBelow g s → AllByRecursion IsSpellable (greeting g (facts_of s) e)
+greeting_spelled g s (event.Open None taken) checked below = (
+  elim s.begun as (λ v. IsSpellable (cond v (resume_frame g s.handled.position s.replay.held.first) (setup_frame g))) [
+    | true ↦ resume_spellable g s.handled.position s.replay.held.first checked below.handled below.first
+    | false ↦ setup_spellable g checked
+  ],
+  tt,
+)
+greeting_spelled g s (event.Open (Some (frame.Resume r)) taken) checked below = (ok_spellable g s.handled.position checked below.handled, tt)
+greeting_spelled g s e checked below = tt
+
+pub notices_spelled : (g : Settings) (s : State) (e : Event) (a : Answer) → IsPlain g → ArePositionsBelow g s → AllByRecursion IsSpellable (notices g (facts_of s) a e)
+notices_spelled g s e (answer.Opened n) plain below = greeting_spelled g s e plain.checked below
+notices_spelled g s e (answer.Violation r) plain below = (closing_spellable (rule_word r) (words_short r), tt)
+notices_spelled g s (event.Came conn f) (answer.ResumeRefused why) plain below = (closing_spellable (gone_word why) (gone_short why), tt)
+notices_spelled g s (event.Asked call.Close) answer.Done plain below =
+    elim s.carrying as (λ v. AllByRecursion IsSpellable (cond {A = List Frame} v (closing_error [] ∷ []) [])) [ true ↦ (closing_spellable [] (omega arith), tt) | false ↦ tt ]
+notices_spelled g s e a plain below = tt
+
+-- frames are sent again from a held boundary on
+held_where : (s : State) (o : Option ℕ) → IfSome o (IsAccepted (facts_of s)) → IfSome o (IsHeldBoundary s.replay.held)
+held_where s None is = tt
+held_where s (Some p) is = held_test s.replay.held p is.boundary
+
+pub again_held : (g : Settings) (s : State) (e : Event) (a : Answer) → Means g (facts_of s) e a → IfSome (again_from a e) (IsHeldBoundary s.replay.held)
+again_held g s e a means = held_where s (again_from a e) (again_accepted g (facts_of s) a e means)

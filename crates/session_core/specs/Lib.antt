@@ -11,3 +11,5 @@ pub mod Asked
 pub mod Speaking
 pub mod Gathering
 pub mod Sizes
+pub mod Kept
+pub mod Line

@@ -1,7 +1,10 @@
 -- The frames of a call that is accepted.
-use Rattle.std.specs.Prelude.{◌≡◌, ℕ, false, List, [], Option, None}
+use Rattle.std.specs.Prelude.{◌≡◌, ℕ, false, List, [], Option, None, if◌then◌else◌, ◌∷◌, Some}
+use Rattle.rs_wire.specs.Words.{gone_word, rule_word}
+use Rattle.rs_wire.specs.declared.call.Call.TheVariants as call
 use Rattle.rs_wire.specs.declared.settings.Settings.{Settings}
 use Rattle.rs_frame.specs.declared.frame.Frame.{Frame}
+use Rattle.rs_frame.specs.declared.frame.Frame.TheVariants as frame
 use Rattle.rs_frame.specs.Spelling.{IsSpellable}
 use Rattle.tape.specs.declared.event.Event.{Event}
 use Rattle.tape.specs.declared.event.Event.TheVariants as event
@@ -9,7 +12,22 @@ use Rattle.tape.specs.declared.answer.Answer.{Answer}
 use Rattle.tape.specs.declared.answer.Answer.TheVariants as answer
 use Rattle.stream_model.specs.Known.{Known}
 use Rattle.fragment.specs.Splitting.{follows_of}
-use Rattle.session_model.specs.Frames.{sent_as, spoken}
+use Rattle.session_model.specs.Answers.{Facts}
+use Rattle.session_model.specs.Frames.{closing_error, resume_frame, sent_as, setup_frame, spoken}
+
+-- the frame that an accepted opening begins with
+abbrev pub greeting : Settings → Facts → Event → List Frame
+greeting g t (event.Open None taken) = (if t.begun then resume_frame g t.handled.position t.first else setup_frame g) ∷ []
+greeting g t (event.Open (Some (frame.Resume r)) taken) = frame.ResumeOk t.handled.position ∷ []
+greeting g t _ = []
+
+-- the frames of the connection that an event so answered puts in line, which no position counts
+abbrev pub notices : Settings → Facts → Answer → Event → List Frame
+notices g t (answer.Opened n) e = greeting g t e
+notices g t (answer.Violation rule) e = closing_error (rule_word rule) ∷ []
+notices g t (answer.ResumeRefused gone) (event.Came conn f) = closing_error (gone_word gone) ∷ []
+notices g t answer.Done (event.Asked call.Close) = if t.carrying then closing_error [] ∷ [] else []
+notices g t _ e = []
 
 -- the frames of a call
 abbrev pub called : Settings → Known → ℕ → Event → List Frame

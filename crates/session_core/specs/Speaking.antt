@@ -20,6 +20,7 @@ use Rattle.stream_model.specs.Arriving.{CanAct, CanArrive, effect_by, heard, sai
 use Rattle.fragment.specs.Joining.{Gathered}
 use Rattle.reassembly.specs.Gathering.{ReassemblyView}
 use Rattle.interactions.specs.Seen.{Seen, known_to, stream_of_call}
+use Rattle.replay_buffer.specs.Held.{Spare}
 use Rattle.session_model.specs.Streams.{arrival_in}
 use Rattle.session_core.specs.declared.state.State.{State}
 
@@ -67,9 +68,9 @@ abbrev pub FindsRoom : Option ℕ → Option ℕ → Type 0
 FindsRoom None ready = Unit {0}
 FindsRoom (Some s) ready = ready ≡ Some s
 
--- all is as before, but for the room that was made on the streams and for parts
-abbrev pub with_room : State → Option ℕ → ReassemblyView → State
-with_room s ready parts = record s { streams = record s.streams { ready = ready }; parts = parts }
+-- all is as before, but for the room that was made on the streams, for parts and for frames that are kept
+abbrev pub with_room : State → Option ℕ → ReassemblyView → Spare → State
+with_room s ready parts spare = record s { streams = record s.streams { ready = ready }; parts = parts; replay = record s.replay { spare = spare } }
 
 abbrev pub IsNoRule : Effect → Type 0
 IsNoRule (effect.Broken rule) = ⊥

@@ -70,7 +70,7 @@ fn find_full(settings: &Checked, state: &State, size: SplitSize) -> bool
         find_full settings.now (facts_of state.now) fs }
 {
     let bytes = 3 * size.frames + size.bytes;
-    state.is_carrying() && state.queue.len() + bytes > settings.out_limit()
+    state.carrying && state.queue.len() + bytes > settings.out_limit()
 }
 
 // Frames of this size can't be made.

@@ -4,12 +4,13 @@ ghost use Rattle.std.specs.Prelude.{◌≡◌, ◌&&◌, if◌then◌else◌, na
 ghost use Rattle.rs_frame.specs.Spelling.{IsSpellable};
 ghost use Rattle.interactions.specs.Seen.{known_to};
 ghost use Rattle.session_model.specs.Streams.{is_turned_away};
-ghost use Rattle.session_model.specs.Answers.{answer_spends, breaks_credit, broken_rule, peer_error, spends, to_frame, unknown_type};
+ghost use Rattle.session_model.specs.Answers.{answer_spends, breaks_credit, broken_rule, peer_error, rule_now, spends, to_frame, to_known, unknown_type, waiting_rule};
 ghost use Rattle.rs_wire.specs.declared.settings.Settings.{Settings};
 ghost use Rattle.session_core.specs.Came.{IsPayload};
 ghost use Rattle.session_core.specs.Fits.{AreLimits, HasRoom, facts_of};
 
 use crate::judge::is_live;
+use crate::resuming::to_resume_ok;
 use crate::state::State;
 use interactions::Streams;
 use rs_frame::{Frame, Request};
@@ -175,6 +176,48 @@ fn broken_rule(settings: &Checked, state: &State, frame: &Frame) -> Option<Rule>
     }
 }
 
+// The least rule that a frame breaks where RESUME_OK is waited for.
+fn waiting_rule(frame: &Frame) -> Rule
+    ensures { Some result ≡ waiting_rule frame.now }
+{
+    let unknown = match frame {
+        Frame::Unknown { number, flags, .. } => unknown_type(*number, *flags),
+        Frame::Ext { flags, .. } => unknown_type(EXTENSION, *flags),
+        _ => None,
+    };
+    unknown.unwrap_or(Rule::NotNow)
+}
+
+// The least rule that a frame breaks on the live connection, which carries or waits for RESUME_OK.
+fn rule_now(settings: &Checked, state: &State, frame: &Frame) -> Option<Rule>
+    requires room { HasRoom state.now }
+    requires limits { AreLimits settings.now state.now }
+    requires spellable { IsSpellable frame.now }
+    ensures { result ≡ rule_now settings.now (facts_of state.now) frame.now }
+{
+    if state.carrying {
+        return broken_rule(settings, state, frame);
+    }
+    Some(waiting_rule(frame))
+}
+
+// The answer to a frame that is no ERROR on stream 0, where the queue has room for what answers it.
+fn to_known(settings: &Checked, state: &State, frame: &Frame) -> Answer
+    requires room { HasRoom state.now }
+    requires limits { AreLimits settings.now state.now }
+    requires spellable { IsSpellable frame.now }
+    ensures { result ≡ to_known settings.now (facts_of state.now) frame.now }
+{
+    match frame {
+        Frame::ResumeOk { .. } if state.carrying => Answer::Violation(Rule::NotNow),
+        Frame::ResumeOk { position } => to_resume_ok(state, *position),
+        _ => match rule_now(settings, state, frame) {
+            Some(rule) => Answer::Violation(rule),
+            None => Answer::Handled,
+        },
+    }
+}
+
 // The code of an ERROR on stream 0, which closes the session.
 fn peer_error(frame: &Frame) -> Option<u32>
     ensures { result ≡ peer_error frame.now }
@@ -209,8 +252,5 @@ pub fn to_frame(settings: &Checked, state: &State, conn: u64, frame: &Frame) -> 
     if let Some(code) = peer_error(frame) {
         return Answer::PeerError(code);
     }
-    match broken_rule(settings, state, frame) {
-        Some(rule) => Answer::Violation(rule),
-        None => Answer::Handled,
-    }
+    to_known(settings, state, frame)
 }

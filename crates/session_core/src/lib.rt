@@ -34,9 +34,11 @@
 //!
 //! Built are SETUP and the four interactions with credit, cancel, errors and fragments: a request or a
 //! payload that is longer than the mtu goes out in fragments, and what comes in fragments is taken in
-//! once it is whole (RSocket 1.0, "Fragmentation and Reassembly"). Frames of unknown types are ignored
-//! where they may be. Resumption, leases, keepalive and metadata push are left out, and frames that
-//! belong to them are answered as ones that may not come now. [`refusal_frame`] is what a server gives on
+//! once it is whole (RSocket 1.0, "Fragmentation and Reassembly"). Where resumption is agreed, a session
+//! outlives its connection: the frames made that the peer may not have handled are held, as many as the
+//! settings allow, and go out again on the next one from the position that the peer tells (RSocket 1.0,
+//! "Resuming Operation"). Frames of unknown types are ignored where they may be. Leases, keepalive and
+//! metadata push are left out, and frames that belong to them are answered as ones that may not come now. [`refusal_frame`] is what a server gives on
 //! a connection that it refuses.
 #![tactic(auto)]
 
@@ -48,9 +50,14 @@ mod counts;
 mod gathering;
 mod history;
 mod judge;
+mod kept;
+mod life;
+mod line;
+mod notices;
 mod outgoing;
 mod queue;
 mod refusal;
+mod resuming;
 mod session;
 mod sizes;
 mod speak;

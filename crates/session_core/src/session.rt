@@ -34,13 +34,17 @@ const FULL: u64 = 1 << 63;
 ///    +-----------+                      +-----------------------+
 ///          |                               |  Came or Bad on n: Violation(rule),
 ///          |  Open by a wrong first        |  PeerError(code)
-///          |  frame: SetupRefused(fault)   |  Cut of n: Parted
+///          |  frame: SetupRefused(fault)   |  Cut of n: Parted, without resumption
 ///          |  Close: Done                  |  Close: Done
 ///          v                               v
 ///    +----------------------------------------------------------+
 ///    | closed, for the first cause, and never open again        |
 ///    +----------------------------------------------------------+
 /// ```
+///
+/// Where resumption is agreed, a cut leaves a begun session without a live connection, and calls go on.
+/// A client opens again by RESUME, and what it makes waits for RESUME_OK; a server is opened again by
+/// RESUME, which takes the place of a connection that is still live.
 ///
 /// A connection stays live in a closed session until it is cut, so what is queued can still be drawn,
 /// and what waits on a stream can still be taken. Every other call is then refused as `Closed`, and
@@ -104,7 +108,7 @@ fn answered_again(answer: &Answer) -> Answer
 
 impl<T: Tape> Session<T> {
     /// A session that is not begun, of which nothing happened yet. The tape is empty, and the
-    /// settings have no resumption and no leases. Where memory runs out, the tape comes back.
+    /// settings have no leases. Where memory runs out, the tape comes back.
     pub fn new(alloc: Global, settings: Checked, tape: T) -> Result<Session<T>, (T, OutOfMemory)>
         requires empty { T.count tape ≡ 0 }
         requires plain { IsPlain settings }
@@ -339,7 +343,7 @@ impl<T: Tape> Session<T> {
     pub fn carrying(&self) -> bool
         ensures { result ≡ carrying self.now.settings self.now.entries }
     {
-        self.state.is_carrying()
+        self.state.carrying
     }
 
     /// Why the session is closed.

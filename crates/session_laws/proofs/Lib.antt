@@ -2,11 +2,16 @@ pub mod Prefixes
 pub mod Framing
 pub mod Life
 pub mod Growth
-pub mod Agreed
 pub mod Spelled
+pub mod Counting
 pub mod Refused
-pub mod Due
-pub mod Got
+pub mod Quiet
+pub mod Verdict
+pub mod Told
+pub mod Runs
+pub mod FromClient
+pub mod FromServer
+pub mod Follows
 pub mod Crossing
 pub mod Lawful
 pub mod OwnEnds
@@ -15,3 +20,4 @@ pub mod ReadFragments
 pub mod ReadStreams
 pub mod HandedOut
 pub mod Fragments
+pub mod Rows

@@ -1,4 +1,4 @@
--- What is made, due and come can be spelled.
+-- What is due and come can be spelled.
 use Rattle.std.proofs.Common.{ℕ, true, false, cond, List, [], ◌∷◌, arith}
 use Rattle.std.proofs.lemmas.Grind.{common_steps}
 use Rattle.rs_wire.specs.declared.settings.Settings.{Settings}
@@ -6,34 +6,23 @@ use Rattle.tape.specs.declared.answer.Answer.{Answer}
 use Rattle.tape.specs.declared.event.Event.{Event}
 use Rattle.tape.specs.declared.entry.Entry.{Entry}
 use Rattle.session_model.specs.Life.{is_live, live, live_after}
-use Rattle.session_model.specs.Streams.{known}
-use Rattle.session_model.specs.Frames.{made, makes, due, came, lines_up, owes}
-use Rattle.session_model.specs.Answers.{facts}
+use Rattle.session_model.specs.Frames.{due, came, lines_up, owes}
 use Rattle.session_model.specs.Legal.{Fair, IsPlain, Legal}
-use Rattle.session_model.proofs.Ids.{ids_fit}
 use Rattle.session_model.proofs.Meaning.{last_means}
-use Rattle.session_model.proofs.Spelled.{lines_spellable, makes_spellable}
+use Rattle.session_model.proofs.Beside.{lines_spellable}
 use Rattle.session_laws.proofs.Framing.{AreSpellable, spellable-append}
 
-pub made_spelled : (g : Settings) (past : List Entry) → IsPlain g → Legal g past → Fair g past → AreSpellable (made g past)
-unfolding Legal Fair made facts
-made_spelled g [] plain legal fair = tt
-made_spelled g (x ∷ past) plain legal fair =
-    let ids = ids_fit g past plain.checked legal.0 fair.0 in
-    spellable-append (made g past) (makes g (known g past) x.answer x.event) (made_spelled g past plain legal.0 fair.0)
-    (makes_spellable g (facts g past) x.event x.answer plain.checked ids fair.1 (last_means g x past legal))
-
 -- what an entry adds to the frames due on a connection
-owes_spelled : (g : Settings) (past : List Entry) (c : ℕ) (a : Answer) (e : Event) → AreSpellable (lines_up g (known g past) a e) → AreSpellable (owes g past c a e)
-owes_spelled g past c a e lines = elim (is_live (live_after a (live past)) c) as (λ v. AreSpellable (cond v (lines_up g (known g past) a e) [])) [ true ↦ lines | false ↦ tt ]
+owes_spelled : (g : Settings) (past : List Entry) (c : ℕ) (a : Answer) (e : Event) → AreSpellable (lines_up g past a e) → AreSpellable (owes g past c a e)
+owes_spelled g past c a e lines = elim (is_live (live_after a (live past)) c) as (λ v. AreSpellable (cond v (lines_up g past a e) []))
+    [ true ↦ lines | false ↦ tt ]
 
 pub due_spelled : (g : Settings) (past : List Entry) (c : ℕ) → IsPlain g → Legal g past → Fair g past → AreSpellable (due g past c)
-unfolding Legal Fair due facts
+unfolding Legal Fair due
 due_spelled g [] c plain legal fair = tt
 due_spelled g (x ∷ past) c plain legal fair =
-    let ids = ids_fit g past plain.checked legal.0 fair.0 in
     spellable-append (due g past c) (owes g past c x.answer x.event) (due_spelled g past c plain legal.0 fair.0)
-    (owes_spelled g past c x.answer x.event (lines_spellable g (facts g past) x.event x.answer plain ids fair.1 (last_means g x past legal)))
+    (owes_spelled g past c x.answer x.event (lines_spellable g past x.event x.answer plain legal.0 fair.0 fair.1 (last_means g x past legal)))
 
 pub came_spelled : (g : Settings) (past : List Entry) (c : ℕ) → Fair g past → AreSpellable (came past c)
 unfolding Fair came

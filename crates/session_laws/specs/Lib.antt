@@ -4,3 +4,4 @@ pub mod Streams
 pub mod Read
 pub mod Jobs
 pub mod Fragments
+pub mod Resumption

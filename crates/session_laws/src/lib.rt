@@ -1,23 +1,25 @@
 //! The laws of a session, proved from its definitions alone.
 //!
 //! Each function here does nothing: its clauses are laws of the entries of one end (`one_end`), of
-//! its streams (`streams`), or of two ends whose bytes crossed (`two_ends`), for sessions without
-//! resumption and leases. The frames that count are those of streams, and positions count their
-//! bytes (RSocket 1.0, "Resuming Operation"). A frame is one that travels, so each fragment of a
-//! long request or payload is one; a word of a stream is a whole message, in however many
-//! fragments it travels (RSocket 1.0, "Fragmentation and Reassembly").
+//! its streams (`streams`), of its resumption (`resumption`), or of two ends whose bytes crossed
+//! (`two_ends`), for sessions without leases. The frames that count are those of streams, and
+//! positions count their bytes (RSocket 1.0, "Resuming Operation"). A frame is one that travels, so
+//! each fragment of a long request or payload is one; a word of a stream is a whole message, in
+//! however many fragments it travels (RSocket 1.0, "Fragmentation and Reassembly").
 //!
 //! The promise to the layers above: what holds here holds of every list of entries that the core
 //! leaves, since each of them is legal, and fair where the caller keeps the conditions of events.
-//! First of all, what an end has handled is a prefix of what the other made, in order, with nothing
-//! lost and nothing twice; and no stream carries more items than were granted, or delivers after
-//! its end.
+//! First of all, what an end has handled, over all connections of the session, is a prefix of what
+//! the other made, in order, with nothing lost and nothing twice, however often the session was cut
+//! and resumed; a resumption is accepted exactly where both ends hold what it needs; and no stream
+//! carries more items than were granted, or delivers after its end.
 //!
 //! Left out: how the entries come about (the core), and what only time decides, such as that all
 //! that is due comes in the end.
 #![tactic(auto)]
 
 mod one_end;
+mod resumption;
 mod streams;
 mod two_ends;
 
@@ -25,6 +27,10 @@ pub use one_end::{
     closed_stays_closed, frames_are_spellable, frames_only_grow,
     no_fragment_is_longer_than_the_mtu, nothing_more_is_agreed, queued_is_what_is_left,
     seen_is_made_and_handled,
+};
+pub use resumption::{
+    a_refused_resume_changes_nothing, held_frames_follow_a_boundary, positions_never_fall,
+    resume_is_accepted_where_both_ends_hold, resume_ok_is_handled_where_the_client_holds,
 };
 pub use streams::{
     a_response_carries_one_payload, a_stream_delivers_one_end, each_request_is_handed_out_once,

@@ -15,6 +15,7 @@ use Rattle.fragment.specs.Joining.{Gathered, with_part}
 use Rattle.session_model.specs.Streams.{is_turned_away}
 use Rattle.session_model.specs.Frames.{turned_away}
 use Rattle.session_model.specs.Answers.{Facts, broken_rule, payload_rule}
+use Rattle.session_model.specs.Means.{MayCome}
 
 -- a frame finds its place in the position of the frames handled
 abbrev pub HandledFits : Settings → Facts → Frame → Type 0
@@ -75,6 +76,11 @@ unbroken g t (frame.Unknown stream number flags rest) none = grind (arith, commo
 unbroken g t (frame.Ext stream flags extended rest) none = grind (arith, common_steps)
 unbroken g t f none = absurd (cc)
 
--- a frame that is handled and counts finds its place
+-- a frame that counts and breaks no rule finds its place
 pub handled_fits : (g : Settings) (t : Facts) (f : Frame) → broken_rule g t f ≡ None → is_resumable f ≡ true → HandledFits g t f
 handled_fits g t f none counts = let u = unbroken g t f none in grind (arith, common_steps)
+
+-- and so does one that counts and may come
+pub may_fit : (g : Settings) (t : Facts) (f : Frame) → MayCome g t f → is_resumable f ≡ true → HandledFits g t f
+may_fit g t (frame.ResumeOk position) may counts = absurd (cc)
+may_fit g t f may counts = handled_fits g t f may.1 counts

@@ -9,6 +9,7 @@ use Rattle.rs_wire.specs.declared.delivery.Job.{Job}
 use Rattle.rs_wire.specs.declared.words.Kind.{Kind}
 use Rattle.rs_wire.specs.declared.settings.Settings.{Settings}
 use Rattle.rs_frame.specs.declared.frame.Frame.{Frame}
+use Rattle.rs_frame.specs.declared.frame.Frame.TheVariants as frame
 use Rattle.rs_frame.specs.Spelling.{IsSpellable, InitialFits}
 use Rattle.tape.specs.declared.event.Event.{Event}
 use Rattle.tape.specs.declared.event.Event.TheVariants as event
@@ -28,7 +29,7 @@ use Rattle.session_model.specs.Streams.{arrival_in, heard_in, known, marks_in, u
 use Rattle.session_model.specs.Frames.{spoken}
 use Rattle.session_model.specs.Answers.{Facts, broken_rule, facts}
 use Rattle.session_model.specs.Legal.{AmountsFit, Fair, IsFair, Legal}
-use Rattle.session_model.specs.Means.{Does, Means}
+use Rattle.session_model.specs.Means.{Does, MayCome, Means}
 use Rattle.session_model.proofs.Meaning.{last_means}
 use Rattle.session_model.proofs.Refusals.{Unrefused, streams_allow, unrefused}
 use Rattle.session_model.proofs.Breaking.{unbroken}
@@ -67,6 +68,12 @@ unfolding facts
 came_fair g past f None is spellable none before = before
 came_fair g past f (Some a) is spellable none before =
     heard_fair g.max_streams (words g past) (limits_of g) a before (arrival_amounts (unfinished g past) f a spellable is) (arrival_counted g (facts g past) f a none is)
+
+-- what comes and may come
+may_fair : (g : Settings) (past : List Entry) (f : Frame) → IsSpellable f → MayCome g (facts g past) f → FairMarks g.max_streams (words g past)
+    → FairMarks g.max_streams (option_to_list (option_map heard (arrival_in (unfinished g past) f)) ++ words g past)
+may_fair g past (frame.ResumeOk position) spellable may before = before
+may_fair g past f spellable may before = came_fair g past f (arrival_in (unfinished g past) f) refl spellable may.1 before
 
 -- ---- what is taken
 
@@ -108,7 +115,7 @@ entry_fair g past (answer.Got d) (event.Asked (call.Take s)) fair means before =
 entry_fair g past (answer.Got d) e fair means before = absurd means
 entry_fair g past (answer.GotJob job) (event.Asked call.TakeJob) fair means before = took_job_fair g past job means before
 entry_fair g past (answer.GotJob job) e fair means before = absurd means
-entry_fair g past answer.Handled (event.Came conn f) fair means before = came_fair g past f (arrival_in (unfinished g past) f) refl fair means.unbroken before
+entry_fair g past answer.Handled (event.Came conn f) fair means before = may_fair g past f fair means.may before
 entry_fair g past answer.Handled e fair means before = absurd means
 entry_fair g past a e fair means before = before
 

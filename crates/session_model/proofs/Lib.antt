@@ -1,9 +1,11 @@
 pub mod Meaning
+pub mod Agreed
 pub mod Openings
 pub mod Queue
 pub mod Refusals
 pub mod Breaking
 pub mod Ids
 pub mod Spelled
+pub mod Beside
 pub mod Fairness
 pub mod Silent

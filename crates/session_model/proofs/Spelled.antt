@@ -1,16 +1,13 @@
--- The frames of an entry that means what it says can be spelled, count in the positions, and find their places there.
-use Rattle.std.proofs.Common.{◌≡◌, ◌≤◌, ◌<◌, ◌+◌, ◌^◌, ◌==◌, ◌||◌, ℕ, Bool, true, false, cond, List, [], ◌∷◌, ◌++◌, length, Option, Some, None, IfSome, refl, length-append, ap, subst, sym, ◌∙◌, arith, lit<}
+-- The frames that an entry makes, where it means what it says, can be spelled, count in the positions, and find their places there.
+use Rattle.std.proofs.Common.{◌≡◌, ◌≤◌, ◌<◌, ◌+◌, ◌^◌, ◌==◌, ◌||◌, ℕ, Bool, true, false, List, [], ◌∷◌, length, Option, Some, None, IfSome, refl, length-append, subst, sym, arith, lit<}
 use Rattle.std.proofs.lemmas.Grind.{common_steps}
 use Rattle.std.proofs.lemmas.Bool.Decides.{nat_tests}
-use Rattle.std.proofs.lemmas.List.Elements.{filter-append}
 use Rattle.std.specs.List.{AllByRecursion, filter}
 use Rattle.byteorder.specs.Endian.{big_bytes}
 use Rattle.rs_wire.specs.Message.{size_of}
-use Rattle.rs_wire.specs.Words.{rule_word}
 use Rattle.rs_wire.specs.Calls.{CanBeAsked}
 use Rattle.rs_wire.specs.Ranges.{is_between}
 use Rattle.rs_wire.specs.Settings.{IsChecked, fault_of}
-use Rattle.rs_wire.specs.declared.fault.Rule.{Rule}
 use Rattle.rs_wire.specs.declared.words.Kind.{Kind}
 use Rattle.rs_wire.specs.declared.message.Message.{Message}
 use Rattle.rs_wire.specs.declared.settings.Settings.{Settings}
@@ -18,7 +15,7 @@ use Rattle.rs_wire.specs.declared.call.Call.{Call}
 use Rattle.rs_wire.specs.declared.call.Call.TheVariants as call
 use Rattle.rs_frame.specs.declared.frame.Frame.{Frame}
 use Rattle.rs_frame.specs.declared.frame.Frame.TheVariants as frame
-use Rattle.rs_frame.specs.Spelling.{IsSpellable, IsStream, InitialFits, MessageFits, if_there, counted_bytes, payload, is_resumable, length_of}
+use Rattle.rs_frame.specs.Spelling.{IsSpellable, IsStream, InitialFits, MessageFits, payload, is_resumable, length_of}
 use Rattle.position.specs.Boundaries.{pos, pos_by}
 use Rattle.tape.specs.declared.event.Event.{Event}
 use Rattle.tape.specs.declared.event.Event.TheVariants as event
@@ -30,13 +27,12 @@ use Rattle.stream_model.specs.Arriving.{no_message}
 use Rattle.fragment.specs.Splitting.{IsMtu, IsSplittable, follows_of, split_of}
 use Rattle.fragment.proofs.Cuts.{first_spellable, rest_spellable}
 use Rattle.fragment.proofs.Splits.{by_cuts}
-use Rattle.session_model.specs.declared.numbers.TheConstants.{CONNECTION_ERROR}
-use Rattle.session_model.specs.Frames.{refusal, setup_frame, request_frame, turned_away, spoken, in_fragments, sent_as, makes, beside, lines_up, handles}
+use Rattle.session_model.specs.Frames.{request_frame, turned_away, spoken, in_fragments, sent_as, makes, handles}
 use Rattle.session_model.specs.Answers.{Facts, refused_sending}
-use Rattle.session_model.specs.Legal.{AmountsFit, IsFair, IsPlain}
+use Rattle.session_model.specs.Legal.{AmountsFit, IsFair}
 use Rattle.session_model.specs.Means.{Does, Means}
 use Rattle.session_model.proofs.Refusals.{Unrefused, unrefused, size_fits, can_send, names}
-use Rattle.session_model.proofs.Breaking.{handled_fits, unbroken}
+use Rattle.session_model.proofs.Breaking.{may_fit, unbroken}
 use Rattle.session_model.proofs.Ids.{IdsFit, highest_fits, started_fits}
 
 -- ---- messages
@@ -65,7 +61,7 @@ payload_spellable g s complete next message checked stream small =
     let short = payload_short g message checked small in
     record { fields = (stream, metadata_fits g message checked small); short = omega (arith, short) }
 
-error_spellable : (s code : ℕ) (content : List ℕ) → s < 2 ^ 31 → code < 2 ^ 32 → length content ≤ 16000000 → IsSpellable (frame.Error s code content)
+pub error_spellable : (s code : ℕ) (content : List ℕ) → s < 2 ^ 31 → code < 2 ^ 32 → length content ≤ 16000000 → IsSpellable (frame.Error s code content)
 error_spellable s code content stream is small = record { fields = (stream, is); short = omega (arith, small, length-append (big_bytes 4 code) content) }
 
 -- the stream that a call names has an id of 31 bits
@@ -183,57 +179,7 @@ makes_spellable g t (event.Came conn f) answer.Handled checked ids fair means = 
 makes_spellable g t e answer.Handled checked ids fair means = absurd means
 makes_spellable g t e a checked ids fair means = tt
 
--- ---- what stands beside
-
-token_fits : (b : Bool) (t : List ℕ) → b ≡ false → IfSome (cond {A = Option (List ℕ)} b (Some t) None) (λ x. length x < 2 ^ 16)
-token_fits true t none = absurd (cc)
-token_fits false t none = tt
-
-no_token : (b : Bool) (t : List ℕ) → b ≡ false → cond {A = Option (List ℕ)} b (Some t) None ≡ None
-no_token true t none = absurd (cc)
-no_token false t none = refl
-
-short_setup : (keepalive lifetime : ℕ) (token : Option (List ℕ)) (metadata content : List ℕ) → token ≡ None → length metadata ≤ 255 → length content ≤ 255
-    → 6 + length (big_bytes 2 1 ++ (big_bytes 2 0 ++ (big_bytes 4 keepalive ++ (big_bytes 4 lifetime ++ (if_there 2 token ++ (counted_bytes 1 metadata ++ (counted_bytes 1 content ++ []))))))) < 2 ^ 24
-short_setup keepalive lifetime None metadata content t m c = omega (arith, length-append metadata (counted_bytes 1 content ++ []), length-append content [])
-short_setup keepalive lifetime (Some x) metadata content t m c = absurd (cc)
-
--- a SETUP without a token
-pub setup_spellable : (g : Settings) → IsPlain g → IsSpellable (setup_frame g)
-setup_spellable g plain =
-    let keepalive = plain.checked.keepalive in
-    let lifetime = plain.checked.lifetime in
-    let metadata = plain.checked.metadata_mime in
-    let content = plain.checked.content_mime in
-    record {
-      fields = (lit< tt, lit< tt, (omega (arith, keepalive.above), omega (arith, keepalive.below)), (omega (arith, lifetime.above), omega (arith, lifetime.below)), token_fits g.resume g.token plain.no_resumption, omega arith, omega arith, tt);
-      short = short_setup g.keepalive_ms g.lifetime_ms _ g.metadata_mime g.content_mime (no_token g.resume g.token plain.no_resumption) metadata content;
-    }
-
-words_short : (r : Rule) → length (rule_word r) ≤ 16000000
-words_short r = grind (arith, common_steps)
-
--- the frames of the connection that no position counts
-pub beside_spellable : (g : Settings) (e : Event) (a : Answer) → IsPlain g → AllByRecursion IsSpellable (beside g a e)
-beside_spellable g (event.Open None taken) (answer.Opened n) plain = (setup_spellable g plain, tt)
-beside_spellable g e (answer.Opened n) plain = tt
-beside_spellable g e (answer.Violation r) plain = (error_spellable 0 CONNECTION_ERROR (rule_word r) (lit< tt) (lit< tt) (words_short r), tt)
-beside_spellable g (event.Asked call.Close) answer.Done plain = (error_spellable 0 CONNECTION_ERROR [] (lit< tt) (lit< tt) (omega arith), tt)
-beside_spellable g e a plain = tt
-
-all_both : {X : Type 0} (P : X → Type 0) (xs ys : List X) → AllByRecursion P xs → AllByRecursion P ys → AllByRecursion P (xs ++ ys)
-all_both P [] ys h k = k
-all_both P (x ∷ xs) ys h k = (h.0, all_both P xs ys h.1 k)
-
--- all that an entry puts in line
-pub lines_spellable : (g : Settings) (t : Facts) (e : Event) (a : Answer) → IsPlain g → IdsFit t.streams → IsFair g e → Means g t e a → AllByRecursion IsSpellable (lines_up g t.streams a e)
-lines_spellable g t e a plain ids fair means =
-    all_both IsSpellable (beside g a e) (makes g t.streams a e) (beside_spellable g e a plain) (makes_spellable g t e a plain.checked ids fair means)
-
 -- ---- what counts
-
-pub none_besides : (g : Settings) (e : Event) (a : Answer) → filter is_resumable (beside g a e) ≡ []
-none_besides g e a = grind (arith, common_steps)
 
 -- the positions count each fragment of a frame that they count
 split_counts : (f : Frame) (mtu : ℕ) → IsMtu mtu → IsSplittable f → filter is_resumable (split_of f mtu) ≡ split_of f mtu
@@ -260,13 +206,8 @@ makes_count g t (event.Asked (call.Request kind initial message complete)) (answ
     sent_count g (spoken t.streams id asked) checked (spoken_whole t.streams id asked) refl
 makes_count g t (event.Asked asked) answer.Done checked means =
     sent_count g (spoken t.streams 0 asked) checked (spoken_whole t.streams 0 asked) (spoken_counts g t 0 asked (done_passes g t asked means).state)
-makes_count g t (event.Came conn (frame.Request r)) answer.Handled checked means = let next = (unbroken g t (frame.Request r) means.unbroken).next in grind (arith, common_steps)
+makes_count g t (event.Came conn (frame.Request r)) answer.Handled checked means = let next = (unbroken g t (frame.Request r) means.may.1).next in grind (arith, common_steps)
 makes_count g t e a checked means = grind (arith, common_steps)
-
--- of all that an entry puts in line these count
-pub lines_count : (g : Settings) (t : Facts) (e : Event) (a : Answer) → IsChecked g → Means g t e a → filter is_resumable (lines_up g t.streams a e) ≡ makes g t.streams a e
-lines_count g t e a checked means =
-    filter-append is_resumable (beside g a e) (makes g t.streams a e) ∙ (ap (λ fs. fs ++ filter is_resumable (makes g t.streams a e)) (none_besides g e a) ∙ makes_count g t e a checked means)
 
 -- ---- positions
 
@@ -291,16 +232,12 @@ makes_fit g t (event.Asked (call.Request kind initial message complete)) (answer
 makes_fit g t e (answer.Started id) means below = absurd means
 makes_fit g t (event.Asked asked) answer.Done means below = spoken_fits g t (spoken t.streams 0 asked) (done_sends g t asked means) below
 makes_fit g t e answer.Done means below = absurd means
-makes_fit g t (event.Came conn (frame.Request r)) answer.Handled means below = let answered = (unbroken g t (frame.Request r) means.unbroken).answered in grind (arith, common_steps)
+makes_fit g t (event.Came conn (frame.Request r)) answer.Handled means below = let answered = (unbroken g t (frame.Request r) means.may.1).answered in grind (arith, common_steps)
 makes_fit g t e a means below = grind (arith, common_steps)
 
 -- and the frames that an entry handles
 pub handles_fit : (g : Settings) (t : Facts) (e : Event) (a : Answer) → Means g t e a → t.handled.position ≤ g.top_position → t.handled.position + pos (handles a e) ≤ g.top_position
 unfolding pos_by
-handles_fit g t (event.Came conn f) answer.Handled means below = let fits = handled_fits g t f means.unbroken in grind (arith, common_steps)
+handles_fit g t (event.Came conn f) answer.Handled means below = let fits = may_fit g t f means.may in grind (arith, common_steps)
 handles_fit g t e answer.Handled means below = absurd means
 handles_fit g t e a means below = omega (arith, below)
-
--- the frame that refuses a connection
-pub refusal_spelled : (a : Answer) → IfSome (refusal a) IsSpellable
-refusal_spelled a = grind (arith, common_steps)

@@ -8,6 +8,8 @@ use Rattle.rs_wire.specs.declared.message.Message.{Message}
 use Rattle.rs_wire.specs.declared.delivery.Delivery.{Delivery}
 use Rattle.rs_wire.specs.declared.delivery.Job.{Job}
 use Rattle.rs_wire.specs.declared.fault.Cause.{Cause}
+use Rattle.rs_wire.specs.declared.fault.Gone.{Gone}
+use Rattle.rs_wire.specs.declared.fault.Gone.TheVariants as gone
 use Rattle.rs_wire.specs.declared.fault.Refusal.{Refusal}
 use Rattle.rs_wire.specs.declared.fault.Refusal.TheVariants as refusal
 use Rattle.rs_wire.specs.declared.fault.Rule.{Rule}
@@ -20,6 +22,7 @@ use Rattle.rs_wire.specs.declared.call.Call.TheVariants as call
 use Rattle.rs_frame.specs.declared.frame.Frame.{Frame}
 use Rattle.rs_frame.specs.declared.frame.Frame.TheVariants as frame
 use Rattle.rs_frame.specs.declared.frame.Request.{Request}
+use Rattle.rs_frame.specs.declared.frame.Resume.{Resume}
 use Rattle.rs_frame.specs.declared.frame.Setup.{Setup}
 use Rattle.rs_frame.specs.Spelling.{length_of}
 use Rattle.rs_frame.specs.Framed.{framed_all}
@@ -32,14 +35,15 @@ use Rattle.tape.specs.declared.answer.Answer.{Answer}
 use Rattle.tape.specs.declared.answer.Answer.TheVariants as answer
 use Rattle.tape.specs.declared.entry.Entry.{Entry}
 use Rattle.position.specs.Boundaries.{pos}
+use Rattle.resume_core.specs.Resumption.{resume_fault, ok_fault}
 use Rattle.stream_model.specs.Known.{Known, limits_of, next_id, is_peers_next, hears_on, front_of}
 use Rattle.stream_model.specs.Refused.{by_state, by_credit, by_ids, by_live}
 use Rattle.stream_model.specs.Arriving.{over_credit_on}
-use Rattle.session_model.specs.Life.{openings, live, is_live, carrying, begun, setup, closed}
+use Rattle.session_model.specs.Life.{openings, live, is_live, carrying, begun, setup, closed, asked_token}
 use Rattle.session_model.specs.declared.facts.Counted.{Counted}
 use Rattle.session_model.specs.declared.numbers.TheConstants.{ANSWER_ROOM, EXTENSION, MAY_IGNORE}
 use Rattle.session_model.specs.Streams.{known, unfinished, is_turned_away}
-use Rattle.session_model.specs.Frames.{closing_error, turned_away, spoken, in_fragments, made, handled, queued}
+use Rattle.session_model.specs.Frames.{closing_error, turned_away, spoken, in_fragments, made, handled, held_from, is_held_boundary, queued}
 
 -- how many frames there are, and the position after them
 abbrev pub counted : List Frame → Counted
@@ -57,6 +61,10 @@ pub record Facts : Type 0 where
   pub closed : Option Cause
   pub made : Counted
   pub handled : Counted
+  -- the position from which on frames are held, 0 where resumption is not agreed
+  pub first : ℕ
+  -- a held frame begins or ends at a position
+  pub boundary : ℕ → Bool
   -- how many bytes wait to be drawn
   pub queued : ℕ
   pub streams : Known
@@ -74,10 +82,27 @@ facts g past = record {
   closed = closed g past;
   made = counted (made g past);
   handled = counted (handled past);
+  first = held_from g past;
+  boundary = is_held_boundary g past;
   queued = queued g past;
   streams = known g past;
   unfinished = unfinished g past;
 }
+
+-- ---- resumption (RSocket 1.0, "Resuming Operation")
+
+-- the first thing that is wrong with a RESUME, where the session resumes by this token
+abbrev pub gone_with : Facts → Resume → Option (List ℕ) → Option Gone
+gone_with t r None = Some gone.Token
+gone_with t r (Some token) = resume_fault r token t.first t.made.position (t.boundary r.server_position) t.handled.position
+
+-- a session that is not begun, or whose SETUP had no token, is resumed by none
+abbrev pub resume_gone : Facts → Resume → Option Gone
+resume_gone t r = gone_with t r (asked_token t.setup)
+
+-- the first thing that is wrong with the position of a RESUME_OK
+abbrev pub ok_gone : Facts → ℕ → Option Gone
+ok_gone t position = ok_fault position t.first t.made.position (t.boundary position)
 
 -- ---- an opening
 
@@ -85,9 +110,14 @@ abbrev pub opened_unless : Option SetupFault → ℕ → Answer
 opened_unless None number = answer.Opened number
 opened_unless (Some f) number = answer.SetupRefused f
 
--- a client begins once; a server judges the first frame of a session that is not begun
+abbrev pub opened_unless_gone : Option Gone → ℕ → Answer
+opened_unless_gone None number = answer.Opened number
+opened_unless_gone (Some why) number = answer.ResumeRefused why
+
+-- a client begins once, and opens again only to resume; a server judges a RESUME, and any other first frame of a session that is not begun
 abbrev pub to_first : Settings → Facts → Option Frame → Bool → Answer
-to_first g t None taken = if t.begun then answer.Stale t.live else answer.Opened (t.openings + 1)
+to_first g t None taken = if t.begun && not g.resume then answer.Stale t.live else answer.Opened (t.openings + 1)
+to_first g t (Some (frame.Resume r)) taken = opened_unless_gone (resume_gone t r) (t.openings + 1)
 to_first g t (Some first) taken = if t.begun then answer.SetupRefused fault.TokenTaken else opened_unless (setup_fault first g taken) (t.openings + 1)
 
 abbrev pub unless_closed : Option Cause → Answer → Answer
@@ -167,12 +197,30 @@ broken_rule g t (frame.Unknown stream number flags rest) = unknown_type number f
 broken_rule g t (frame.Ext stream flags extended rest) = unknown_type EXTENSION flags
 broken_rule g t _ = Some rule.NotNow
 
+-- nothing but RESUME_OK may come where it is waited for
+abbrev pub waiting_rule : Frame → Option Rule
+waiting_rule (frame.Unknown stream number flags rest) = option_or (unknown_type number flags) (Some rule.NotNow)
+waiting_rule (frame.Ext stream flags extended rest) = option_or (unknown_type EXTENSION flags) (Some rule.NotNow)
+waiting_rule _ = Some rule.NotNow
+
+-- the least rule that a frame breaks on the live connection, which carries or waits for RESUME_OK
+abbrev pub rule_now : Settings → Facts → Frame → Option Rule
+rule_now g t f = if t.carrying then broken_rule g t f else waiting_rule f
+
 abbrev pub handled_unless : Option Rule → Answer
 handled_unless None = answer.Handled
 handled_unless (Some r) = answer.Violation r
 
+abbrev pub handled_unless_gone : Option Gone → Answer
+handled_unless_gone None = answer.Handled
+handled_unless_gone (Some why) = answer.ResumeRefused why
+
+abbrev pub to_known : Settings → Facts → Frame → Answer
+to_known g t (frame.ResumeOk position) = if t.carrying then answer.Violation rule.NotNow else handled_unless_gone (ok_gone t position)
+to_known g t f = handled_unless (rule_now g t f)
+
 abbrev pub to_frame : Settings → Facts → ℕ → Frame → Answer
-to_frame g t conn f = on_live t conn (unless_closed t.closed (unless_busy g t (length_of f) (unless_error (peer_error f) (handled_unless (broken_rule g t f)))))
+to_frame g t conn f = on_live t conn (unless_closed t.closed (unless_busy g t (length_of f) (unless_error (peer_error f) (to_known g t f))))
 
 abbrev pub to_bad : Settings → Facts → ℕ → ℕ → Answer
 to_bad g t conn number = on_live t conn (unless_closed t.closed (unless_busy g t 0 (answer.Violation (rule.BadFrame number))))

@@ -1,6 +1,6 @@
 -- The frames of a session, over its entries, the newest first: made, due, come and handled.
 use Rattle.std.specs.Prelude.{ℕ, ◌+◌, ◌-◌, ◌==◌, ◌&&◌, Bool, false, nat_le, nat_lt, if◌then◌else◌, List, [], ◌∷◌, ◌++◌, length, take, map, Option, Some, None, is_none, ◌||◌, true, codes}
-use Rattle.rs_wire.specs.Words.{rule_word, setup_word}
+use Rattle.rs_wire.specs.Words.{gone_word, rule_word, setup_word}
 use Rattle.rs_wire.specs.declared.words.Kind.{Kind}
 use Rattle.rs_wire.specs.declared.message.Message.{Message}
 use Rattle.rs_wire.specs.declared.settings.Settings.{Settings}
@@ -20,8 +20,9 @@ use Rattle.stream_model.specs.Known.{Known, is_open_response}
 use Rattle.stream_model.specs.Arriving.{no_message}
 use Rattle.fragment.specs.Splitting.{split_of}
 use Rattle.session_model.specs.Lists.{first_of}
-use Rattle.session_model.specs.Life.{openings, live, live_after, is_live}
-use Rattle.session_model.specs.declared.numbers.TheConstants.{CONNECTION_ERROR, REJECTED}
+use Rattle.session_model.specs.Life.{openings, live, live_after, is_live, begun, carrying, resumption_agreed, told}
+use Rattle.position.specs.Boundaries.{pos, is_boundary, frames_from, first as first_held}
+use Rattle.session_model.specs.declared.numbers.TheConstants.{CONNECTION_ERROR, REJECTED, REJECTED_RESUME}
 use Rattle.session_model.specs.Streams.{known, is_turned_away}
 
 -- the SETUP of a client: version 1.0, its intervals, its token where it resumes, its MIME texts, no payload
@@ -56,6 +57,7 @@ closing_error content = frame.Error 0 CONNECTION_ERROR content
 -- the ERROR on stream 0 that a server gives on a connection whose first frame it refuses, and nothing else (RSocket 1.0, "Setup")
 abbrev pub refusal : Answer → Option Frame
 refusal (answer.SetupRefused fault) = Some (frame.Error 0 (code_of fault) (setup_word fault))
+refusal (answer.ResumeRefused gone) = Some (frame.Error 0 REJECTED_RESUME (gone_word gone))
 refusal _ = None
 
 -- the ERROR that answers a request for which no stream more may be open
@@ -96,27 +98,78 @@ unfoldable pub made : Settings → List Entry → List Frame
 made g [] = []
 made g (x ∷ past) = made g past ++ makes g (known g past) x.answer x.event
 
+-- ---- handled
+
+-- the resumable frames that an entry handles (RSocket 1.0, "Resuming Operation")
+abbrev pub handles : Answer → Event → List Frame
+handles answer.Handled (event.Came conn f) = if is_resumable f then f ∷ [] else []
+handles _ _ = []
+
+-- the resumable frames that this end handled, in order, over all connections
+unfoldable pub handled : List Entry → List Frame
+handled [] = []
+handled (x ∷ past) = handled past ++ handles x.answer x.event
+
+-- ---- held (RSocket 1.0, "Resuming Operation")
+
+-- the position from which on the frames made are held: those that the peer may not have handled, and of them as many as may be held
+abbrev pub first : Settings → List Entry → ℕ
+first g past = first_held (made g past) (told past) g.hold
+
+-- frames are kept where resumption is agreed
+abbrev pub if_agreed : Bool → List Frame → List Frame
+if_agreed agreed frames = if agreed then frames else []
+
+-- the frames made that are kept, the held ones and those that are forgotten again
+abbrev pub kept : Settings → List Entry → List Frame
+kept g past = if_agreed (resumption_agreed g past) (made g past)
+
+-- the position from which on they are held, 0 where none is kept
+abbrev pub held_from : Settings → List Entry → ℕ
+held_from g past = first_held (kept g past) (told past) g.hold
+
+-- a held frame begins or ends at the position
+abbrev pub is_held_boundary : Settings → List Entry → ℕ → Bool
+is_held_boundary g past p = nat_le (held_from g past) p && is_boundary (kept g past) p
+
 -- ---- due
 
--- the frames that an accepted opening begins with: a client's SETUP
-abbrev pub greets : Settings → Event → List Frame
-greets g (event.Open None taken) = setup_frame g ∷ []
-greets g _ = []
+-- the frame by which a client resumes: up to which position it handled, and from which on it holds what it made (RSocket 1.0, "RESUME Frame")
+abbrev pub resume_frame : Settings → ℕ → ℕ → Frame
+resume_frame g handled first = frame.Resume (record {
+  major = 1;
+  minor = 0;
+  token = g.token;
+  server_position = handled;
+  client_position = first;
+})
 
--- the frames of the connection that an entry puts in line before those that it makes; no position counts them
-abbrev pub beside : Settings → Answer → Event → List Frame
-beside g (answer.Opened n) e = greets g e
-beside g (answer.Violation rule) e = closing_error (rule_word rule) ∷ []
-beside g answer.Done (event.Asked call.Close) = closing_error [] ∷ []
-beside g _ e = []
+-- the frames that an accepted opening begins with: a client's SETUP, and its RESUME later on; a server's RESUME_OK, and then all that it made from the position on that the client told
+abbrev pub greets : Settings → List Entry → Event → List Frame
+greets g past (event.Open None taken) = (if begun past then resume_frame g (pos (handled past)) (first g past) else setup_frame g) ∷ []
+greets g past (event.Open (Some (frame.Resume r)) taken) = frame.ResumeOk (pos (handled past)) ∷ frames_from (made g past) r.server_position
+greets g past _ = []
+
+-- the frames that an entry puts in line before those that it makes: frames of the connection, which no position counts, and frames that are sent again
+abbrev pub beside : Settings → List Entry → Answer → Event → List Frame
+beside g past (answer.Opened n) e = greets g past e
+beside g past (answer.Violation rule) e = closing_error (rule_word rule) ∷ []
+beside g past (answer.ResumeRefused gone) (event.Came conn f) = closing_error (gone_word gone) ∷ []
+beside g past answer.Handled (event.Came conn (frame.ResumeOk position)) = frames_from (made g past) position
+beside g past answer.Done (event.Asked call.Close) = if carrying g past then closing_error [] ∷ [] else []
+beside g past _ e = []
+
+-- what is made on a connection that waits for RESUME_OK is sent after it
+abbrev pub if_carrying : Bool → List Frame → List Frame
+if_carrying carrying frames = if carrying then frames else []
 
 -- the frames that an entry puts in line
-abbrev pub lines_up : Settings → Known → Answer → Event → List Frame
-lines_up g t a e = beside g a e ++ makes g t a e
+abbrev pub lines_up : Settings → List Entry → Answer → Event → List Frame
+lines_up g past a e = beside g past a e ++ if_carrying (carrying g past) (makes g (known g past) a e)
 
 -- what an entry adds to the frames due on connection c: what it puts in line, where that connection is live after it
 abbrev pub owes : Settings → List Entry → ℕ → Answer → Event → List Frame
-owes g past c a e = if is_live (live_after a (live past)) c then lines_up g (known g past) a e else []
+owes g past c a e = if is_live (live_after a (live past)) c then lines_up g past a e else []
 
 -- the frames due on connection c, in order
 unfoldable pub due : Settings → List Entry → ℕ → List Frame
@@ -165,18 +218,6 @@ brings past c _ = []
 unfoldable pub came : List Entry → ℕ → List Frame
 came [] c = []
 came (x ∷ past) c = came past c ++ brings past c x.event
-
--- ---- handled
-
--- the resumable frames that an entry handles (RSocket 1.0, "Resuming Operation")
-abbrev pub handles : Answer → Event → List Frame
-handles answer.Handled (event.Came conn f) = if is_resumable f then f ∷ [] else []
-handles _ _ = []
-
--- the resumable frames that this end handled, in order, over all connections
-unfoldable pub handled : List Entry → List Frame
-handled [] = []
-handled (x ∷ past) = handled past ++ handles x.answer x.event
 
 -- ---- seen
 

@@ -15,10 +15,9 @@ use Rattle.tape.specs.declared.entry.Entry.{Entry}
 use Rattle.session_model.specs.Answers.{answer_to}
 use Rattle.session_model.specs.declared.numbers.TheConstants.{LONG_FRAME}
 
--- settings that were tested, of an end without resumption and leases
+-- settings that were tested, of an end without leases
 pub record IsPlain (g : Settings) : Type 0 where
   pub checked : IsChecked g
-  pub no_resumption : g.resume ≡ false
   pub no_leases : g.lease ≡ false
 
 -- the numbers of items that a call grants are above 0, and have 31 bits

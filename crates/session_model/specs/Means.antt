@@ -5,7 +5,9 @@ use Rattle.rs_wire.specs.declared.call.Call.{Call}
 use Rattle.rs_wire.specs.declared.call.Call.TheVariants as call
 use Rattle.rs_wire.specs.declared.delivery.Delivery.{Delivery}
 use Rattle.rs_wire.specs.declared.delivery.Job.{Job}
+use Rattle.rs_wire.specs.declared.fault.Gone.{Gone}
 use Rattle.rs_frame.specs.declared.frame.Frame.{Frame}
+use Rattle.rs_frame.specs.declared.frame.Frame.TheVariants as frame
 use Rattle.setup_core.specs.Setup.{setup_fault}
 use Rattle.tape.specs.declared.event.Event.{Event}
 use Rattle.tape.specs.declared.event.Event.TheVariants as event
@@ -13,18 +15,18 @@ use Rattle.tape.specs.declared.answer.Answer.{Answer}
 use Rattle.tape.specs.declared.answer.Answer.TheVariants as answer
 use Rattle.session_model.specs.Life.{is_live}
 use Rattle.stream_model.specs.Known.{next_id, front_of}
-use Rattle.session_model.specs.Answers.{Facts, broken_rule, peer_error, refused_call}
+use Rattle.session_model.specs.Answers.{Facts, broken_rule, ok_gone, peer_error, refused_call, resume_gone}
 
--- the first frame, where there is one, is one that a server can keep
-abbrev pub SuitsFirst : Settings → Option Frame → Bool → Type 0
-SuitsFirst g None taken = Unit {0}
-SuitsFirst g (Some f) taken = setup_fault f g taken ≡ None
+-- a client begins, or resumes; a server can resume by the RESUME that came first, or keep the SETUP
+abbrev pub SuitsFirst : Settings → Facts → Option Frame → Bool → Type 0
+SuitsFirst g t None taken = t.begun ≡ true → g.resume ≡ true
+SuitsFirst g t (Some (frame.Resume r)) taken = resume_gone t r ≡ None
+SuitsFirst g t (Some f) taken = (t.begun ≡ false) × (setup_fault f g taken ≡ None)
 
 pub record Opening (g : Settings) (t : Facts) (first : Option Frame) (taken : Bool) (n : ℕ) : Type 0 where
   pub next : n ≡ t.openings + 1
-  pub fresh : t.begun ≡ false
   pub free : t.closed ≡ None
-  pub suits : SuitsFirst g first taken
+  pub suits : SuitsFirst g t first taken
 
 pub record Starting (g : Settings) (t : Facts) (asked : Call) (id : ℕ) : Type 0 where
   pub next : id ≡ next_id g.side t.streams
@@ -35,11 +37,16 @@ pub record Drawing (t : Facts) (conn room n : ℕ) : Type 0 where
   pub within : n ≤ room
   pub fits : n ≤ t.queued
 
+-- a frame that is handled breaks no rule; where RESUME_OK is waited for, it is that one
+abbrev pub MayCome : Settings → Facts → Frame → Type 0
+MayCome g t (frame.ResumeOk position) = (t.carrying ≡ false) × (ok_gone t position ≡ None)
+MayCome g t f = (t.carrying ≡ true) × (broken_rule g t f ≡ None)
+
 pub record Handling (g : Settings) (t : Facts) (conn : ℕ) (f : Frame) : Type 0 where
   pub here : is_live t.live conn ≡ true
   pub free : t.closed ≡ None
   pub error : peer_error f ≡ None
-  pub unbroken : broken_rule g t f ≡ None
+  pub may : MayCome g t f
 
 pub record Failing (t : Facts) (conn : ℕ) (f : Frame) (code : ℕ) : Type 0 where
   pub here : is_live t.live conn ≡ true
@@ -107,6 +114,12 @@ abbrev pub RefusesFirst : Facts → Event → Type 0
 RefusesFirst t (event.Open (Some f) taken) = t.closed ≡ None
 RefusesFirst t _ = ⊥
 
+-- a resumption is refused, of the first frame or of RESUME_OK
+abbrev pub RefusesResume : Facts → Gone → Event → Type 0
+RefusesResume t why (event.Open (Some (frame.Resume r)) taken) = (t.closed ≡ None) × (resume_gone t r ≡ Some why)
+RefusesResume t why (event.Came conn (frame.ResumeOk position)) = (is_live t.live conn ≡ true) × (t.closed ≡ None) × (t.carrying ≡ false) × (ok_gone t position ≡ Some why)
+RefusesResume t why _ = ⊥
+
 -- a call is refused
 abbrev pub RefusesCall : Event → Type 0
 RefusesCall (event.Asked asked) = Unit {0}
@@ -132,6 +145,7 @@ Means g t e (answer.PeerError code) = Fails t code e
 Means g t e (answer.Violation rule) = Lands t e
 Means g t e (answer.OutBusy n) = Lands t e
 Means g t e (answer.SetupRefused fault) = RefusesFirst t e
+Means g t e (answer.ResumeRefused why) = RefusesResume t why e
 Means g t e (answer.Refused why) = RefusesCall e
 Means g t e answer.NotYet = FindsNothing t e
 Means g t e (answer.Stale n) = Strays t e

@@ -3,7 +3,7 @@
 ghost use Rattle.std.specs.Prelude.{◌≡◌, IfOk};
 ghost use Rattle.tape.specs.Answers.{drawn_by, is_out_of_memory, leaves};
 
-use rs_wire::{Cause, Delivery, Job, OutOfMemory, Refusal, Rule, SetupFault};
+use rs_wire::{Cause, Delivery, Gone, Job, OutOfMemory, Refusal, Rule, SetupFault};
 use std::alloc::Global;
 
 /// What a session answers to an event. `NotYet`, `OutBusy`, `TapeFull` and `OutOfMemory` change
@@ -33,6 +33,9 @@ pub enum Answer {
     Violation(Rule),
     /// The first frame is refused. A session that was not begun is closed.
     SetupRefused(SetupFault),
+    /// The resumption is refused. A client whose RESUME_OK is refused closes the session; at a server
+    /// nothing changes.
+    ResumeRefused(Gone),
     /// The connection named is not the live one, whose number this is; 0 for none.
     Stale(u64),
     /// The call is refused.
@@ -96,6 +99,7 @@ impl Answer {
             Answer::PeerError(code) => Answer::PeerError(*code),
             Answer::Violation(rule) => Answer::Violation(*rule),
             Answer::SetupRefused(fault) => Answer::SetupRefused(*fault),
+            Answer::ResumeRefused(gone) => Answer::ResumeRefused(*gone),
             Answer::Stale(conn) => Answer::Stale(*conn),
             Answer::Refused(refusal) => Answer::Refused(*refusal),
             Answer::Closed(cause) => Answer::Closed(*cause),

@@ -2,11 +2,12 @@
 
 ghost use Rattle.std.specs.Prelude.{◌≡◌, ◌++◌, OnOk};
 ghost use Rattle.rs_frame.specs.Spelling.{IsSpellable};
-ghost use Rattle.cable.specs.Report.{call_text, event_text, frame_text, initial_text, last_text, next_word, numbered};
+ghost use Rattle.cable.specs.Report.{call_text, event_text, frame_text, initial_text};
+ghost use Rattle.cable_script.specs.Spoken.{last_text, next_word, numbered};
 ghost use Rattle.cable.specs.Lines.{CanBeTold};
 
 use crate::reports::answers::put_numbered;
-use crate::reports::text::{kind_word, next_word};
+use cable_script::{kind_word, next_word};
 use frame_text::frame_name;
 use plain_text::{write_number_word, write_text};
 use rs_frame::Frame;

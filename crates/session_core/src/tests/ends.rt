@@ -12,6 +12,8 @@ pub const CLIENT: Limits = Limits {
     last_id: 3,
     top_position: 16,
     mtu: 0,
+    resume: false,
+    hold: 0,
 };
 
 /// A client without narrow limits.
@@ -22,6 +24,8 @@ pub const WIDE_CLIENT: Limits = Limits {
     last_id: 9,
     top_position: 100_000_000,
     mtu: 0,
+    resume: false,
+    hold: 0,
 };
 
 /// A server whose messages have 4 bytes at most, up to position 14.
@@ -32,12 +36,27 @@ pub const SERVER: Limits = Limits {
     last_id: 9,
     top_position: 14,
     mtu: 0,
+    resume: false,
+    hold: 0,
 };
 
 /// A server without narrow limits.
 pub const WIDE_SERVER: Limits = Limits {
     side: Side::Server,
     ..WIDE_CLIENT
+};
+
+/// A client that resumes by the token `tok1`, and holds 16 bytes.
+pub const RESUMING_CLIENT: Limits = Limits {
+    resume: true,
+    hold: 16,
+    ..WIDE_CLIENT
+};
+
+/// A server that agrees to resumption, and holds 16 bytes.
+pub const RESUMING_SERVER: Limits = Limits {
+    side: Side::Server,
+    ..RESUMING_CLIENT
 };
 
 /// No frame was made or handled.
@@ -81,6 +100,27 @@ pub const SETUP: &[u8] = b"\
     \x00\x00\x44\x00\x00\x00\x00\x04\x00\x00\x01\x00\x00\x00\x00\x4e\x20\x00\x01\x5f\x90\
     \x18application/octet-stream\
     \x18application/octet-stream";
+
+/// The SETUP of a client that resumes by the token `tok1`, after its length of 74: R, and the token after
+/// its length of 4.
+pub const RESUMING_SETUP: &[u8] = b"\
+    \x00\x00\x4a\x00\x00\x00\x00\x04\x80\x00\x01\x00\x00\x00\x00\x4e\x20\x00\x01\x5f\x90\
+    \x00\x04tok1\
+    \x18application/octet-stream\
+    \x18application/octet-stream";
+
+/// A RESUME by the token `tok1` before its two positions, after its length of 32: stream 0, type 13,
+/// version 1.0.
+pub const RESUME: &[u8] = b"\x00\x00\x20\x00\x00\x00\x00\x34\x00\x00\x01\x00\x00\x00\x04tok1";
+
+/// A RESUME_OK before its position, after its length of 14: stream 0, type 14.
+pub const RESUME_OK: &[u8] = b"\x00\x00\x0e\x00\x00\x00\x00\x38\x00";
+
+/// The position 0 in 8 bytes.
+pub const AT_0: &[u8] = b"\x00\x00\x00\x00\x00\x00\x00\x00";
+
+/// The position 8 in 8 bytes.
+pub const AT_8: &[u8] = b"\x00\x00\x00\x00\x00\x00\x00\x08";
 
 /// The ERROR that closes a session, without content, after its length of 10: stream 0, type 11, code
 /// 0x101.

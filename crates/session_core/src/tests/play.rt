@@ -9,7 +9,7 @@ ghost use Rattle.session_core.specs.Seen.{IsNoDrawEvent};
 use super::step::Step;
 use crate::{Counts, Session};
 use rs_frame::spellable;
-use rs_wire::{Call, Cause, Kind, Settings, Side, check, is_stream_code};
+use rs_wire::{Blob, Call, Cause, Kind, Settings, Side, check, is_stream_code};
 use std::alloc::Global;
 use std::process::Abort;
 use tape::{Answer, Event, Kept, Tape};
@@ -29,6 +29,10 @@ pub struct Limits {
     pub top_position: u64,
     /// How many bytes a frame has that is sent, 0 for no limit.
     pub mtu: u32,
+    /// Whether it resumes: a client by the token `tok1`.
+    pub resume: bool,
+    /// How many bytes of frames it holds.
+    pub hold: u64,
 }
 
 /// What a session shows of itself.
@@ -64,6 +68,19 @@ impl Shown {
     pub fn parted(self) -> Shown {
         Shown {
             live: 0,
+            carrying: false,
+            ..self
+        }
+    }
+
+    /// The same with this live connection.
+    pub fn on(self, live: u64) -> Shown {
+        Shown { live, ..self }
+    }
+
+    /// The same, which waits for RESUME_OK.
+    pub fn waiting(self) -> Shown {
+        Shown {
             carrying: false,
             ..self
         }
@@ -105,7 +122,11 @@ impl Shown {
 /// A session that is not begun.
 pub fn session(rt: &impl Abort, alloc: Global, limits: Limits) -> Session<Kept> {
     let mut settings = Settings::usual(alloc, limits.side).expect(rt, "there is memory");
-    settings.hold = 0;
+    settings.hold = limits.hold;
+    settings.resume = limits.resume;
+    if limits.resume && limits.side == Side::Client {
+        settings.token = Blob::from_slice(alloc, b"tok1").expect(rt, "there is memory");
+    }
     settings.slack = 0;
     settings.max_payload = limits.max_payload;
     settings.max_streams = limits.max_streams;
@@ -194,7 +215,8 @@ fn draw(
     answer
 }
 
-fn answer(
+/// The answer to a step. The bytes drawn are appended to those sent.
+pub fn answer(
     rt: &impl Abort,
     alloc: Global,
     session: &mut Session<Kept>,

@@ -1,6 +1,6 @@
 //! Events in short, for the tables.
 
-use rs_frame::{Frame, Request, Setup};
+use rs_frame::{Frame, Request, Resume, Setup};
 use rs_wire::{Amount, Blob, Call, Kind, Message};
 use std::alloc::Global;
 use std::process::Abort;
@@ -17,8 +17,34 @@ pub enum First {
     Resuming,
     /// A SETUP that asks for leases.
     Leasing,
+    /// A SETUP that asks for resumption by the token `tok1`.
+    Tok1,
+    /// A RESUME.
+    Resume(Again),
     /// No SETUP, but CANCEL.
     Other,
+}
+
+/// A token of a client.
+#[derive(Clone, Copy)]
+pub enum Token {
+    /// That of the session, `tok1`.
+    Own,
+    /// Another one, `tok2`.
+    Other,
+}
+
+/// What a RESUME says.
+#[derive(Clone, Copy)]
+pub struct Again {
+    /// Its major version.
+    pub major: u16,
+    /// Its token.
+    pub token: Token,
+    /// The position up to which the client handled what the server made.
+    pub server_position: u64,
+    /// The position from which on the client holds what it made.
+    pub client_position: u64,
 }
 
 /// What a fragment carries: a byte of metadata where it has any, and one of content.
@@ -54,6 +80,12 @@ pub enum Strange {
     Setup,
     /// A REQUEST_RESPONSE.
     Response,
+    /// A fire-and-forget on a stream, of this many bytes.
+    Told(u32, usize),
+    /// An ERROR of this code on stream 0.
+    SessionError(u32),
+    /// A RESUME_OK of this position.
+    ResumeOk(u64),
     /// A REQUEST_RESPONSE on a stream, with this piece of its message.
     First(u32, Piece),
     /// PAYLOAD with N on a stream, with this piece of a message.
@@ -121,6 +153,10 @@ fn with_metadata(rt: &impl Abort, alloc: Global, len: usize, metadata: usize) ->
     }
 }
 
+fn blob(rt: &impl Abort, alloc: Global, text: &str) -> Blob {
+    Blob::from_slice(alloc, text.as_bytes()).expect(rt, "there is memory")
+}
+
 // A blob of one byte.
 fn byte(rt: &impl Abort, alloc: Global, byte: u8) -> Blob {
     Blob::from_slice(alloc, &[byte]).expect(rt, "there is memory")
@@ -151,12 +187,27 @@ fn setup(rt: &impl Abort, alloc: Global, major: u16, resume: Option<Blob>, lease
     })
 }
 
+fn token_bytes(rt: &impl Abort, alloc: Global, token: Token) -> Blob {
+    match token {
+        Token::Own => blob(rt, alloc, "tok1"),
+        Token::Other => blob(rt, alloc, "tok2"),
+    }
+}
+
 fn first_frame(rt: &impl Abort, alloc: Global, first: First) -> Frame {
     match first {
         First::Good => setup(rt, alloc, 1, None, false),
         First::Newer => setup(rt, alloc, 2, None, false),
         First::Resuming => setup(rt, alloc, 1, Some(empty(alloc)), false),
         First::Leasing => setup(rt, alloc, 1, None, true),
+        First::Tok1 => setup(rt, alloc, 1, Some(blob(rt, alloc, "tok1")), false),
+        First::Resume(again) => Frame::Resume(Resume {
+            major: again.major,
+            minor: 0,
+            token: token_bytes(rt, alloc, again.token),
+            server_position: again.server_position,
+            client_position: again.client_position,
+        }),
         First::Other => Frame::Cancel { stream: 1 },
     }
 }
@@ -209,6 +260,9 @@ fn strange_frame(rt: &impl Abort, alloc: Global, strange: Strange) -> Frame {
         },
         Strange::Setup => setup(rt, alloc, 1, None, false),
         Strange::Response => request(4, Kind::Response, false, message(rt, alloc, 0)),
+        Strange::Told(stream, len) => { request(stream, Kind::Fnf, false, message(rt, alloc, len)) }
+        Strange::SessionError(code) => error(alloc, 0, code),
+        Strange::ResumeOk(position) => Frame::ResumeOk { position },
         Strange::First(stream, piece) => request(
             stream,
             Kind::Response,

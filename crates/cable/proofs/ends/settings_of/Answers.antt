@@ -1,5 +1,6 @@
-use Rattle.std.proofs.Common.{◌≡◌, refl, ◌∙◌}
-use Rattle.cable.specs.Setting.{settings_by}
+use Rattle.std.proofs.Common.{◌≡◌, ap, refl, ◌∙◌}
+use Rattle.cable_script.specs.Setting.{set_by, settings_by}
+use Rattle.cable_script.specs.declared.setting.SettingLine.{SettingLine}
 use Rattle.cable.proofs.Settings.{all_set, not_wrong, one_set, plain_as}
 use Rattle.cable.proofs.ends.settings_of.Goals as goal
 
@@ -7,7 +8,9 @@ pub loop-line-init : goal.loop-line-init
 loop-line-init c = record { left = rw c.in_ok-settings.ensures refl }
 
 pub loop-line-preserved : goal.loop-line-preserved
-loop-line-preserved c = record { left = one_set _ _ _ _ _ _ c.loop-line-test.true c.apply.ensures ∙ c.loop-line.invariant.left }
+loop-line-preserved c =
+    let set = c.in_ok-apply.ensures.ok ∙ ap (λ (l : SettingLine). set_by c.args.side l c.loop-line.settings) c.line-item.is in
+    record { left = one_set c.args.side c.settings-line-items.result.now c.loop-line.line-index c.line-item.result c.loop-line.settings c.apply.new.settings c.loop-line-test.true set ∙ c.loop-line.invariant.left }
 
 pub unreachable-requires : goal.unreachable-requires
 unreachable-requires c =

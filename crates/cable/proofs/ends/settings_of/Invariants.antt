@@ -1,5 +1,5 @@
 use Rattle.std.proofs.Common.{◌≡◌, drop}
-use Rattle.cable.specs.Setting.{set_by_all, settings_by}
+use Rattle.cable_script.specs.Setting.{set_by_all, settings_by}
 use Rattle.cable.proofs.ends.settings_of.Given as goal
 
 abbrev pub invariant-loop-line : goal.invariant-loop-line

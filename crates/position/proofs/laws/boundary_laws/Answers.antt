@@ -3,6 +3,7 @@ use Rattle.rs_frame.specs.declared.frame.Frame.{Frame}
 use Rattle.rs_frame.specs.Spelling.{length_of}
 use Rattle.position.specs.Boundaries.{pos, acked, first}
 use Rattle.position.proofs.Boundaries.{pos-append, acked-boundary, acked-at_most, acked-greatest, boundary-le, least-boundary, least-at_least, least-least, from-kept, pos-from}
+use Rattle.position.proofs.Held.{boundary_test, test_boundary}
 use Rattle.position.proofs.laws.boundary_laws.Goals as goal
 
 first_least : (fs : List Frame) (told hold : ℕ) → max (acked fs told) (pos fs - hold) ≤ first fs told hold
@@ -12,6 +13,7 @@ first_least fs told hold =
 
 pub returns : goal.returns
 returns c = record {
+  test = λ fs p. (boundary_test length_of fs p, test_boundary length_of fs p);
   sum = pos-append length_of;
   acked_boundary = acked-boundary length_of;
   acked_at_most = acked-at_most length_of;

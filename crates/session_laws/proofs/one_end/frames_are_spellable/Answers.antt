@@ -1,9 +1,9 @@
-use Rattle.session_model.proofs.Spelled.{refusal_spelled}
-use Rattle.session_laws.proofs.Spelled.{made_spelled, due_spelled, came_spelled}
+use Rattle.session_model.proofs.Beside.{made_spellable, refusal_spelled}
+use Rattle.session_laws.proofs.Spelled.{due_spelled, came_spelled}
 use Rattle.session_laws.proofs.one_end.frames_are_spellable.Goals as goal
 
 pub returns-clause-made : goal.returns-clause-made
-returns-clause-made c = made_spelled
+returns-clause-made c = λ g past plain. made_spellable g past plain.checked
 
 pub returns-clause-due : goal.returns-clause-due
 returns-clause-due c = due_spelled

@@ -1,4 +1,4 @@
-use Rattle.session_laws.proofs.Agreed.{no_resumption, no_leases}
+use Rattle.session_model.proofs.Agreed.{no_resumption, no_leases}
 use Rattle.session_laws.proofs.one_end.nothing_more_is_agreed.Goals as goal
 
 pub returns-clause-resumption : goal.returns-clause-resumption

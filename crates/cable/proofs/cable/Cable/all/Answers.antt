@@ -1,4 +1,4 @@
-use Rattle.cable.proofs.Followed.{keeps_on}
+use Rattle.cable.proofs.Rounds.{keeps_on}
 use Rattle.cable.proofs.Playing.{all_played, line_played, some_at}
 use Rattle.cable.proofs.cable.Cable.all.Goals as goal
 

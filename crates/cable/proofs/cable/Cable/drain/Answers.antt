@@ -1,8 +1,7 @@
-use Rattle.std.proofs.Common.{◌≡◌, Bool, true, false, arith, sym, subst}
-use Rattle.cable.specs.Played.{Ends, Round, Sides}
-use Rattle.cable.specs.Wires.{At, IsMoved, Reaches, sides_of}
-use Rattle.cable.proofs.Followed.{IsLeft, drain_begins, drain_ends, drain_on, drain_stops, keeps_none, keeps_on, sides_kept, still_at}
-use Rattle.cable.proofs.cable.Cable.drain.Given.{Over}
+use Rattle.std.proofs.Common.{Bool, true, false, arith, subst}
+use Rattle.cable.specs.Played.{Round, Sides}
+use Rattle.cable.specs.Wires.{IsMoved, Reaches, sides_of}
+use Rattle.cable.proofs.Rounds.{drain_begins, drain_ends, drain_on, drain_stops, keeps_none, keeps_on, sides_kept, still_at}
 use Rattle.cable.proofs.cable.Cable.drain.Goals as goal
 
 pub loop-init : goal.loop-init

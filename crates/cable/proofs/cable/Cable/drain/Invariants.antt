@@ -1,6 +1,6 @@
 use Rattle.cable.specs.Played.{Ends}
 use Rattle.cable.specs.Wires.{At, IsAt, Keeps, Reaches, sides_of}
-use Rattle.cable.proofs.Followed.{IsLeft}
+use Rattle.cable.proofs.Rounds.{IsLeft}
 use Rattle.cable.proofs.cable.Cable.drain.Given as goal
 
 abbrev pub invariant-loop : goal.invariant-loop

@@ -1,10 +1,10 @@
 use Rattle.std.proofs.Common.{◌≡◌, ℕ, sym, subst, OnOk}
 use Rattle.rs_wire.specs.declared.call.Call.{Call}
-use Rattle.cable.specs.declared.script.line.Line.{Line}
+use Rattle.cable_script.specs.declared.line.Line.{Line}
 use Rattle.cable.specs.declared.carrying.Most.TheVariants as most
-use Rattle.cable.specs.Played.{Downs, PlaysLine, Ups, an_item, asks_often}
+use Rattle.cable.specs.Played.{Downs, Lates, PlaysLine, Ups, an_item, asks_often}
 use Rattle.cable.specs.Wires.{Reaches, sides_of}
-use Rattle.cable.proofs.Followed.{first_holds}
+use Rattle.cable.proofs.Rounds.{first_holds}
 use Rattle.cable.proofs.cable.Cable.line.Goals as goal
 
 pub returns-in_ok-up-in-Up-clause-played : goal.returns-in_ok-up-in-Up-clause-played
@@ -36,3 +36,15 @@ returns-in-Drain-clause-played g c = λ r at. subst (λ (l : Line). OnOk c.drain
 
 pub returns-in-Cut-clause-played : goal.returns-in-Cut-clause-played
 returns-in-Cut-clause-played g c = λ r at. subst (λ (l : Line). OnOk c.cut.result (Reaches c.cut.new.self (PlaysLine (sides_of c.args.self.now) l r))) (sym c.in-Cut.is) (c.cut.ensures.played r at)
+
+pub returns-in-Open-clause-played : goal.returns-in-Open-clause-played
+returns-in-Open-clause-played g c = λ r at. subst (λ (l : Line). OnOk c.open.result (Reaches c.open.new.self (PlaysLine (sides_of c.args.self.now) l r))) (sym c.in-Open.is) (c.open.ensures.played r at)
+
+pub returns-in-Drop-clause-played : goal.returns-in-Drop-clause-played
+returns-in-Drop-clause-played g c = λ r at. subst (λ (l : Line). OnOk c.give_up.result (Reaches c.give_up.new.self (PlaysLine (sides_of c.args.self.now) l r))) (sym c.in-Drop.is) (c.give_up.ensures.played r at)
+
+pub returns-in-Late-clause-played : goal.returns-in-Late-clause-played
+returns-in-Late-clause-played g c = λ r at.
+    let s = sides_of c.args.self.now in
+    subst (λ (l : Line). OnOk c.late.result (Reaches c.late.new.self (PlaysLine s l r))) (sym c.in-Late.is)
+    (subst (λ (n : ℕ). OnOk c.late.result (Reaches c.late.new.self (Lates s (most.Bytes n) r))) c.get-in-Late.ensures.value (c.late.ensures.played r at))

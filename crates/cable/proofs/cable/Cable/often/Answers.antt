@@ -1,8 +1,11 @@
 use Rattle.std.proofs.Common.{◌≡◌, arith, subst}
 use Rattle.cable.specs.Played.{Sides, asks}
 use Rattle.cable.specs.Wires.{Reaches, sides_of}
-use Rattle.cable.proofs.Followed.{keeps_on, often_ends, often_on, sides_kept, still_at}
+use Rattle.cable.proofs.Rounds.{keeps_none, keeps_on, often_begins, often_ends, often_on, sides_kept, still_at}
 use Rattle.cable.proofs.cable.Cable.often.Goals as goal
+
+pub loop-init : goal.loop-init
+loop-init g c = record { at = c.requires.at; ends = keeps_none c.args.self.now; played = λ r at. often_begins c.args.n (sides_of c.args.self.now) c.args.side c.args.call.now c.args.self.now r at }
 
 pub loop-preserved : goal.loop-preserved
 loop-preserved g c =

@@ -1,9 +1,8 @@
 use Rattle.std.proofs.Common.{sym, subst, Bool}
 use Rattle.cable.specs.Played.{Downs, Round, Sides}
-use Rattle.cable.specs.Played.{Ends}
 use Rattle.cable.specs.Wires.{IsMoved, Reaches, sides_of}
 use Rattle.cable.specs.declared.carrying.Most.TheVariants as most
-use Rattle.cable.proofs.Followed.{keeps_on, round_played, sides_kept, still_at}
+use Rattle.cable.proofs.Rounds.{keeps_on, round_played, sides_kept, still_at}
 use Rattle.cable.proofs.cable.Cable.round.Goals as goal
 
 pub down-requires-clause-at : goal.down-requires-clause-at

@@ -1,10 +1,11 @@
-use Rattle.std.proofs.Common.{◌≡◌, sym, subst, arith}
+use Rattle.std.proofs.Common.{◌≡◌, ◌∙◌, ap, map, sym, subst, arith}
 use Rattle.position.specs.Boundaries.{pos_by}
 use Rattle.tape.specs.declared.event.Event.TheVariants as event
 use Rattle.session_model.specs.Answers.{answer_to}
 use Rattle.session_core.specs.Seen.{Seen}
-use Rattle.session_core.proofs.Standing.{after_cut, of_cut}
-use Rattle.session_core.proofs.Soundness.{sound_more}
+use Rattle.session_core.proofs.Standing.{after_cut, cut_keeps, of_cut}
+use Rattle.rs_frame.specs.Spelling.{canonical}
+use Rattle.session_core.proofs.Soundness.{end_below, sound_more}
 use Rattle.session_core.proofs.session.Session.part.Goals as goal
 
 pub invariant_of-self : goal.invariant_of-self
@@ -19,6 +20,26 @@ invariant_of-self g c =
 pub act-requires-clause-position : goal.act-requires-clause-position
 unfolding pos_by
 act-requires-clause-position g c = rw c.nothing_more-prepared.ensures.made (omega (arith, c.self.invariant.made.position, c.self.invariant.plain.checked.top_position))
+
+pub act-requires-clause-spelled : goal.act-requires-clause-spelled
+act-requires-clause-spelled g c =
+    c.nothing_more-prepared.ensures.spelled
+    ∙ ap (map canonical) (sym (cut_keeps c.self.inside.settings c.self.inside.state c.args.conn c.args.answer c.requires.of_cut))
+
+pub act-requires-clause-long : goal.act-requires-clause-long
+act-requires-clause-long g c = rw c.nothing_more-prepared.ensures.spelled tt
+
+pub act-requires-clause-spare : goal.act-requires-clause-spare
+unfolding pos_by
+act-requires-clause-spare g c = rw c.nothing_more-prepared.ensures.spelled (record { frames = omega arith; bytes = omega arith })
+
+pub act-requires-clause-held_position : goal.act-requires-clause-held_position
+unfolding pos_by
+act-requires-clause-held_position g c =
+    let e = event.Cut c.args.conn in
+    let s = c.self.inside.state in
+    let end = end_below c.self.inside.settings s c.self.inside.history c.self.invariant.fits in
+    rw c.nothing_more-prepared.ensures.spelled (omega (arith, end, c.self.invariant.made.position, c.self.invariant.plain.checked.top_position))
 
 pub act-requires-clause-heard : goal.act-requires-clause-heard
 act-requires-clause-heard g c = c.self.invariant.fits.heard

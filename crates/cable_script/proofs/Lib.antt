@@ -1,0 +1,6 @@
+mod Cuts
+mod Spaced
+mod Texts
+mod Reading
+mod OneLine
+pub mod OneScript
