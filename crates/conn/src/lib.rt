@@ -21,3 +21,6 @@ mod waits;
 pub use caller::Caller;
 pub use conn_shared::Looked;
 pub use connection::Connection;
+
+#[cfg(test)]
+mod tests;

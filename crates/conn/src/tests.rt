@@ -1,0 +1,6 @@
+//! Trials of callers in one thread. They are written for any tape, since a proof is dearer the more
+//! types a function knows.
+
+mod calls;
+mod ends;
+mod joins;
