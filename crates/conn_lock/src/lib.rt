@@ -8,7 +8,8 @@
 //! one caller in the order in which it made them.
 //!
 //! It is a ticket lock on three words and one slot: the next ticket, the ticket that is served, and
-//! how many numbers were given out. `specs/Rule.antt` has the rule between them. A front is known to
+//! how many numbers were given out. `specs/Rule.antt` has the rule between them. A ticket is drawn only
+//! while it is served, so turns go to whoever asks first once the lock is free. A front is known to
 //! contracts alone, so a turn allocates nothing, however long the list grows.
 //!
 //! Left out: that a waiting caller comes to its turn, fairness, and any order between two callers

@@ -36,7 +36,7 @@ impl<S: Stands> Lock<S> {
         }
     }
 
-    /// A turn, where nobody has one or waits for one. It waits for nobody.
+    /// A turn, where nobody has one. It waits for nobody.
     ///
     /// It is refused only where the next ticket was not the one that was served when this call
     /// looked, which counts as a miss of the seat, or where the last ticket, 2^64 - 1, is served.
@@ -105,7 +105,8 @@ impl<S: Stands> Lock<S> {
         }
     }
 
-    // Draws a ticket, which is never the last.
+    // Draws the ticket that is served, once nobody has it. It is never the last. No ticket waits in
+    // line, so a thread that waits and does not run holds up nobody.
     fn draw<R: Wait>(&self, rt: &R, token: &mut Token<S>) -> u64
         requires of { token.old.table_id ≡ self.now }
         requires idle { (token.old.me.1 ≡ []) × (token.old.me.0.tickets ≡ [])
@@ -115,23 +116,25 @@ impl<S: Stands> Lock<S> {
         ensures ticket { token.new.me ≡
             (record token.old.me.0 { tickets = result ∷ []; note = None }, []) }
     {
-        let mut seen = self.table.shared.peek(TICKET);
+        let backoff = Backoff::new();
         for _ in rt.forever() {
-            if seen < u64::MAX {
+            let served = self.table.shared.peek(SERVING);
+            if served < u64::MAX && self.table.shared.peek(TICKET) == served {
                 let found = self
                     .table
                     .shared
-                    .compare_exchange::<Draw>(token, TICKET, seen, seen + 1);
-                if found == seen {
+                    .compare_exchange::<Draw>(token, TICKET, served, served + 1);
+                if found == served {
                     return found;
                 }
-                seen = found;
             }
+            backoff.snooze();
         }
         unreachable!()
     }
 
-    // Waits until the ticket is served. The value is then out of the slot, with the seat.
+    // Waits until the ticket is served, as it is already where `draw` gave it. The value is then out
+    // of the slot, with the seat.
     fn wait_turn<R: Wait>(&self, rt: &R, token: &mut Token<S>, ticket: u64)
         requires of { token.old.table_id ≡ self.now }
         requires waits { (token.old.me.1 ≡ []) × (token.old.me.0.tickets ≡ ticket ∷ [])

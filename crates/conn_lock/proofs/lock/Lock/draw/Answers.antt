@@ -10,6 +10,6 @@ compare_exchange-found-requires g c =
     let idle = c.requires.idle in (
       kept.2 ∙ (c.requires.of ∙ sym c.self.view_is),
       search rules,
-      draws (slot_list g.S.Stands.list) IsSome g.S.Stands.number c.self.inside.table.shared.table_id.slots c.loop.token.id c.loop.token.me c.loop.seen (c.loop.seen + 1) refl
+      draws (slot_list g.S.Stands.list) IsSome g.S.Stands.number c.self.inside.table.shared.table_id.slots c.loop.token.id c.loop.token.me c.peek-served.result (c.peek-served.result + 1) refl
           (ap (λ m. m.0.tickets) same ∙ idle.1) (ap (λ m. m.0.turn) same ∙ idle.2) (rw same idle.3),
     )
