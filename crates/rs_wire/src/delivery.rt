@@ -60,6 +60,11 @@ pub enum Job {
         /// The requester sends nothing more: true only for a channel.
         complete: bool,
     },
+    /// Metadata for the whole connection (RSocket 1.0, "METADATA_PUSH Frame"). Nothing answers it.
+    Pushed {
+        /// The metadata.
+        metadata: Blob,
+    },
 }
 
 impl Job {
@@ -67,20 +72,23 @@ impl Job {
     pub fn copy(&self, alloc: Global) -> Result<Job, OutOfMemory>
         ensures { IfOk result (λ j. j ≡ self.now) }
     {
-        match self {
+        Ok(match self {
             Job::Asked {
                 stream,
                 kind,
                 initial,
                 message,
                 complete,
-            } => Ok(Job::Asked {
+            } => Job::Asked {
                 stream: *stream,
                 kind: *kind,
                 initial: *initial,
                 message: message.copy(alloc)?,
                 complete: *complete,
-            }),
-        }
+            },
+            Job::Pushed { metadata } => Job::Pushed {
+                metadata: metadata.copy(alloc)?,
+            },
+        })
     }
 }
