@@ -21,3 +21,4 @@ pub mod ReadStreams
 pub mod HandedOut
 pub mod Fragments
 pub mod Rows
+pub mod WithinLeases

@@ -241,13 +241,13 @@ came (x ∷ past) c = came past c ++ brings past c x.event
 
 -- ---- seen
 
--- a frame that this end made, or one that it handled
+-- a frame that this end made, or one that it handled, with whether a request was covered then
 pub data Mark : Type 0 where
   Sent : Frame → Mark
-  Got : Frame → Mark
+  Got : (covered : Bool) → Frame → Mark
 
 abbrev pub marks : Settings → Bool → Known → Answer → Event → List Mark
-marks g covered t a e = map Mark.Got (handles a e) ++ map Mark.Sent (makes g covered t a e)
+marks g covered t a e = map (Mark.Got covered) (handles a e) ++ map Mark.Sent (makes g covered t a e)
 
 -- all resumable frames of this end in the order of the entries, each marked
 unfoldable pub seen : Settings → List Entry → List Mark
