@@ -22,3 +22,4 @@ pub mod HandedOut
 pub mod Fragments
 pub mod Rows
 pub mod WithinLeases
+pub mod RowsOfMoments
