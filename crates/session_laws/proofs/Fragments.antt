@@ -1,5 +1,5 @@
 -- No request or payload that was made is longer than the mtu.
-use Rattle.std.proofs.Common.{◌≡◌, ◌≤◌, ℕ, false, cond, true, Bool, List, [], ◌∷◌, ◌++◌, Option, Some, None, IfSome, arith}
+use Rattle.std.proofs.Common.{◌≡◌, ◌≤◌, ℕ, false, Bool, List, [], ◌∷◌, ◌++◌, Option, Some, None, IfSome, arith}
 use Rattle.std.proofs.lemmas.Grind.{common_steps}
 use Rattle.std.specs.List.{AllByRecursion}
 use Rattle.rs_wire.specs.declared.call.Call.{Call}

@@ -1,5 +1,5 @@
 -- Keepalives, leases and pushed metadata, entry by entry: the worked examples of moments in docs/definitions.md, by computing.
-use Rattle.std.proofs.Common.{◌≡◌, ℕ, false, true, List, [], ◌∷◌, Option, Some, None, refl}
+use Rattle.std.proofs.Common.{◌≡◌, ℕ, false, true, List, [], ◌∷◌, Some, None, refl}
 use Rattle.std.specs.Prelude.{codes}
 use Rattle.rs_wire.specs.Settings.{usual}
 use Rattle.rs_wire.specs.declared.words.Side.TheVariants.{Client, Server}
@@ -12,7 +12,6 @@ use Rattle.rs_wire.specs.declared.fault.Cause.TheVariants as cause
 use Rattle.rs_wire.specs.declared.fault.Refusal.TheVariants as refusal
 use Rattle.rs_wire.specs.declared.fault.Rule.TheVariants as rule
 use Rattle.rs_wire.specs.declared.fault.SetupFault.TheVariants as fault
-use Rattle.rs_frame.specs.declared.frame.Frame.{Frame}
 use Rattle.rs_frame.specs.declared.frame.Frame.TheVariants as frame
 use Rattle.tape.specs.declared.answer.Answer.{Answer}
 use Rattle.tape.specs.declared.answer.Answer.TheVariants as answer

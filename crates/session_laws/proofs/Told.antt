@@ -1,6 +1,5 @@
 -- The positions that the peer told, and where what is held begins.
-use Rattle.std.proofs.Common.{◌≡◌, ◌↔◌, ◌≤◌, ◌-◌, ◌++◌, ◌&&◌, inl, inr, ℕ, Bool, true, false, cond, max, List, [], ◌∷◌, Some, subst, arith, sym, ◌+◌}
-use Rattle.std.proofs.lemmas.Bool.{cases_lt}
+use Rattle.std.proofs.Common.{◌≡◌, ◌↔◌, ◌≤◌, ◌-◌, ◌++◌, ◌&&◌, ℕ, Bool, true, false, cond, max, List, [], ◌∷◌, Some, subst, arith, sym, ◌+◌}
 use Rattle.rs_wire.specs.declared.settings.Settings.{Settings}
 use Rattle.rs_frame.specs.declared.frame.Frame.{Frame}
 use Rattle.rs_frame.specs.declared.frame.Frame.TheVariants as frame
@@ -12,8 +11,8 @@ use Rattle.tape.specs.declared.event.Event.TheVariants as event
 use Rattle.tape.specs.declared.entry.Entry.{Entry}
 use Rattle.position.specs.Boundaries.{IsBoundary, acked, first as first_held, frames_from, pos, pos_by}
 use Rattle.std.specs.Prelude.{nat_lt}
-use Rattle.position.proofs.Boundaries.{pos-append, acked-boundary, boundary-le, boundary_zero, least-at_least, least-boundary, pos-from}
-use Rattle.position.proofs.Growing.{boundary_grown, boundary_rest, boundary_whole}
+use Rattle.position.proofs.Boundaries.{pos-append, acked-boundary, boundary-le, least-at_least, least-boundary, pos-from}
+use Rattle.position.proofs.Growing.{boundary_rest, boundary_whole}
 use Rattle.position.proofs.Held.{acked_more, first_more}
 use Rattle.std.proofs.lemmas.Bool.Decides.{nat_tests}
 use Rattle.session_model.proofs.Breaking.{unbroken}

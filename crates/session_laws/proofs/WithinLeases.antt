@@ -1,5 +1,5 @@
 -- Requests stay within leases, and the moment never falls.
-use Rattle.std.proofs.Common.{◌≡◌, ◌≤◌, ◌<◌, ◌+◌, ◌++◌, ◌&&◌, ℕ, Bool, true, false, cond, List, [], ◌∷◌, Option, Some, None, is_some, refl, ap, sym, subst, ◌∙◌, arith, max, min}
+use Rattle.std.proofs.Common.{◌≡◌, ◌≤◌, ◌<◌, ◌+◌, ◌++◌, ◌&&◌, ℕ, Bool, true, false, cond, List, [], ◌∷◌, Option, Some, None, is_some, refl, subst, arith}
 use Rattle.std.proofs.lemmas.Grind.{common_steps}
 use Rattle.std.proofs.lemmas.Bool.Decides.{nat_tests}
 use Rattle.std.specs.Prelude.{nat_lt}
@@ -9,7 +9,6 @@ use Rattle.rs_wire.specs.declared.fault.Refusal.{Refusal}
 use Rattle.rs_wire.specs.declared.message.Message.{Message}
 use Rattle.rs_wire.specs.declared.settings.Settings.{Settings}
 use Rattle.rs_wire.specs.declared.words.Kind.{Kind}
-use Rattle.rs_frame.specs.declared.frame.Frame.{Frame}
 use Rattle.rs_frame.specs.declared.frame.Frame.TheVariants as frame
 use Rattle.rs_frame.specs.declared.frame.Setup.{Setup}
 use Rattle.stream_model.specs.Known.{next_id}
@@ -21,7 +20,7 @@ use Rattle.tape.specs.declared.entry.Entry.{Entry}
 use Rattle.tape.specs.declared.event.Event.{Event}
 use Rattle.tape.specs.declared.event.Event.TheVariants as event
 use Rattle.session_model.specs.declared.numbers.TheConstants.{LAST_MOMENT}
-use Rattle.session_model.specs.Answers.{Facts, answer_to, facts, lease_refused, refused_call}
+use Rattle.session_model.specs.Answers.{Facts, answer_to, facts, lease_refused}
 use Rattle.session_model.specs.Frames.{in_fragments, request_frame}
 use Rattle.session_model.specs.Leases.{Leased, changes_connection, covered, covered_in, last_lease, lease, let_in_sum, lets_in, leases_in, made_since_lease, starts_in, terms_of}
 use Rattle.session_model.specs.Lists.{first_of}
