@@ -1,6 +1,6 @@
 //! The answer to a call.
 
-ghost use Rattle.std.specs.Prelude.{◌≡◌, ◌<◌, ◌≤◌, ◌^◌, ℕ, List, [], ◌∷◌, None, IfOk};
+ghost use Rattle.std.specs.Prelude.{◌≡◌, ◌≢◌, ◌<◌, ◌≤◌, ◌^◌, ℕ, List, [], ◌∷◌, None, IfOk};
 ghost use Rattle.rs_wire.specs.Calls.{CanBeAsked};
 ghost use Rattle.interactions.specs.Seen.{known_to};
 ghost use Rattle.session_model.specs.Frames.{spoken};
@@ -135,7 +135,20 @@ fn refused_beside(settings: &Checked, state: &State, size: SplitSize) -> Option<
     None
 }
 
-// Close needs no connection, and a frame of the connection alone one that carries it.
+// The frames of a call that is not Close can't be sent.
+fn refused_frame(settings: &Checked, state: &State, call: &Call) -> Option<Refusal>
+    requires room { HasRoom state.now }
+    requires size { size_in call.now ≤ 16000000 }
+    ensures { call.now ≢ Call.Close → result ≡
+        by_sending settings.now (facts_of state.now) call.now }
+{
+    match size_beside(call) {
+        Some(size) => refused_beside(settings, state, size),
+        None => refused_sending(settings, state, call),
+    }
+}
+
+// Close needs no connection.
 fn by_sending(settings: &Checked, state: &State, call: &Call) -> Option<Refusal>
     requires room { HasRoom state.now }
     requires size { size_in call.now ≤ 16000000 }
@@ -143,10 +156,7 @@ fn by_sending(settings: &Checked, state: &State, call: &Call) -> Option<Refusal>
 {
     match call {
         Call::Close => refused_closing(settings, state),
-        _ => match size_beside(call) {
-            Some(size) => refused_beside(settings, state, size),
-            None => refused_sending(settings, state, call),
-        },
+        _ => refused_frame(settings, state, call),
     }
 }
 

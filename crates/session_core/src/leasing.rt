@@ -3,9 +3,9 @@
 
 ghost use Rattle.std.specs.Prelude.{◌≡◌, ◌<◌, ◌^◌};
 ghost use Rattle.lease.specs.Lease.{lease_fault};
-ghost use Rattle.session_model.specs.Answers.{by_agreement, by_lease, covered_by, lease_refused, leases_by};
+ghost use Rattle.session_model.specs.Answers.{by_agreement, by_lease, lease_refused, leases_by};
 ghost use Rattle.session_core.specs.Fits.{facts_of};
-ghost use Rattle.session_core.specs.Leasing.{LetsStart, lease_after, sum_after};
+ghost use Rattle.session_core.specs.Leasing.{LetsStart, covers_next, lease_after, sum_after};
 
 use crate::life::agrees_leases;
 use crate::state::State;
@@ -24,7 +24,7 @@ pub fn leases_agreed(settings: &Checked, state: &State) -> bool
 /// The next request of the peer's is covered: no leases are agreed, or fewer were covered than this end
 /// let it make, in sum over the session.
 pub fn is_covered(settings: &Checked, state: &State) -> bool
-    ensures { result ≡ covered_by settings.now (facts_of state.now) }
+    ensures { result ≡ covers_next settings.now state.now }
 {
     !leases_agreed(settings, state) || state.granted.would_admit()
 }

@@ -136,7 +136,7 @@ client_greets g past is =
     ]
 
 -- a position that is told
-tells_below : (agreed : Bool) (handled top : ℕ) → handled ≤ top → tells agreed handled ≤ top
+pub tells_below : (agreed : Bool) (handled top : ℕ) → handled ≤ top → tells agreed handled ≤ top
 tells_below true handled top h = h
 tells_below false handled top h = omega arith
 
@@ -147,25 +147,25 @@ told_below g past is =
     omega arith
 
 -- a KEEPALIVE that is sent, and one that answers
-asks_spellable : (position : ℕ) → position < 2 ^ 63 → IsSpellable (frame.Keepalive true position [])
+pub asks_spellable : (position : ℕ) → position < 2 ^ 63 → IsSpellable (frame.Keepalive true position [])
 asks_spellable position fits = record { fields = fits; short = lit< tt }
 
-answers_spellable : (respond : Bool) (position came : ℕ) (content : List ℕ) → position < 2 ^ 63 → IsSpellable (frame.Keepalive respond came content) → AllByRecursion IsSpellable (answers_keepalive respond position content)
+pub answers_spellable : (respond : Bool) (position came : ℕ) (content : List ℕ) → position < 2 ^ 63 → IsSpellable (frame.Keepalive respond came content) → AllByRecursion IsSpellable (answers_keepalive respond position content)
 answers_spellable false position came content fits spellable = tt
 answers_spellable true position came content fits spellable =
     let short = spellable.short in
     (record { fields = fits; short = omega (arith, short, length-append (big_bytes 8 came) content, length-append (big_bytes 8 position) content) }, tt)
 
 -- metadata that is pushed, and a LEASE
-push_spellable : (metadata : List ℕ) → length metadata ≤ 16000000 → IsSpellable (frame.MetadataPush metadata)
+pub push_spellable : (metadata : List ℕ) → length metadata ≤ 16000000 → IsSpellable (frame.MetadataPush metadata)
 push_spellable metadata small = record { fields = tt; short = omega (arith, small) }
 
-lease_spellable : (ttl count : ℕ) (metadata : Option (List ℕ)) → ttl < 2 ^ 31 → count < 2 ^ 31 → option_length metadata ≤ 16000000 → IsSpellable (frame.Lease ttl count metadata)
+pub lease_spellable : (ttl count : ℕ) (metadata : Option (List ℕ)) → ttl < 2 ^ 31 → count < 2 ^ 31 → option_length metadata ≤ 16000000 → IsSpellable (frame.Lease ttl count metadata)
 lease_spellable ttl count None t c small = record { fields = (t, c); short = lit< tt }
 lease_spellable ttl count (Some metadata) t c small = record { fields = (t, c); short = omega (arith, small, length-append (big_bytes 4 count) metadata) }
 
 -- what a call that is not refused sends is small
-done_small : (g : Settings) (t : Facts) (asked : Call) → IsChecked g → by_size g asked ≡ None → size_in asked ≤ 16000000
+pub done_small : (g : Settings) (t : Facts) (asked : Call) → IsChecked g → by_size g asked ≡ None → size_in asked ≤ 16000000
 done_small g t asked checked none =
     let most = checked.max_payload.below in
     let small = size_fits g asked none in
