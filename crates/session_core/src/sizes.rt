@@ -1,12 +1,12 @@
 //! How many bytes the frames of a call take.
 
-ghost use Rattle.std.specs.Prelude.{◌≡◌, ◌+◌, ◌<◌, ◌≤◌, ◌^◌, [], ◌∷◌, ℕ, IfSome, length};
+ghost use Rattle.std.specs.Prelude.{◌≡◌, ◌+◌, ◌<◌, ◌≤◌, ◌^◌, [], ◌∷◌, ℕ, true, IfSome, length};
 ghost use Rattle.rs_wire.specs.Message.{option_length};
 ghost use Rattle.rs_frame.specs.Spelling.{number_there};
 ghost use Rattle.stream_model.specs.Known.{Known};
 ghost use Rattle.fragment.specs.Splitting.{IsMtu};
 ghost use Rattle.session_model.specs.Frames.{closing_error, spoken};
-ghost use Rattle.rs_frame.specs.declared.frame.Frame.{Frame};
+ghost use Rattle.rs_frame.specs.declared.frame.Frame.TheVariants as frames;
 ghost use Rattle.session_model.specs.Answers.{size_in};
 ghost use Rattle.session_core.specs.Outgoing.{frame_beside};
 ghost use Rattle.session_core.specs.Sizes.{size_alone, size_of_frames, size_sent};
@@ -64,7 +64,7 @@ pub fn closing_size() -> SplitSize
 #[tactic(auto, unfolding(position::specs::Boundaries::pos_by))]
 pub fn keepalive_size() -> SplitSize
     ensures value { (position : ℕ) → result ≡
-        size_of_frames (Frame.Keepalive true position [] ∷ []) }
+        size_of_frames (frames.Keepalive true position [] ∷ []) }
     ensures few { result.frames < 2 ^ 40 }
     ensures small { result.bytes < 2 ^ 60 }
 {
