@@ -39,9 +39,9 @@ frame_beside (call.Lease ttl count metadata) = Some (frame.Lease ttl count metad
 frame_beside _ = None
 
 -- what a call that is done puts in line for the connection alone
-abbrev pub told : Facts → Call → List Frame
-told t call.Close = if t.carrying then closing_error [] ∷ [] else []
-told t asked = option_to_list (frame_beside asked)
+abbrev pub called_beside : Facts → Call → List Frame
+called_beside t call.Close = if t.carrying then closing_error [] ∷ [] else []
+called_beside t asked = option_to_list (frame_beside asked)
 
 -- the frames of the connection that an event so answered puts in line, which no position counts
 abbrev pub notices : Settings → Facts → Answer → Event → List Frame
@@ -50,7 +50,7 @@ notices g t (answer.Violation rule) e = closing_error (rule_word rule) ∷ []
 notices g t (answer.ResumeRefused gone) (event.Came conn f) = closing_error (gone_word gone) ∷ []
 notices g t answer.Handled (event.Came conn f) = answering g t f
 notices g t answer.Sent e = keepalive g t true [] ∷ []
-notices g t answer.Done (event.Asked asked) = told t asked
+notices g t answer.Done (event.Asked asked) = called_beside t asked
 notices g t _ e = []
 
 -- the frames of a call

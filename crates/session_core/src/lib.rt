@@ -37,8 +37,8 @@
 //! once it is whole (RSocket 1.0, "Fragmentation and Reassembly"). Where resumption is agreed, a session
 //! outlives its connection: the frames made that the peer may not have handled are held, as many as the
 //! settings allow, and go out again on the next one from the position that the peer tells (RSocket 1.0,
-//! "Resuming Operation"). Where leases are agreed, each end makes no more requests than the other lets it,
-//! and none after that time (RSocket 1.0, "Lease Semantics"). At a tick a client sends a KEEPALIVE once
+//! "Resuming Operation"). Where leases are agreed, an end makes no more requests than the other's last
+//! LEASE allows, and none once that is over (RSocket 1.0, "Lease Semantics"). At a tick a client sends a KEEPALIVE once
 //! its interval has passed, and a peer from which nothing came for a lifetime counts as dead (RSocket 1.0,
 //! "KEEPALIVE Frame"). Metadata is pushed for the whole connection. Frames of unknown types are ignored
 //! where they may be. [`refusal_frame`] is what a server gives on a connection that it refuses.

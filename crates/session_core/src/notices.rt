@@ -1,11 +1,11 @@
 //! The frames of the connection that an event puts in line.
 
-ghost use Rattle.std.specs.Prelude.{◌≡◌, if◌then◌else◌, [], ◌∷◌, None, Some, IfOk, false};
+ghost use Rattle.std.specs.Prelude.{◌≡◌, if◌then◌else◌, [], ◌∷◌, None, Some, IfOk, false, option_to_list};
 ghost use Rattle.rs_wire.specs.Settings.{IsChecked};
 ghost use Rattle.rs_frame.specs.Spelling.{IsStream};
 ghost use Rattle.session_model.specs.Frames.{closing_error, resume_frame, setup_frame};
 ghost use Rattle.session_core.specs.Fits.{facts_of};
-ghost use Rattle.session_core.specs.Outgoing.{answering, frame_beside, greeting, keepalive, notices, told};
+ghost use Rattle.session_core.specs.Outgoing.{answering, called_beside, frame_beside, greeting, keepalive, notices};
 
 use crate::life::agrees_resumption;
 use crate::state::State;
@@ -193,20 +193,24 @@ fn frame_beside(alloc: Global, call: &Call) -> Result<Option<Frame>, OutOfMemory
     })
 }
 
-// What a call that is done puts in line for the connection alone.
-fn told(alloc: Global, state: &State, call: &Call) -> Result<Vec<Frame>, OutOfMemory>
-    ensures { IfOk result (λ v. v.items ≡ told (facts_of state.now) call.now) }
+// One frame, or none.
+fn listed(alloc: Global, frame: Option<Frame>) -> Result<Vec<Frame>, OutOfMemory>
+    ensures { IfOk result (λ v. v.items ≡ option_to_list frame) }
 {
-    if let Call::Close = call {
-        return if state.carrying {
-            only(alloc, closing_error(alloc, "")?)
-        } else {
-            Ok(Vec::new(alloc))
-        };
-    }
-    match frame_beside(alloc, call)? {
+    match frame {
         Some(frame) => only(alloc, frame),
         None => Ok(Vec::new(alloc)),
+    }
+}
+
+// What a call that is done puts in line for the connection alone.
+fn called_beside(alloc: Global, state: &State, call: &Call) -> Result<Vec<Frame>, OutOfMemory>
+    ensures { IfOk result (λ v. v.items ≡ called_beside (facts_of state.now) call.now) }
+{
+    match call {
+        Call::Close if state.carrying => only(alloc, closing_error(alloc, "")?),
+        Call::Close => Ok(Vec::new(alloc)),
+        _ => listed(alloc, frame_beside(alloc, call)?),
     }
 }
 
@@ -232,7 +236,7 @@ pub fn notices(
             let content = Blob::from_vec(Vec::new(alloc));
             only(alloc, keepalive(settings, state, true, content))
         }
-        (Answer::Done, Event::Asked(call)) => told(alloc, state, call),
+        (Answer::Done, Event::Asked(call)) => called_beside(alloc, state, call),
         _ => Ok(Vec::new(alloc)),
     }
 }
