@@ -80,6 +80,12 @@ pub const RESUMING_LEASING_CLIENT: Limits = Limits {
     ..RESUMING_CLIENT
 };
 
+/// A server that takes part in leases, and agrees to resumption.
+pub const RESUMING_LEASING_SERVER: Limits = Limits {
+    side: Side::Server,
+    ..RESUMING_LEASING_CLIENT
+};
+
 /// No frame was made or handled.
 pub const NO_FRAMES: Counts = Counts {
     made_frames: 0,

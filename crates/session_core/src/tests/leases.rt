@@ -3,11 +3,12 @@
 //! for its length.
 
 use super::ends::{
-    BEGUN, CLIENT, LEASING_CLIENT, LEASING_SERVER, OPENED, RESUMING_CLIENT,
-    RESUMING_LEASING_CLIENT, SETUP, WIDE_CLIENT, WIDE_SERVER,
+    AT_0, BEGUN, CLIENT, LEASING_CLIENT, LEASING_SERVER, OPENED, RESUME, RESUME_OK,
+    RESUMING_CLIENT, RESUMING_LEASING_CLIENT, RESUMING_LEASING_SERVER, SETUP, WIDE_CLIENT,
+    WIDE_SERVER,
 };
 use super::play::{Limits, play};
-use super::step::{First, Piece, Step, Strange};
+use super::step::{Again, First, Piece, Step, Strange, Token};
 use rs_wire::{Cause, Rule};
 
 /// The SETUP of a client that takes part in leases up to its flags, after its length of 68: L.
@@ -15,6 +16,9 @@ const LEASING: &[u8] = b"\x00\x00\x44\x00\x00\x00\x00\x04\x40";
 
 /// A LEASE of 1000 ms and one request, after its length of 14: stream 0, type 2.
 const ONE_REQUEST: &[u8] = b"\x00\x00\x0e\x00\x00\x00\x00\x08\x00\x00\x00\x03\xe8\x00\x00\x00\x01";
+
+/// The ERROR that passes a request on stream 5 over, after its length of 15: type 11, code 0x202.
+const FIFTH_PASSED_OVER: &[u8] = b"\x00\x00\x0f\x00\x00\x00\x05\x2c\x00\x00\x00\x02\x02lease";
 
 /// The content of the request `a`, whole.
 const WHOLE: Piece = Piece {
@@ -148,15 +152,43 @@ fn a_request_that_is_not_covered_is_passed_over(rt: HostRuntime) {
             ),
             (Step::Draw(1, 35), "Drawn(35)"),
         ],
-        &[
-            ONE_REQUEST,
-            b"\x00\x00\x0f\x00\x00\x00\x05\x2c\x00\x00\x00\x02\x02lease",
-        ],
+        &[ONE_REQUEST, FIFTH_PASSED_OVER],
         OPENED
             .after(8, 22)
             .made(1, 15)
             .handled(3, 6 + 7 + 7)
             .closed(Cause::Broken(Rule::StreamId(5))),
+    );
+}
+
+#[test]
+fn what_the_peer_is_let_ask_outlives_the_connection(rt: HostRuntime) {
+    let again = Again {
+        major: 1,
+        token: Token::Own,
+        server_position: 0,
+        client_position: 0,
+    };
+    play(
+        &rt,
+        rt.alloc(),
+        RESUMING_LEASING_SERVER,
+        &[
+            (Step::Opened(First::LeasingTok1, false), "Opened(1)"),
+            (Step::Lease(1000, 2), "Done"),
+            (Step::Odd(1, Strange::First(1, WHOLE)), "Handled"),
+            (Step::Cut(1), "Parted"),
+            (Step::Opened(First::Resume(again), false), "Opened(2)"),
+            (Step::Odd(2, Strange::First(3, WHOLE)), "Handled"),
+            (Step::Odd(2, Strange::First(5, WHOLE)), "Handled"),
+            (Step::Draw(2, 1000), "Drawn(35)"),
+        ],
+        &[
+            RESUME_OK,
+            b"\x00\x00\x00\x00\x00\x00\x00\x07",
+            FIFTH_PASSED_OVER,
+        ],
+        OPENED.after(8, 0).on(2).made(1, 15).handled(3, 21),
     );
 }
 
@@ -207,7 +239,7 @@ fn a_request_for_which_no_stream_may_be_open_uses_its_lease(rt: HostRuntime) {
             ONE_REQUEST,
             ONE_REQUEST,
             b"\x00\x00\x11\x00\x00\x00\x03\x2c\x00\x00\x00\x02\x02streams",
-            b"\x00\x00\x0f\x00\x00\x00\x05\x2c\x00\x00\x00\x02\x02lease",
+            FIFTH_PASSED_OVER,
         ],
         OPENED.after(7, 0).made(2, 32).handled(3, 21),
     );
@@ -308,9 +340,9 @@ fn metadata_is_pushed_on_a_connection_that_carries(rt: HostRuntime) {
             (Step::Draw(2, 24), "Drawn(11)"),
         ],
         &[
-            super::ends::RESUME,
-            super::ends::AT_0,
-            super::ends::AT_0,
+            RESUME,
+            AT_0,
+            AT_0,
             b"\x00\x00\x08\x00\x00\x00\x00\x31\x00hh",
         ],
         BEGUN.after(10, 0).on(2),

@@ -72,6 +72,20 @@ fn a_server_answers_and_waits_for_the_lifetime_that_the_setup_says(rt: HostRunti
         &[b"\x00\x00\x10", &ANSWERS[3..], AT_0, b"hh"],
         brisk.after(8, 0).parted().closed(Cause::Dead),
     );
+    play(
+        &rt,
+        rt.alloc(),
+        WIDE_SERVER,
+        &[
+            (Step::Opened(First::Good, false), "Opened(1)"),
+            (Step::Tick(20_000), "Quiet"),
+            (Step::Odd(1, Strange::Keepalive(true, 0, 0)), "Handled"),
+            (Step::Tick(109_999), "Quiet"),
+            (Step::Tick(110_000), "Dead(20000)"),
+        ],
+        &[],
+        OPENED.after(5, 0).parted().closed(Cause::Dead),
+    );
 }
 
 #[test]

@@ -21,6 +21,8 @@ pub enum First {
     Leasing,
     /// A SETUP that asks for resumption by the token `tok1`.
     Tok1,
+    /// The same, which asks for leases too.
+    LeasingTok1,
     /// A RESUME.
     Resume(Again),
     /// No SETUP, but CANCEL.
@@ -231,6 +233,7 @@ fn first_frame(rt: &impl Abort, alloc: Global, first: First) -> Frame {
         First::Resuming => setup(rt, alloc, 1, Some(empty(alloc)), false),
         First::Leasing => setup(rt, alloc, 1, None, true),
         First::Tok1 => setup(rt, alloc, 1, Some(blob(rt, alloc, "tok1")), false),
+        First::LeasingTok1 => setup(rt, alloc, 1, Some(blob(rt, alloc, "tok1")), true),
         First::Resume(again) => Frame::Resume(Resume {
             major: again.major,
             minor: 0,
