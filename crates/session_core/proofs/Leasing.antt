@@ -3,6 +3,7 @@ use Rattle.std.proofs.Common.{◌≡◌, ◌≤◌, ◌<◌, ◌+◌, ◌*◌, �
 use Rattle.std.proofs.lemmas.Grind.{common_steps}
 use Rattle.std.proofs.lemmas.Bool.Decides.{nat_tests}
 use Rattle.std.specs.Option.{option_map}
+use Rattle.std.specs.Prelude.{IfSome, nat_lt}
 use Rattle.rs_wire.specs.declared.call.Call.TheVariants as call
 use Rattle.rs_wire.specs.declared.fault.Refusal.{Refusal}
 use Rattle.rs_wire.specs.declared.settings.Settings.{Settings}
@@ -19,7 +20,7 @@ use Rattle.tape.specs.declared.entry.Entry.{Entry}
 use Rattle.stream_model.specs.Known.{next_id}
 use Rattle.session_model.specs.Life.{agrees_leases, leases_agreed, setup}
 use Rattle.session_model.specs.Moments.{moment}
-use Rattle.session_model.specs.Leases.{is_covered, last_lease, lease, let_in_sum, lets_in, made_since_lease, sum, terms_of}
+use Rattle.session_model.specs.Leases.{covered_in, is_covered, last_lease, lease, let_in_sum, lets_in, made_since_lease, sum, terms_of}
 use Rattle.session_model.specs.Frames.{in_fragments, request_frame}
 use Rattle.session_model.specs.Answers.{Facts, covered_by, facts, lease_refused}
 use Rattle.session_model.specs.Legal.{Fair, IsFair}
@@ -28,7 +29,7 @@ use Rattle.session_model.proofs.Refusals.{can_send, unrefused}
 use Rattle.session_model.proofs.Stepping.{lease_after as modelled, lease_step, sum_step}
 use Rattle.session_core.specs.declared.state.State.{State}
 use Rattle.session_core.specs.Fits.{facts_of}
-use Rattle.session_core.specs.Leasing.{LetsStart, covers_next, lease_after, sum_after}
+use Rattle.session_core.specs.Leasing.{LetsStart, covers_next, lease_after, sum_after, used_once}
 
 -- ---- what is known of the leases goes on
 
@@ -54,6 +55,28 @@ lease_more g old new past x h is =
     ∙ (ap (λ (l : Option Terms). lease_after (leases_agreed g past) (moment past) x.answer x.event l) before
     ∙ (same_lease (leases_agreed g past) (moment past) x.answer x.event (lease g past) ∙ sym (lease_step g x past)))))
 
+-- nothing more is nothing more
+no_more : (s : Sum) → s ≡ record { granted = s.granted + 0; admitted = s.admitted + 0 }
+no_more s =
+    let n : s.granted ≡ s.granted + 0 = omega arith in
+    let k : s.admitted ≡ s.admitted + 0 = omega arith in
+    let is : record { granted = s.granted; admitted = s.admitted } ≡ record { granted = s.granted + 0; admitted = s.admitted + 0 } = cc in
+    is
+
+one_covered : (s : Sum) (covered : Bool) → cond covered (record s { admitted = s.admitted + 1 }) s ≡ record { granted = s.granted + 0; admitted = s.admitted + cond covered 1 0 }
+one_covered s true =
+    let n : s.granted ≡ s.granted + 0 = omega arith in
+    ap (λ k. record { granted = k; admitted = s.admitted + 1 }) n
+one_covered s false = no_more s
+
+sum_stands : (agreed : Bool) (a : Answer) (e : Event) (s : Sum)
+    → sum_after agreed a e s ≡ record { granted = s.granted + lets_in a e; admitted = s.admitted + covered_in (agreed && nat_lt s.admitted s.granted) a e }
+sum_stands agreed answer.Done (event.Asked (call.Lease ttl count metadata)) s =
+    let k : s.admitted ≡ s.admitted + 0 = omega arith in
+    ap (λ n. record { granted = s.granted + count; admitted = n }) k
+sum_stands agreed answer.Handled (event.Came conn (frame.Request r)) s = one_covered s (agreed && nat_lt s.admitted s.granted)
+sum_stands agreed a e s = no_more s
+
 pub sum_more : (g : Settings) (old new : State) (past : List Entry) (x : Entry) → facts_of old ≡ facts g past
     → new.granted ≡ sum_after (agrees_leases g old.setup) x.answer x.event old.granted → new.granted ≡ sum g (x ∷ past)
 unfolding facts
@@ -63,9 +86,14 @@ sum_more g old new past x h is =
     is
     ∙ (ap (λ (o : Option Setup). sum_after (agrees_leases g o) x.answer x.event old.granted) s
     ∙ (ap (λ (n : Sum). sum_after (leases_agreed g past) x.answer x.event n) before
-    ∙ sym (sum_step g x past)))
+    ∙ (sum_stands (leases_agreed g past) x.answer x.event (sum g past) ∙ sym (sum_step g x past))))
 
 -- ---- what the peer lets this end ask
+
+-- a request that is started uses one
+pub started : (old new : Option Terms) → HasLeft old → IfSome old (λ l. new ≡ Some (record { count = l.count; expires = l.expires; used = l.used + 1 })) → new ≡ option_map used_once old
+started None new some is = absurd some
+started (Some l) new some is = is
 
 -- a request that is made finds one left
 has_left : (o : Option Terms) (now : ℕ) → IsWithin o → lease_refused (lease_fault o now) ≡ None → HasLeft o

@@ -1,6 +1,7 @@
 -- Leases of both directions after an event and its answer (RSocket 1.0, "Lease Semantics").
 use Rattle.std.specs.Prelude.{◌≡◌, ◌+◌, ◌&&◌, nat_lt, ℕ, Bool, true, false, if◌then◌else◌, Option, Some, None}
 use Rattle.std.specs.Option.{option_map}
+use Rattle.rs_wire.specs.declared.call.Call.TheVariants as call
 use Rattle.rs_wire.specs.declared.settings.Settings.{Settings}
 use Rattle.rs_frame.specs.declared.frame.Frame.TheVariants as frame
 use Rattle.lease.specs.Lease.{HasLeft}
@@ -10,7 +11,7 @@ use Rattle.tape.specs.declared.event.Event.{Event}
 use Rattle.tape.specs.declared.event.Event.TheVariants as event
 use Rattle.tape.specs.declared.answer.Answer.{Answer}
 use Rattle.tape.specs.declared.answer.Answer.TheVariants as answer
-use Rattle.session_model.specs.Leases.{covered_in, covers, lets_in}
+use Rattle.session_model.specs.Leases.{covers}
 use Rattle.session_model.specs.Life.{agrees_leases}
 use Rattle.session_core.specs.declared.state.State.{State}
 
@@ -41,6 +42,8 @@ abbrev pub LetsStart : Bool → Answer → Option Terms → Type 0
 LetsStart agreed (answer.Started id) lease = MayStart agreed lease
 LetsStart agreed a lease = Unit {0}
 
--- what this end lets its peer ask after an event so answered
+-- what this end lets its peer ask after an event so answered: a LEASE lets it ask more, and a request that comes is covered where fewer were than let in sum
 abbrev pub sum_after : Bool → Answer → Event → Sum → Sum
-sum_after agreed a e s = record { granted = s.granted + lets_in a e; admitted = s.admitted + covered_in (agreed && nat_lt s.admitted s.granted) a e }
+sum_after agreed answer.Done (event.Asked (call.Lease ttl count metadata)) s = record s { granted = s.granted + count }
+sum_after agreed answer.Handled (event.Came conn (frame.Request r)) s = if agreed && nat_lt s.admitted s.granted then record s { admitted = s.admitted + 1 } else s
+sum_after agreed a e s = s
