@@ -36,7 +36,7 @@ use Rattle.session_core.specs.declared.state.State.{State}
 use Rattle.session_core.specs.Fits.{Fits, facts_of}
 use Rattle.session_core.specs.Leasing.{covers_next}
 use Rattle.session_core.specs.Speaking.{Acts, CanSay, Comes, FindsRoom, GoesOn, IsNoRule, arrival_for, heard_on, named, speaks_on, with_room}
-use Rattle.session_core.proofs.Leasing.{covers_is}
+use Rattle.session_core.proofs.Leases.{covers_is}
 
 -- the streams that a session keeps are those of its entries
 same_streams : (g : Settings) (s : State) (past : List Entry) → Fits g s past → known g past ≡ known_to s.streams

@@ -76,7 +76,7 @@ pub fn by_lease(settings: &Checked, state: &State, call: &Call) -> Option<Refusa
 
 /// What the peer lets this end ask, after an event and its answer at a moment: it ends with its
 /// connection, a LEASE replaces it, and a request uses one of it.
-#[tactic(auto, using(crate::proofs::Leasing::started))]
+#[tactic(auto, using(crate::proofs::Leases::started))]
 pub fn take_lease(lease: &mut Lease, agreed: bool, now: u64, event: &Event, answer: &Answer)
     requires { LetsStart agreed answer.now lease.old }
     ensures { lease.new ≡ lease_after agreed now answer.now event.now lease.old }
