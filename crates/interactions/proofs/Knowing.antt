@@ -6,15 +6,16 @@ use Rattle.rs_wire.specs.declared.words.Role.{Role}
 use Rattle.rs_wire.specs.declared.words.Role.TheVariants.{Requester, Responder}
 use Rattle.rs_wire.specs.declared.delivery.Delivery.{Delivery}
 use Rattle.rs_wire.specs.declared.delivery.Job.{Job}
+use Rattle.rs_wire.specs.declared.delivery.Job.TheVariants as job
 use Rattle.stream_model.specs.declared.stream.Stream.{Stream}
-use Rattle.stream_model.specs.Marks.{Mark, Opening, Step, Opens, Sent, Got, Took, TookJob}
+use Rattle.stream_model.specs.Marks.{Mark, Opening, Step, Opens, Passed, Sent, Got, Pushed, Took, TookJob}
 use Rattle.stream_model.specs.Turns.{Said, delivered_first, ends, brings, inbound, is_role, other}
 use Rattle.stream_model.specs.Streams.{turn, live, on, one_if, highest, higher, has_room, is_admitted, is_live, jobs_in, jobs_waiting, jobs, jobs_taken, count_to, brings_job, opening_job}
 use Rattle.stream_model.specs.Kept.{after, first, kept, unless_done}
 use Rattle.stream_model.specs.Known.{Known, known, over_at, waiting_of}
 use Rattle.stream_model.specs.Fair.{Fair}
-use Rattle.stream_model.proofs.Ids.{fresh, highest_said, highest_opens, others_stay, same_id, turn_job, is_opening}
-use Rattle.stream_model.proofs.Live.{live_said, live_opens, live_job}
+use Rattle.stream_model.proofs.Ids.{fresh, highest_said, highest_opens, highest_passed, others_stay, same_id, turn_job, turn_passed, turn_pushed, is_opening}
+use Rattle.stream_model.proofs.Live.{live_said, live_opens, live_passed, live_pushed, live_job}
 use Rattle.stream_model.proofs.Jobs.{jobs_more, jobs_after}
 use Rattle.stream_model.proofs.Keeping.{live_kept, kept_going, kept_opened, kept_sent, kept_got, kept_took}
 use Rattle.stream_model.proofs.Words.{waits_said}
@@ -187,6 +188,24 @@ passed_known most seen s o new h above refused is =
       even = ap (λ (t : Known). t.even) is;
       odd = ap (λ (t : Known). t.odd) is;
     })
+
+-- one whose lease does not cover it
+pub over_known : (most : ℕ) (seen : List Mark) (s : ℕ) → Fair most seen → record (known most seen) { even = higher 0 s (known most seen).even; odd = higher 1 s (known most seen).odd } ≡ known most (Passed s ∷ seen)
+unfolding known
+over_known most seen s h =
+    same_known _ _ _ _ _ _ _ _ _ _ _ _
+    (fun_ext (λ q. sym (ap kept (turn_passed most seen s q)))) (fun_ext (λ q. sym (ap waiting_of (turn_passed most seen s q))))
+    (sym (jobs_more most seen (Passed s) h refl ∙ append-nil (jobs_waiting most seen))) (sym (live_passed most seen s))
+    (sym (highest_passed 0 seen s)) (sym (highest_passed 1 seen s))
+
+-- metadata that the peer pushes
+pub pushed_known : (most : ℕ) (seen : List Mark) (metadata : List ℕ) → Fair most seen → record (known most seen) { jobs = (known most seen).jobs ++ job.Pushed metadata ∷ [] } ≡ known most (Pushed metadata ∷ seen)
+unfolding known
+pushed_known most seen metadata h =
+    same_known _ _ _ _ _ _ _ _ _ _ _ _
+    (fun_ext (λ q. sym (ap kept (turn_pushed most seen metadata q)))) (fun_ext (λ q. sym (ap waiting_of (turn_pushed most seen metadata q))))
+    (sym (jobs_more most seen (Pushed metadata) h refl)) (sym (live_pushed most seen metadata))
+    (sym (highest_said 0 seen (Pushed metadata) refl)) (sym (highest_said 1 seen (Pushed metadata) refl))
 
 -- nothing happened yet
 pub none_known : (most : ℕ) → record { kept = λ s. None; waits = λ s. []; jobs = []; live = 0; even = 0; odd = 0 } ≡ known most []

@@ -9,9 +9,10 @@ use Rattle.rs_wire.specs.declared.words.Role.TheVariants.{Requester, Responder}
 use Rattle.rs_wire.specs.declared.delivery.Delivery.{Delivery}
 use Rattle.rs_wire.specs.declared.delivery.Delivery.TheVariants as delivery
 use Rattle.rs_wire.specs.declared.delivery.Job.{Job}
+use Rattle.rs_wire.specs.declared.delivery.Job.TheVariants as job
 use Rattle.stream_model.specs.declared.stream.Limits.{Limits}
 use Rattle.stream_model.specs.declared.stream.Stream.{Stream}
-use Rattle.stream_model.specs.Marks.{Mark, Opening, Step, Opens, Sent, Got}
+use Rattle.stream_model.specs.Marks.{Mark, Opening, Step, Opens, Passed, Sent, Got, Pushed}
 use Rattle.stream_model.specs.Turns.{Said, carries, delivered_first, ends, brings, inbound, is_fnf, is_role, item_deliveries, other}
 use Rattle.stream_model.specs.Streams.{higher, highest, is_admitted, live}
 use Rattle.stream_model.specs.Kept.{after, first, is_done, kept, unless_done}
@@ -29,7 +30,7 @@ use Rattle.interactions.specs.Stands.{Stands, Says, Begins, known_of, most_of}
 use Rattle.interactions.specs.Next.{job_in, opened_jobs, waits_own, waits_peer}
 use Rattle.interactions.specs.Credited.{HasCredit}
 use Rattle.interactions.proofs.Credits.{no_item, own_credit}
-use Rattle.interactions.proofs.Knowing.{own_known, peer_known, sent_ignored, got_ignored, begun_known, passed_known, none_known, same_known}
+use Rattle.interactions.proofs.Knowing.{own_known, peer_known, sent_ignored, got_ignored, begun_known, over_known, passed_known, pushed_known, none_known, same_known}
 
 -- a mark more
 pub next_stands : (old new : Parts) (seen : List Mark) (m : Mark) → new.table.limits ≡ old.table.limits → Stands old seen → Fits (most_of old) seen m → known_of new ≡ known (most_of old) (m ∷ seen) → Stands new (m ∷ seen)
@@ -152,6 +153,23 @@ passed_stands old new seen s kind initial whole l above refused n is h =
     let refused' = subst (λ (t : Known). is_admitted (ltb t.live most) o ≡ false) h.known refused in
     next_stands old new seen (Opens s o) l h (record { fresh = fresh'; initial = n; place = tt }) (passed_known most seen s o (known_of new) h.fair fresh' refused'
     (subst (λ (t : Known). known_of new ≡ record t { even = higher 0 s t.even; odd = higher 1 s t.odd }) h.known is))
+
+-- one whose lease does not cover it
+pub over_stands : (old new : Parts) (seen : List Mark) (s : ℕ) → new.table.limits ≡ old.table.limits → highest_in old.table s < s
+    → known_of new ≡ record (known_of old) { even = higher 0 s old.table.even; odd = higher 1 s old.table.odd } → Stands old seen → Stands new (Passed s ∷ seen)
+over_stands old new seen s l above is h =
+    let most = most_of old in
+    let fresh' = peer_fresh most seen s (subst (λ (t : Known). highest_at t s < s) h.known above) in
+    next_stands old new seen (Passed s) l h fresh'
+    (subst (λ (t : Known). known_of new ≡ record t { even = higher 0 s t.even; odd = higher 1 s t.odd }) h.known is ∙ over_known most seen s h.fair)
+
+-- metadata that the peer pushes
+pub pushed_stands : (old new : Parts) (seen : List Mark) (metadata : List ℕ) → new.table.limits ≡ old.table.limits
+    → known_of new ≡ record (known_of old) { jobs = old.jobs.items ++ job.Pushed metadata ∷ [] } → Stands old seen → Stands new (Pushed metadata ∷ seen)
+pushed_stands old new seen metadata l is h =
+    let most = most_of old in
+    next_stands old new seen (Pushed metadata) l h tt
+    (subst (λ (t : Known). known_of new ≡ record t { jobs = t.jobs ++ job.Pushed metadata ∷ [] }) h.known is ∙ pushed_known most seen metadata h.fair)
 
 -- a request whose message is whole is over at once where it is a fire-and-forget
 pub done_first : (role : Role) (kind : Kind) (initial : ℕ) (m : Message × Bool) → is_done (first (record { role = role; kind = kind; initial = initial; whole = Some m })) ≡ is_fnf kind

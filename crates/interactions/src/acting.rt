@@ -167,7 +167,11 @@ impl Parts {
                 self.fail(*stream);
                 Ok(*stream)
             }
-            Call::Take { .. } | Call::TakeJob | Call::Close => unreachable!(),
+            Call::Push { .. }
+            | Call::Lease { .. }
+            | Call::Take { .. }
+            | Call::TakeJob
+            | Call::Close => unreachable!(),
         }
     }
 }

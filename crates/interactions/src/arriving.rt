@@ -3,12 +3,12 @@
 ghost use Rattle.std.specs.Prelude.{◌≡◌, ◌<◌, ◌≤◌, ◌^◌, ◌++◌, ◌∷◌, ◌&&◌, ◌||◌, not, [], ℕ, List, Option, Some, None, true, false, length, is_some, nat_lt, option_to_list, if◌then◌else◌};
 ghost use Rattle.rs_wire.specs.declared.message.Message.{Message as Content};
 ghost use Rattle.rs_wire.specs.declared.words.Role.TheVariants.{Responder};
-ghost use Rattle.stream_model.specs.Marks.{Mark, Opens, Got, Payload, RequestN, Cancel as Cancels, Fail as Fails};
+ghost use Rattle.stream_model.specs.Marks.{Mark, Opens, Passed, Got, Pushed, Payload, RequestN, Cancel as Cancels, Fail as Fails};
 ghost use Rattle.stream_model.specs.Turns.{carries, delivered_first, inbound, is_fnf, is_role, other};
 ghost use Rattle.stream_model.specs.Kept.{first as first_of, is_done, unless_done, FitsCredit};
 ghost use Rattle.stream_model.specs.Known.{is_peers_next, over_at};
 ghost use Rattle.stream_model.specs.Streams.{if_amount};
-ghost use Rattle.stream_model.specs.Arriving.{CanArrive, MayGrant, asked_effect, effect_by, heard, message_effect, or_zero, step_effect, stream_in, theirs};
+ghost use Rattle.stream_model.specs.Arriving.{CanArrive, MayGrant, asked_effect, effect_by, heard, message_effect, or_zero, passed_effect, step_effect, stream_in, theirs};
 ghost use Rattle.stream_table.specs.Tables.{IsNew, highest_in, kept_at};
 ghost use Rattle.interactions.specs.Answers.{admits};
 ghost use Rattle.interactions.specs.Waiting.{room_at, waits_at};
@@ -289,6 +289,35 @@ impl Parts {
         }
     }
 
+    // The peer makes a request that its lease does not cover: its id is used.
+    fn passed_over(&mut self, id: u32) -> Effect
+        requires fits { id < 2 ^ 31 }
+        ensures limits { self.new.table.limits ≡ self.old.table.limits }
+        ensures effect { result ≡ passed_effect
+            (is_peers_next self.old.table.limits.side (known_of self.old) id) id }
+        ensures stands { (seen : List Mark) → Stands self.old seen →
+            IfCounted result (Stands self.new (Passed id ∷ seen)) }
+        ensures broken { IfBroken result (self.new ≡ self.old) }
+    {
+        if !self.is_peers_next(id) {
+            return Effect::Broken(Rule::StreamId(id));
+        }
+        self.table.skip(id);
+        Effect::Ignored
+    }
+
+    // The peer sends metadata for the connection: a job.
+    fn pushed(&mut self, metadata: Blob) -> Effect
+        requires room { 0 < self.old.jobs.room }
+        ensures limits { self.new.table.limits ≡ self.old.table.limits }
+        ensures effect { result ≡ Effect.Used }
+        ensures stands { (seen : List Mark) → Stands self.old seen →
+            Stands self.new (Pushed metadata ∷ seen) }
+    {
+        self.jobs.push_some(Some(Job::Pushed { metadata }));
+        Effect::Used
+    }
+
     /// What the peer says has its effect.
     pub fn arrive(&mut self, what: Arrival) -> Effect
         requires room { HasRoom self.old (stream_in what) }
@@ -319,6 +348,8 @@ impl Parts {
                 code,
                 content,
             } => self.failed(stream, code, content),
+            Arrival::PassedOver { stream } => self.passed_over(stream),
+            Arrival::Pushed { metadata } => self.pushed(metadata),
         }
     }
 }

@@ -154,7 +154,11 @@ impl Parts {
             Call::Cancel { stream } => self.on_stream(*stream, Asked::Cancel),
             Call::Fail { stream, .. } => self.on_stream(*stream, Asked::Fail),
             Call::Take { stream } => self.take_by_state(*stream),
-            Call::Request { .. } | Call::TakeJob | Call::Close => None,
+            Call::Request { .. }
+            | Call::Push { .. }
+            | Call::Lease { .. }
+            | Call::TakeJob
+            | Call::Close => None,
         }
     }
 

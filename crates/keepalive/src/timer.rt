@@ -105,17 +105,22 @@ impl Timer {
         self.sending = self.moment;
     }
 
-    /// Takes the moment `now`, in milliseconds, and says what is due at it: [`Due::Dead`] with the
-    /// last arrival, exactly where that and the lifetime are at most `now` together; else
-    /// [`Due::Send`], exactly where this end sends KEEPALIVEs, and the last sending and the interval
-    /// are at most `now` together; else [`Due::Nothing`].
-    pub fn tick(&mut self, now: u64) -> Due
-        ensures due { result ≡ due_at self.old now }
-        ensures dead { (result ≡ Due.Dead self.old.arrival) ↔ IsDead self.old now }
-        ensures send { (result ≡ Due.Send) ↔ IsSendDue self.old now }
-        ensures told { self.new ≡ record self.old { moment = now } }
+    /// The last moment that was handed in, in milliseconds.
+    pub fn moment(&self) -> u64
+        ensures { result ≡ self.now.moment }
     {
-        self.moment = now;
+        self.moment
+    }
+
+    /// What is due at the moment `now`, in milliseconds: [`Due::Dead`] with the last arrival, exactly
+    /// where that and the lifetime are at most `now` together; else [`Due::Send`], exactly where this
+    /// end sends KEEPALIVEs, and the last sending and the interval are at most `now` together; else
+    /// [`Due::Nothing`].
+    pub fn due(&self, now: u64) -> Due
+        ensures due { result ≡ due_at self.now now }
+        ensures dead { (result ≡ Due.Dead self.now.arrival) ↔ IsDead self.now now }
+        ensures send { (result ≡ Due.Send) ↔ IsSendDue self.now now }
+    {
         if has_passed(self.arrival, self.lifetime, now) {
             return Due::Dead(self.arrival);
         }
@@ -123,5 +128,15 @@ impl Timer {
             return Due::Send;
         }
         Due::Nothing
+    }
+
+    /// Takes the moment `now`, in milliseconds, and says what is due at it, as [`Timer::due`] does.
+    pub fn tick(&mut self, now: u64) -> Due
+        ensures due { result ≡ due_at self.old now }
+        ensures told { self.new ≡ record self.old { moment = now } }
+    {
+        let due = self.due(now);
+        self.moment = now;
+        due
     }
 }

@@ -14,6 +14,7 @@ rule_word rule.NotNow = codes "not-now"
 rule_word (rule.StreamId stream) = codes "stream-id"
 rule_word (rule.OverCredit granted) = codes "over-credit"
 rule_word (rule.TooLarge size) = codes "too-large"
+rule_word (rule.Ahead position) = codes "ahead"
 rule_word rule.PositionSpent = codes "position-spent"
 rule_word (rule.BadFrame number) = codes "bad-frame"
 

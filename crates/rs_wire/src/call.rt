@@ -62,12 +62,26 @@ pub enum Call {
         /// What the error says.
         content: Blob,
     },
+    /// Sends metadata for the whole connection (RSocket 1.0, "METADATA_PUSH Frame").
+    Push {
+        /// The metadata.
+        metadata: Blob,
+    },
+    /// Lets the peer make requests (RSocket 1.0, "LEASE Frame").
+    Lease {
+        /// For how long, in milliseconds.
+        ttl: Amount,
+        /// How many requests.
+        count: Amount,
+        /// Metadata that goes with it, where there is some.
+        metadata: Option<Blob>,
+    },
     /// Takes what was delivered on a stream and waits, the oldest first. It sends nothing.
     Take {
         /// The stream.
         stream: u32,
     },
-    /// Takes a request of the peer's that waits, the oldest first. It sends nothing.
+    /// Takes what waits of what the peer asked, the oldest first. It sends nothing.
     TakeJob,
     /// Closes the session (RSocket 1.0, "ERROR Frame", CONNECTION_ERROR).
     Close,
@@ -79,6 +93,15 @@ pub fn is_stream_code(code: u32) -> bool
     ensures { result ≡ is_stream_code code }
 {
     (0x201..=0x204).contains(&code) || (0x301..=0xFFFF_FFFE).contains(&code)
+}
+
+fn copy_of(alloc: Global, metadata: &Option<Blob>) -> Result<Option<Blob>, OutOfMemory>
+    ensures { IfOk result (λ m. m ≡ metadata.now) }
+{
+    match metadata {
+        None => Ok(None),
+        Some(metadata) => Ok(Some(metadata.copy(alloc)?)),
+    }
 }
 
 impl Call {
@@ -136,6 +159,18 @@ impl Call {
                 stream: *stream,
                 code: *code,
                 content: content.copy(alloc)?,
+            },
+            Call::Push { metadata } => Call::Push {
+                metadata: metadata.copy(alloc)?,
+            },
+            Call::Lease {
+                ttl,
+                count,
+                metadata,
+            } => Call::Lease {
+                ttl: *ttl,
+                count: *count,
+                metadata: copy_of(alloc, metadata)?,
             },
             Call::Take { stream } => Call::Take { stream: *stream },
             Call::TakeJob => Call::TakeJob,

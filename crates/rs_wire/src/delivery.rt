@@ -57,8 +57,14 @@ pub enum Job {
         initial: Option<Amount>,
         /// What the request carries.
         message: Message,
-        /// The requester sends nothing more: true only for a channel.
+        /// C stood on a frame of the request's message: on a channel the requester sends nothing more
+        /// (RSocket 1.0, "REQUEST_CHANNEL Frame"); elsewhere it says nothing, and stands on fragments alone.
         complete: bool,
+    },
+    /// Metadata for the whole connection (RSocket 1.0, "METADATA_PUSH Frame"). Nothing answers it.
+    Pushed {
+        /// The metadata.
+        metadata: Blob,
     },
 }
 
@@ -67,20 +73,23 @@ impl Job {
     pub fn copy(&self, alloc: Global) -> Result<Job, OutOfMemory>
         ensures { IfOk result (λ j. j ≡ self.now) }
     {
-        match self {
+        Ok(match self {
             Job::Asked {
                 stream,
                 kind,
                 initial,
                 message,
                 complete,
-            } => Ok(Job::Asked {
+            } => Job::Asked {
                 stream: *stream,
                 kind: *kind,
                 initial: *initial,
                 message: message.copy(alloc)?,
                 complete: *complete,
-            }),
-        }
+            },
+            Job::Pushed { metadata } => Job::Pushed {
+                metadata: metadata.copy(alloc)?,
+            },
+        })
     }
 }

@@ -28,6 +28,14 @@ pub enum Refusal {
     /// "REQUEST_N Frame").
     #[error("all of the {0} items that were granted are sent")]
     NoCredit(u128),
+    /// All requests of the peer's last LEASE, of which it carries the number, are made; 0 where none came on
+    /// this connection (RSocket 1.0, "Lease Semantics").
+    #[error("all {0} requests that the peer's lease allows are made")]
+    NoLease(u32),
+    /// The peer's last LEASE is over since this moment, in milliseconds (RSocket 1.0, "Lease
+    /// Semantics").
+    #[error("the peer's lease is over since {0} ms")]
+    LeaseOver(u64),
     /// Every stream id of this end that the settings allow is used (RSocket 1.0, "Stream
     /// Identifiers").
     #[error("every stream id of this end is used")]
@@ -35,7 +43,8 @@ pub enum Refusal {
     /// As many streams as the settings allow, which is this number, are not over.
     #[error("{0} streams are open, as many as the settings allow")]
     TooManyStreams(u32),
-    /// The session is not begun, so there is nothing to send on.
+    /// The session is not begun, so there is nothing to send on; or, of what is sent on a connection
+    /// alone, there is none that carries it.
     #[error("the session has no connection yet")]
     NotConnected,
     /// This many bytes are queued already, and what the call makes would pass the limit.
@@ -53,7 +62,7 @@ pub enum Rule {
     /// (RSocket 1.0, "Frame Header Format").
     #[error("a frame came of type {0}, which is unknown")]
     UnknownType(u8),
-    /// A frame that may not come now, or that this end does not know yet.
+    /// A frame that may not come now.
     #[error("a frame came that may not come now")]
     NotNow,
     /// A request's stream id, which it carries, is not of the peer's parity or not above its
@@ -67,6 +76,10 @@ pub enum Rule {
     /// A message has this many bytes, more than the settings allow.
     #[error("a message came of {0} bytes, more than the settings allow")]
     TooLarge(u64),
+    /// A KEEPALIVE tells a position above this one, where the frames made end, in bytes (RSocket 1.0,
+    /// "KEEPALIVE Frame").
+    #[error("a KEEPALIVE tells a position above {0}, where the frames made end")]
+    Ahead(u64),
     /// The position of the frames handled would pass the top position of the settings.
     #[error("the frames handled would pass the top position")]
     PositionSpent,
@@ -87,6 +100,7 @@ impl Rule {
             Rule::StreamId(_) => "stream-id",
             Rule::OverCredit(_) => "over-credit",
             Rule::TooLarge(_) => "too-large",
+            Rule::Ahead(_) => "ahead",
             Rule::PositionSpent => "position-spent",
             Rule::BadFrame(_) => "bad-frame",
         }
@@ -186,6 +200,10 @@ pub enum Cause {
     /// The connection was cut, and resumption was not agreed.
     #[error("the connection was cut")]
     Cut,
+    /// Nothing came from the peer for the lifetime of the connection, and resumption was not agreed
+    /// (RSocket 1.0, "KEEPALIVE Frame").
+    #[error("nothing came from the peer for too long")]
+    Dead,
     /// The first frame was refused.
     #[error("the first frame was refused: {0}")]
     Setup(SetupFault),

@@ -1,5 +1,5 @@
 -- Where resumption is agreed, what is kept, and which positions the peer may tell.
-use Rattle.std.proofs.Common.{◌≡◌, ◌≤◌, ◌==◌, ◌||◌, ltb, ℕ, Bool, true, false, not, cond, List, [], ◌∷◌, ◌++◌, Option, Some, None, IfSome, refl, ap, sym, ◌∙◌, arith}
+use Rattle.std.proofs.Common.{◌≡◌, ◌≤◌, ◌==◌, ◌||◌, ◌&&◌, ltb, ℕ, Bool, true, false, not, cond, List, [], ◌∷◌, ◌++◌, Option, Some, None, IfSome, refl, ap, sym, ◌∙◌, arith}
 use Rattle.std.specs.Cmp.Lexicographic.{pointwise}
 use Rattle.std.proofs.lemmas.Bool.Decides.{nat_tests}
 use Rattle.rs_wire.specs.Settings.{is_client}
@@ -20,7 +20,8 @@ use Rattle.session_model.specs.Lists.{first_of}
 use Rattle.session_model.specs.Life.{agrees_resumption, asked_token, begun, is_opened, live, live_after, resumption_agreed, setup, setup_in, told, told_in}
 use Rattle.session_model.specs.Streams.{known}
 use Rattle.session_model.specs.Frames.{if_agreed, kept, made, makes}
-use Rattle.session_model.specs.Answers.{Facts, facts, gone_with, ok_gone, resume_gone}
+use Rattle.session_model.specs.Leases.{is_covered}
+use Rattle.session_model.specs.Answers.{Facts, broken_rule, covered_by, facts, gone_with, is_ahead, ok_gone, resume_gone}
 use Rattle.session_model.specs.Legal.{Legal}
 use Rattle.session_model.specs.Means.{Means}
 use Rattle.session_model.proofs.Agreed.{kept_made, resumed_agreed, waiting_agreed}
@@ -103,6 +104,7 @@ or_nothing {A} (Some x) = refl
 never_live : (a : Answer) (n : ℕ) → is_opened a ≡ false → n ≡ 0 → live_after a n ≡ 0
 never_live (answer.Opened k) n none zero = absurd (cc)
 never_live answer.Parted n none zero = refl
+never_live (answer.Dead last) n none zero = refl
 never_live a n none zero = zero
 
 -- before a session is begun nothing was made, and no connection is live
@@ -113,19 +115,19 @@ unbegun g (x ∷ past) legal fresh =
     let b = either (begun past) (is_opened x.answer) fresh in
     let before = unbegun g past legal.0 b.0 in
     let none = silent_before g (facts g past) x.event x.answer (last_means g x past legal) b.0 before.0 in
-    (never_live x.answer (live past) b.1 before.0, ap (λ fs. fs ++ makes g (known g past) x.answer x.event) before.1 ∙ none)
+    (never_live x.answer (live past) b.1 before.0, ap (λ fs. fs ++ makes g (is_covered g past) (known g past) x.answer x.event) before.1 ∙ none)
 
 kept_step : (g : Settings) (t : Facts) (a : Answer) (e : Event) (before : Option Setup) (made : List Frame) → Means g t e a → (t.begun ≡ false → made ≡ [])
-    → if_agreed (agrees_resumption g (first_of before (setup_in a e))) (made ++ makes g t.streams a e)
-    ≡ if_agreed (agrees_resumption g before) made ++ if_agreed (agrees_resumption g before) (makes g t.streams a e)
+    → if_agreed (agrees_resumption g (first_of before (setup_in a e))) (made ++ makes g (covered_by g t) t.streams a e)
+    ≡ if_agreed (agrees_resumption g before) made ++ if_agreed (agrees_resumption g before) (makes g (covered_by g t) t.streams a e)
 kept_step g t (answer.Opened n) (event.Open (Some (frame.Setup s)) taken) before made m none =
     rw (none m.suits.0) (if_none (agrees_resumption g (first_of before (Some s))) ∙ sym (ap (λ fs. fs ++ if_agreed (agrees_resumption g before) []) (if_none (agrees_resumption g before)) ∙ if_none (agrees_resumption g before)))
 kept_step g t a e before made m none =
-    ap (λ (o : Option Setup). if_agreed (agrees_resumption g o) (made ++ makes g t.streams a e)) (or_nothing before) ∙ if_more (agrees_resumption g before) made (makes g t.streams a e)
+    ap (λ (o : Option Setup). if_agreed (agrees_resumption g o) (made ++ makes g (covered_by g t) t.streams a e)) (or_nothing before) ∙ if_more (agrees_resumption g before) made (makes g (covered_by g t) t.streams a e)
 
 -- what is kept of the frames of one entry more
 pub kept_more : (g : Settings) (x : Entry) (past : List Entry) → Legal g (x ∷ past)
-    → kept g (x ∷ past) ≡ kept g past ++ if_agreed (resumption_agreed g past) (makes g (known g past) x.answer x.event)
+    → kept g (x ∷ past) ≡ kept g past ++ if_agreed (resumption_agreed g past) (makes g (is_covered g past) (known g past) x.answer x.event)
 unfolding Legal made setup facts
 kept_more g x past legal = kept_step g (facts g past) x.answer x.event (setup past) (made g past) (last_means g x past legal) (λ fresh. (unbegun g past legal.0 fresh).1)
 
@@ -133,19 +135,34 @@ told_within_by : (g : Settings) (past : List Entry) (p : ℕ) → IsAccepted (fa
 unfolding facts
 told_within_by g past p is agreed = rw (kept_made g past agreed) is.to_end
 
-tells_within : (g : Settings) (past : List Entry) (a : Answer) (e : Event) → Legal g past → Means g (facts g past) e a → told_in a e ≤ pos (kept g past)
+-- a KEEPALIVE that is handled tells no position past what was made
+within_made : (agreed : Bool) (made position : ℕ) → (agreed && ltb made position) ≡ false → agreed ≡ true → position ≤ made
+within_made true made position none is = grind (arith, nat_tests)
+within_made false made position none is = absurd (cc)
+
+keepalive_within : (g : Settings) (past : List Entry) (respond : Bool) (position : ℕ) (content : List ℕ) (agreed : Bool) → resumption_agreed g past ≡ agreed
+    → broken_rule g (facts g past) (frame.Keepalive respond position content) ≡ None → cond agreed position 0 ≤ pos (kept g past)
+unfolding broken_rule facts
+keepalive_within g past respond position content true is none =
+    let below = passed (is_ahead g (facts g past) position) _ _ none in
+    rw (kept_made g past is) (within_made (resumption_agreed g past) (pos (made g past)) position below.0 is)
+keepalive_within g past respond position content false is none = omega arith
+
+tells_within : (g : Settings) (past : List Entry) (a : Answer) (e : Event) → Legal g past → Means g (facts g past) e a → told_in (resumption_agreed g past) a e ≤ pos (kept g past)
 tells_within g past (answer.Opened n) (event.Open (Some (frame.Resume r)) taken) legal m =
     told_within_by g past r.server_position (resume_accepted (facts g past) r m.suits) (again_agreed g past (answer.Opened n) (event.Open (Some (frame.Resume r)) taken) legal m)
 tells_within g past answer.Handled (event.Came conn (frame.ResumeOk position)) legal m =
     told_within_by g past position (ok_accepted (facts g past) position m.may.1) (again_agreed g past answer.Handled (event.Came conn (frame.ResumeOk position)) legal m)
+tells_within g past answer.Handled (event.Came conn (frame.Keepalive respond position content)) legal m =
+    keepalive_within g past respond position content (resumption_agreed g past) refl m.may.1
 tells_within g past a e legal m = omega arith
 
 -- the position told is none past what is kept
-pub told_within : (g : Settings) (past : List Entry) → Legal g past → told past ≤ pos (kept g past)
+pub told_within : (g : Settings) (past : List Entry) → Legal g past → told g past ≤ pos (kept g past)
 unfolding Legal told
 told_within g [] legal = omega arith
 told_within g (x ∷ past) legal =
-    let new = if_agreed (resumption_agreed g past) (makes g (known g past) x.answer x.event) in
+    let new = if_agreed (resumption_agreed g past) (makes g (is_covered g past) (known g past) x.answer x.event) in
     let sum = pos-append length_of (kept g past) new in
     let more = ap pos (kept_more g x past legal) in
     omega (arith, more, sum, told_within g past legal.0, tells_within g past x.answer x.event legal.0 (last_means g x past legal))

@@ -1,10 +1,11 @@
 -- How many bytes the frames of a call take.
-use Rattle.std.proofs.Common.{◌≡◌, ◌≤◌, ◌+◌, ◌*◌, ◌==◌, ◌||◌, ℕ, true, false, List, [], ◌∷◌, length, Option, Some, refl, ap, subst, sym, ◌∙◌, arith, length-append}
+use Rattle.std.proofs.Common.{◌≡◌, ◌≤◌, ◌+◌, ◌*◌, ◌==◌, ◌||◌, ℕ, true, false, List, [], ◌∷◌, length, Option, Some, None, refl, ap, subst, sym, ◌∙◌, arith, length-append}
 use Rattle.std.specs.Prelude.{nat_le}
 use Rattle.std.proofs.lemmas.Grind.{common_steps}
 use Rattle.std.proofs.lemmas.Bool.Decides.{nat_tests}
 use Rattle.byteorder.specs.Endian.{big_bytes}
 use Rattle.byteorder.specs.Numbers.{length-bytes_high_first}
+use Rattle.rs_wire.specs.Message.{option_length}
 use Rattle.rs_wire.specs.Settings.{IsChecked}
 use Rattle.rs_wire.specs.declared.settings.Settings.{Settings}
 use Rattle.rs_frame.specs.declared.frame.Frame.{Frame}
@@ -18,7 +19,7 @@ use Rattle.fragment.specs.Splitting.{IsMtu, split_of}
 use Rattle.fragment.proofs.Splits.{split_fits}
 use Rattle.session_model.specs.Frames.{in_fragments}
 use Rattle.session_model.proofs.Spelled.{is_mtu}
-use Rattle.session_core.specs.Sizes.{size_of_frames, size_sent}
+use Rattle.session_core.specs.Sizes.{size_alone, size_of_frames, size_sent}
 
 -- settings that were tested have an mtu
 pub mtu_limit : (g : Settings) → IsChecked g → IsMtu g.mtu
@@ -65,3 +66,16 @@ sized_alone mtu f n b o is alone one long =
 
 pub error_length : (s code : ℕ) (content : List ℕ) → length_of (frame.Error s code content) ≡ 10 + length content
 error_length s code content = omega (arith, length-append (big_bytes 4 code) content)
+
+-- ---- the size of a frame of the connection alone
+
+pub sized_one : (f : Frame) (n : SplitSize) (b : ℕ) (o : Option Frame) → o ≡ Some f → n ≡ record { frames = 1; bytes = b } → length_of f ≡ b → Some n ≡ size_alone o
+unfolding pos_by
+sized_one f n b o is one long =
+    let sum : b ≡ pos (f ∷ []) = omega (arith, long) in
+    let made : n ≡ size_of_frames (f ∷ []) = one ∙ ap (λ k. record { frames = 1; bytes = k }) sum in
+    ap Some made ∙ sym (ap size_alone is)
+
+pub lease_length : (ttl count : ℕ) (metadata : Option (List ℕ)) → length_of (frame.Lease ttl count metadata) ≡ 14 + option_length metadata
+lease_length ttl count None = omega arith
+lease_length ttl count (Some metadata) = omega (arith, length-append (big_bytes 4 count) metadata)

@@ -6,6 +6,7 @@ use Rattle.rs_wire.specs.declared.call.Call.{Call}
 use Rattle.rs_wire.specs.declared.call.Call.TheVariants as call
 use Rattle.rs_frame.specs.declared.frame.Frame.{Frame}
 use Rattle.rs_frame.specs.declared.frame.Frame.TheVariants as frame
+use Rattle.rs_frame.specs.declared.frame.Request.{Request}
 use Rattle.tape.specs.declared.event.Event.{Event}
 use Rattle.tape.specs.declared.event.Event.TheVariants as event
 use Rattle.tape.specs.declared.answer.Answer.{Answer}
@@ -16,27 +17,27 @@ use Rattle.std.specs.Prelude.{is_some}
 use Rattle.reassembly.specs.Gathering.{ReassemblyView, gathered_at, has_part_at, held_of}
 use Rattle.stream_model.specs.declared.arrival.Arrival.{Arrival}
 use Rattle.stream_model.specs.declared.arrival.Arrival.TheVariants as arrival
-use Rattle.stream_model.specs.Marks.{Mark, TookJob}
+use Rattle.stream_model.specs.Marks.{Mark, Passed, Pushed, TookJob}
 use Rattle.stream_model.specs.Streams.{on}
 use Rattle.stream_model.specs.Kept.{kept}
 use Rattle.stream_model.specs.Known.{known as known_after, hears_on}
 use Rattle.stream_model.specs.Arriving.{heard, said}
-use Rattle.stream_model.proofs.Ids.{others_stay, same_id, turn_job}
-use Rattle.session_model.specs.Streams.{arrival_in, arrives_whole, gathers, marks_in, while_heard}
+use Rattle.stream_model.proofs.Ids.{others_stay, same_id, turn_job, turn_passed, turn_pushed}
+use Rattle.session_model.specs.Streams.{arrival_in, arrives_whole, gathers, marks_in, request_in, while_heard}
 use Rattle.session_core.specs.Speaking.{arrival_for, heard_on, says}
 use Rattle.session_core.specs.Gathering.{IsOfHeard, called_on, is_that, touches}
 
 -- ---- what is said
 
 -- what is said is what the marks of the entry are
-pub says_marks : (held : ℕ → Gathered) (a : Answer) (e : Event) → says (arrival_for held a e) a e ≡ marks_in held a e
-says_marks held answer.Handled (event.Came conn f) = refl
-says_marks held a e = grind (arith, common_steps)
+pub says_marks : (covered : Bool) (held : ℕ → Gathered) (a : Answer) (e : Event) → says (arrival_for covered held a e) a e ≡ marks_in covered held a e
+says_marks covered held answer.Handled (event.Came conn f) = refl
+says_marks covered held a e = grind (arith, common_steps)
 
-pub marks_said : (held : ℕ → Gathered) (a : Answer) (e : Event) (what : Option Arrival) (seen words : List Mark) → what ≡ arrival_for held a e → words ≡ says what a e ++ seen
-    → words ≡ marks_in held a e ++ seen
-marks_said held a e what seen words is so =
-    so ∙ (ap (λ (w : Option Arrival). says w a e ++ seen) is ∙ ap (λ (ms : List Mark). ms ++ seen) (says_marks held a e))
+pub marks_said : (covered : Bool) (held : ℕ → Gathered) (a : Answer) (e : Event) (what : Option Arrival) (seen words : List Mark) → what ≡ arrival_for covered held a e → words ≡ says what a e ++ seen
+    → words ≡ marks_in covered held a e ++ seen
+marks_said covered held a e what seen words is so =
+    so ∙ (ap (λ (w : Option Arrival). says w a e ++ seen) is ∙ ap (λ (ms : List Mark). ms ++ seen) (says_marks covered held a e))
 
 -- ---- a stream on which an event says nothing
 
@@ -52,6 +53,8 @@ said_apart most seen id (call.Done n) s other = apart most seen _ n s (same_id n
 said_apart most seen id (call.Grant n k) s other = apart most seen _ n s (same_id n) other
 said_apart most seen id (call.Cancel n) s other = apart most seen _ n s (same_id n) other
 said_apart most seen id (call.Fail n code content) s other = apart most seen _ n s (same_id n) other
+said_apart most seen id (call.Push metadata) s other = refl
+said_apart most seen id (call.Lease ttl count metadata) s other = refl
 said_apart most seen id (call.Take n) s other = refl
 said_apart most seen id call.TakeJob s other = refl
 said_apart most seen id call.Close s other = refl
@@ -68,28 +71,43 @@ payload_apart : (most : ℕ) (seen : List Mark) (n : ℕ) (sum : Gathered) (s : 
 payload_apart most seen n sum s true other = refl
 payload_apart most seen n sum s false other = apart most seen _ n s (same_id n) other
 
-heard_apart : (most : ℕ) (seen : List Mark) (held : ℕ → Gathered) (f : Frame) (s : ℕ) → is_that (heard_on f) s ≡ false
-    → hears_on ((known_after most (option_to_list (option_map heard (arrival_in held f)) ++ seen)).kept s) ≡ hears_on ((known_after most seen).kept s)
-heard_apart most seen held (frame.Request r) s other = apart most seen _ r.stream s (same_id r.stream) other
-heard_apart most seen held (frame.Payload n follows complete next message) s other = payload_apart most seen n (with_part (held n) message complete next) s follows other
-heard_apart most seen held (frame.RequestN n k) s other = apart most seen _ n s (same_id n) other
-heard_apart most seen held (frame.Cancel n) s other = apart most seen _ n s (same_id n) other
-heard_apart most seen held (frame.Error n code content) s other = error_apart most seen n code content s (n == 0) other
-heard_apart most seen held f s other = refl
+-- a request that is passed over, and metadata that is pushed, change no stream
+passed_apart : (most : ℕ) (seen : List Mark) (n s : ℕ) → hears_on ((known_after most (Passed n ∷ seen)).kept s) ≡ hears_on ((known_after most seen).kept s)
+unfolding known_after
+passed_apart most seen n s = ap (λ t. hears_on (kept t)) (turn_passed most seen n s)
+
+pushed_apart : (most : ℕ) (seen : List Mark) (metadata : List ℕ) (s : ℕ) → hears_on ((known_after most (Pushed metadata ∷ seen)).kept s) ≡ hears_on ((known_after most seen).kept s)
+unfolding known_after
+pushed_apart most seen metadata s = ap (λ t. hears_on (kept t)) (turn_pushed most seen metadata s)
+
+request_apart : (most : ℕ) (seen : List Mark) (covered : Bool) (r : Request) (s : ℕ) → (r.stream == s) ≡ false
+    → hears_on ((known_after most (heard (request_in covered r) ∷ seen)).kept s) ≡ hears_on ((known_after most seen).kept s)
+request_apart most seen true r s other = apart most seen _ r.stream s (same_id r.stream) other
+request_apart most seen false r s other = passed_apart most seen r.stream s
+
+heard_apart : (most : ℕ) (seen : List Mark) (covered : Bool) (held : ℕ → Gathered) (f : Frame) (s : ℕ) → is_that (heard_on f) s ≡ false
+    → hears_on ((known_after most (option_to_list (option_map heard (arrival_in covered held f)) ++ seen)).kept s) ≡ hears_on ((known_after most seen).kept s)
+heard_apart most seen covered held (frame.Request r) s other = request_apart most seen covered r s other
+heard_apart most seen covered held (frame.Payload n follows complete next message) s other = payload_apart most seen n (with_part (held n) message complete next) s follows other
+heard_apart most seen covered held (frame.RequestN n k) s other = apart most seen _ n s (same_id n) other
+heard_apart most seen covered held (frame.Cancel n) s other = apart most seen _ n s (same_id n) other
+heard_apart most seen covered held (frame.Error n code content) s other = error_apart most seen n code content s (n == 0) other
+heard_apart most seen covered held (frame.MetadataPush metadata) s other = pushed_apart most seen metadata s
+heard_apart most seen covered held f s other = refl
 
 job_apart : (most : ℕ) (seen : List Mark) (s : ℕ) → hears_on ((known_after most (TookJob ∷ seen)).kept s) ≡ hears_on ((known_after most seen).kept s)
 unfolding known_after
 job_apart most seen s = ap (λ t. hears_on (kept t)) (turn_job most seen s)
 
 -- whether messages are taken in there does not change
-untouched_hears : (most : ℕ) (seen : List Mark) (held : ℕ → Gathered) (a : Answer) (e : Event) (s : ℕ) → is_that (touches a e) s ≡ false
-    → hears_on ((known_after most (marks_in held a e ++ seen)).kept s) ≡ hears_on ((known_after most seen).kept s)
-untouched_hears most seen held answer.Handled (event.Came conn f) s other = heard_apart most seen held f s other
-untouched_hears most seen held (answer.Started id) (event.Asked asked) s other = said_apart most seen id asked s other
-untouched_hears most seen held answer.Done (event.Asked asked) s other = said_apart most seen 0 asked s other
-untouched_hears most seen held (answer.Got d) (event.Asked (call.Take n)) s other = apart most seen _ n s (same_id n) other
-untouched_hears most seen held (answer.GotJob job) (event.Asked call.TakeJob) s other = job_apart most seen s
-untouched_hears most seen held a e s other = grind (arith, common_steps)
+untouched_hears : (most : ℕ) (seen : List Mark) (covered : Bool) (held : ℕ → Gathered) (a : Answer) (e : Event) (s : ℕ) → is_that (touches a e) s ≡ false
+    → hears_on ((known_after most (marks_in covered held a e ++ seen)).kept s) ≡ hears_on ((known_after most seen).kept s)
+untouched_hears most seen covered held answer.Handled (event.Came conn f) s other = heard_apart most seen covered held f s other
+untouched_hears most seen covered held (answer.Started id) (event.Asked asked) s other = said_apart most seen id asked s other
+untouched_hears most seen covered held answer.Done (event.Asked asked) s other = said_apart most seen 0 asked s other
+untouched_hears most seen covered held (answer.Got d) (event.Asked (call.Take n)) s other = apart most seen _ n s (same_id n) other
+untouched_hears most seen covered held (answer.GotJob job) (event.Asked call.TakeJob) s other = job_apart most seen s
+untouched_hears most seen covered held a e s other = grind (arith, common_steps)
 
 -- ---- after an event
 
@@ -108,30 +126,30 @@ pub record LetGo (most : ℕ) (words : List Mark) (a : Answer) (e : Event) (mid 
   pub others : (s : ℕ) → is_that (touches a e) s ≡ false → has_part_at new s ≡ has_part_at mid s
 
 -- what an event so answered takes in and lets go
-pub record Goes (most : ℕ) (seen words : List Mark) (a : Answer) (e : Event) (old mid new : ReassemblyView) : Type 0 where
-  pub said : words ≡ marks_in (gathered_at old) a e ++ seen
+pub record Goes (most : ℕ) (seen words : List Mark) (covered : Bool) (a : Answer) (e : Event) (old mid new : ReassemblyView) : Type 0 where
+  pub said : words ≡ marks_in covered (gathered_at old) a e ++ seen
   pub before : IsOfHeard (known_after most seen) old
   pub taken : (s : ℕ) → gathered_at mid s ≡ gathers a e s (gathered_at old s)
   pub others : (s : ℕ) → is_that (touches a e) s ≡ false → has_part_at mid s ≡ has_part_at old s
   pub let_go : LetGo most words a e mid new
 
-unheard_by : (most : ℕ) (seen words : List Mark) (a : Answer) (e : Event) (old mid new : ReassemblyView) → Goes most seen words a e old mid new
+unheard_by : (most : ℕ) (seen words : List Mark) (covered : Bool) (a : Answer) (e : Event) (old mid new : ReassemblyView) → Goes most seen words covered a e old mid new
     → (s : ℕ) (touched : Bool) → is_that (touches a e) s ≡ touched → hears_on ((known_after most words).kept s) ≡ false → has_part_at new s ≡ false
-unheard_by most seen words a e old mid new goes s true on none = goes.let_go.over s on none
-unheard_by most seen words a e old mid new goes s false on none =
-    let said : hears_on ((known_after most (marks_in (gathered_at old) a e ++ seen)).kept s) ≡ false = subst (λ (w : List Mark). hears_on ((known_after most w).kept s) ≡ false) goes.said none in
-    let before = sym (untouched_hears most seen (gathered_at old) a e s on) ∙ said in
+unheard_by most seen words covered a e old mid new goes s true on none = goes.let_go.over s on none
+unheard_by most seen words covered a e old mid new goes s false on none =
+    let said : hears_on ((known_after most (marks_in covered (gathered_at old) a e ++ seen)).kept s) ≡ false = subst (λ (w : List Mark). hears_on ((known_after most w).kept s) ≡ false) goes.said none in
+    let before = sym (untouched_hears most seen covered (gathered_at old) a e s on) ∙ said in
     goes.let_go.others s on ∙ (goes.others s on ∙ goes.before s before)
 
 -- no part is kept of a stream on which no message is taken in
-pub still_heard : (most : ℕ) (seen words : List Mark) (a : Answer) (e : Event) (old mid new : ReassemblyView) → Goes most seen words a e old mid new → IsOfHeard (known_after most words) new
-still_heard most seen words a e old mid new goes s none = unheard_by most seen words a e old mid new goes s _ refl none
+pub still_heard : (most : ℕ) (seen words : List Mark) (covered : Bool) (a : Answer) (e : Event) (old mid new : ReassemblyView) → Goes most seen words covered a e old mid new → IsOfHeard (known_after most words) new
+still_heard most seen words covered a e old mid new goes s none = unheard_by most seen words covered a e old mid new goes s _ refl none
 
-kept_at : (most : ℕ) (seen words : List Mark) (a : Answer) (e : Event) (old mid new : ReassemblyView) → Goes most seen words a e old mid new
+kept_at : (most : ℕ) (seen words : List Mark) (covered : Bool) (a : Answer) (e : Event) (old mid new : ReassemblyView) → Goes most seen words covered a e old mid new
     → (s : ℕ) (hears : Bool) → hears_on ((known_after most words).kept s) ≡ hears → gathered_at new s ≡ cond hears (gathers a e s (gathered_at old s)) nothing
-kept_at most seen words a e old mid new goes s true is = goes.let_go.heard s is ∙ goes.taken s
-kept_at most seen words a e old mid new goes s false is = no_part new s (still_heard most seen words a e old mid new goes s is)
+kept_at most seen words covered a e old mid new goes s true is = goes.let_go.heard s is ∙ goes.taken s
+kept_at most seen words covered a e old mid new goes s false is = no_part new s (still_heard most seen words covered a e old mid new goes s is)
 
-pub kept_parts : (most : ℕ) (seen words : List Mark) (a : Answer) (e : Event) (old mid new : ReassemblyView) → Goes most seen words a e old mid new
+pub kept_parts : (most : ℕ) (seen words : List Mark) (covered : Bool) (a : Answer) (e : Event) (old mid new : ReassemblyView) → Goes most seen words covered a e old mid new
     → (s : ℕ) → gathered_at new s ≡ while_heard most words (λ i. gathers a e i (gathered_at old i)) s
-kept_parts most seen words a e old mid new goes s = kept_at most seen words a e old mid new goes s _ refl
+kept_parts most seen words covered a e old mid new goes s = kept_at most seen words covered a e old mid new goes s _ refl

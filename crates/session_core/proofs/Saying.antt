@@ -1,5 +1,5 @@
 -- What an event says on the streams that means what its answer says can be said.
-use Rattle.std.proofs.Common.{◌≡◌, ◌<◌, ◌^◌, ℕ, List, length, Option, Some, None, IfSome, IsSome, refl, ap, subst, sym, arith}
+use Rattle.std.proofs.Common.{◌≡◌, ◌<◌, ◌^◌, ℕ, Bool, true, false, List, length, Option, Some, None, IfSome, IsSome, refl, ap, subst, sym, arith}
 use Rattle.std.proofs.lemmas.Grind.{common_steps}
 use Rattle.rs_wire.specs.Calls.{CanBeAsked}
 use Rattle.rs_wire.specs.declared.settings.Settings.{Settings}
@@ -34,7 +34,9 @@ use Rattle.session_model.proofs.Fairness.{arrival_counted, can_act, can_arrive}
 use Rattle.session_model.proofs.Refusals.{Unrefused, streams_allow, unrefused}
 use Rattle.session_core.specs.declared.state.State.{State}
 use Rattle.session_core.specs.Fits.{Fits, facts_of}
+use Rattle.session_core.specs.Leasing.{covers_next}
 use Rattle.session_core.specs.Speaking.{Acts, CanSay, Comes, FindsRoom, GoesOn, IsNoRule, arrival_for, heard_on, named, speaks_on, with_room}
+use Rattle.session_core.proofs.Leases.{covers_is}
 
 -- the streams that a session keeps are those of its entries
 same_streams : (g : Settings) (s : State) (past : List Entry) → Fits g s past → known g past ≡ known_to s.streams
@@ -47,8 +49,9 @@ unfolding facts
 same_gathered g s past h = ap (λ (t : Facts). t.unfinished) h.facts_are
 
 -- the room that was made is that for what is said
-heard_there : (held : ℕ → Gathered) (f : Frame) (what : Arrival) (ready : Option ℕ) → arrival_in held f ≡ Some what → FindsRoom (heard_on f) ready → ready ≡ Some (stream_in what)
-heard_there held f what ready is room = grind (arith, common_steps)
+heard_there : (covered : Bool) (held : ℕ → Gathered) (f : Frame) (what : Arrival) (ready : Option ℕ) → arrival_in covered held f ≡ Some what → FindsRoom (heard_on f) ready → ready ≡ Some (stream_in what)
+heard_there true held f what ready is room = grind (arith, common_steps)
+heard_there false held f what ready is room = grind (arith, common_steps)
 
 no_rule : (e : Effect) → IsCounted e → IsNoRule e
 no_rule (effect.Broken rule) h = absurd h
@@ -59,22 +62,24 @@ is_some_room ready n is = subst IsSome (sym is) refl
 
 -- what a frame says that breaks no rule comes
 comes : (g : Settings) (s : State) (past : List Entry) (ready : Option ℕ) (parts : ReassemblyView) (spare : Spare) (f : Frame) (o : Option Arrival) → Fits g s past → length past < 2 ^ 63 → IsSpellable f
-    → broken_rule g (facts_of s) f ≡ None → arrival_in (gathered_at s.parts) f ≡ o → FindsRoom (heard_on f) ready → IfSome o (Comes (with_room s ready parts spare).streams)
+    → broken_rule g (facts_of s) f ≡ None → arrival_in (covers_next g s) (gathered_at s.parts) f ≡ o → FindsRoom (heard_on f) ready → IfSome o (Comes (with_room s ready parts spare).streams)
 comes g s past ready parts spare f None h short spellable unbroken is room = tt
 comes g s past ready parts spare f (Some what) h short spellable unbroken is room =
     record {
-      room = heard_there (gathered_at s.parts) f what ready is room;
+      room = heard_there (covers_next g s) (gathered_at s.parts) f what ready is room;
       fits = subst (λ (t : Known). CanArrive t what) (same_streams g s past h)
-          (can_arrive g past f what h.legal h.fair short spellable (subst (λ (held : ℕ → Gathered). arrival_in held f ≡ Some what) (same_gathered g s past h) is));
+          (can_arrive g past f what h.legal h.fair short spellable
+          (subst (λ covered. arrival_in covered (unfinished g past) f ≡ Some what) (covers_is g s past h.facts_are)
+          (subst (λ (held : ℕ → Gathered). arrival_in (covers_next g s) held f ≡ Some what) (same_gathered g s past h) is)));
       counts = subst (λ (l : Limits). IsNoRule (effect_by l (known_to s.streams) what)) (sym h.limits_are)
           (no_rule (effect_by (limits_of g) (known_to s.streams) what) (arrival_counted g (facts_of s) f what unbroken is));
     }
 
 -- and so does what may come
 may_come : (g : Settings) (s : State) (past : List Entry) (ready : Option ℕ) (parts : ReassemblyView) (spare : Spare) (f : Frame) → Fits g s past → length past < 2 ^ 63 → IsSpellable f
-    → MayCome g (facts_of s) f → FindsRoom (heard_on f) ready → IfSome (arrival_in (gathered_at s.parts) f) (Comes (with_room s ready parts spare).streams)
+    → MayCome g (facts_of s) f → FindsRoom (heard_on f) ready → IfSome (arrival_in (covers_next g s) (gathered_at s.parts) f) (Comes (with_room s ready parts spare).streams)
 may_come g s past ready parts spare (frame.ResumeOk position) h short spellable may room = tt
-may_come g s past ready parts spare f h short spellable may room = comes g s past ready parts spare f (arrival_in (gathered_at s.parts) f) h short spellable may.1 refl room
+may_come g s past ready parts spare f h short spellable may room = comes g s past ready parts spare f (arrival_in (covers_next g s) (gathered_at s.parts) f) h short spellable may.1 refl room
 
 -- a call that is not refused and has a frame acts
 acts : (g : Settings) (s : State) (past : List Entry) (ready : Option ℕ) (parts : ReassemblyView) (spare : Spare) (asked : Call) (id : ℕ) (f : Frame) → Fits g s past → length past < 2 ^ 63 → CanBeAsked asked
@@ -98,13 +103,15 @@ goes_on g s past ready parts spare (call.Grant n k) h short ask does room = acts
 goes_on g s past ready parts spare (call.Cancel n) h short ask does room = acts g s past ready parts spare (call.Cancel n) 0 _ h short ask (unrefused g (facts_of s) (call.Cancel n) does) refl (is_some_room ready n room)
 goes_on g s past ready parts spare (call.Fail n code content) h short ask does room =
     acts g s past ready parts spare (call.Fail n code content) 0 _ h short ask (unrefused g (facts_of s) (call.Fail n code content) does) refl (is_some_room ready n room)
+goes_on g s past ready parts spare (call.Push metadata) h short ask does room = tt
+goes_on g s past ready parts spare (call.Lease ttl count metadata) h short ask does room = tt
 goes_on g s past ready parts spare (call.Take n) h short ask does room = absurd does
 goes_on g s past ready parts spare call.TakeJob h short ask does room = absurd does
 goes_on g s past ready parts spare call.Close h short ask does room = tt
 
 -- what an event and its answer say can be said, where room was made for it
 pub can_say : (g : Settings) (s : State) (past : List Entry) (ready : Option ℕ) (parts : ReassemblyView) (spare : Spare) (e : Event) (a : Answer) → Fits g s past → length past < 2 ^ 63 → IsFair g e → Means g (facts_of s) e a
-    → FindsRoom (speaks_on a e) ready → CanSay (with_room s ready parts spare).streams a e (arrival_for (gathered_at s.parts) a e)
+    → FindsRoom (speaks_on a e) ready → CanSay (with_room s ready parts spare).streams a e (arrival_for (covers_next g s) (gathered_at s.parts) a e)
 can_say g s past ready parts spare (event.Came conn f) answer.Handled h short fair m room = may_come g s past ready parts spare f h short fair m.may room
 can_say g s past ready parts spare e answer.Handled h short fair m room = absurd m
 can_say g s past ready parts spare (event.Asked (call.Request kind initial message complete)) (answer.Started id) h short fair m room =

@@ -27,9 +27,9 @@ IsSameKept old new = (s : ℕ) → has_part_at new s ≡ has_part_at old s
 abbrev pub IsOfHeard : Known → ReassemblyView → Type 0
 IsOfHeard t parts = (s : ℕ) → hears_on (t.kept s) ≡ false → has_part_at parts s ≡ false
 
--- what a frame says on a stream where nothing is gathered
-abbrev pub alone_in : Frame → Option Arrival
-alone_in f = arrival_in (λ s. nothing) f
+-- what a frame says on a stream where nothing is gathered, by whether a request is covered
+abbrev pub alone_in : Bool → Frame → Option Arrival
+alone_in covered f = arrival_in covered (λ s. nothing) f
 
 -- a payload that is said to be no part of a message is the whole message
 abbrev pub IsPartOrWhole : ReassemblyView → Bool → Frame → Type 0
@@ -37,13 +37,13 @@ IsPartOrWhole parts false (frame.Payload s follows complete next message) = (fol
 IsPartOrWhole parts is_part f = Unit {0}
 
 -- what a frame says before it is joined to what was gathered: a payload that is a part says nothing yet
-abbrev pub ready_in : Bool → Frame → Option Arrival
-ready_in true (frame.Payload s follows complete next message) = None
-ready_in is_part f = alone_in f
+abbrev pub ready_in : Bool → Bool → Frame → Option Arrival
+ready_in covered true (frame.Payload s follows complete next message) = None
+ready_in covered is_part f = alone_in covered f
 
-abbrev pub ready_for : Bool → Answer → Event → Option Arrival
-ready_for is_part answer.Handled (event.Came conn f) = ready_in is_part f
-ready_for is_part _ _ = None
+abbrev pub ready_for : Bool → Bool → Answer → Event → Option Arrival
+ready_for covered is_part answer.Handled (event.Came conn f) = ready_in covered is_part f
+ready_for covered is_part _ _ = None
 
 -- there is room for a frame that is a part of a message
 abbrev pub FindsPlace : ReassemblyView → Bool → Frame → Type 0

@@ -9,10 +9,11 @@ use Rattle.tape.specs.declared.event.Event.TheVariants as event
 use Rattle.tape.specs.declared.answer.Answer.{Answer}
 use Rattle.tape.specs.declared.answer.Answer.TheVariants as answer
 use Rattle.position.specs.Boundaries.{is_boundary_by, pos, pos_by}
-use Rattle.replay_buffer.specs.Held.{Held, IsHeldOf, Spare, framed_from}
+use Rattle.replay_buffer.specs.Held.{Buffer, Held, IsHeldOf, Spare, framed_from}
 use Rattle.session_model.specs.Life.{agrees_resumption}
 use Rattle.session_model.specs.Frames.{if_agreed, makes}
 use Rattle.interactions.specs.Seen.{known_to}
+use Rattle.session_core.specs.Leasing.{covers_next}
 use Rattle.session_core.specs.declared.state.State.{State}
 
 -- a held frame begins or ends at the position
@@ -21,7 +22,7 @@ has_boundary h p = nat_le h.first p && is_boundary_by length h.frames (p - h.fir
 
 -- the frames that are kept of those that an event so answered makes
 abbrev pub keeps : Settings → State → Answer → Event → List Frame
-keeps g s a e = if_agreed (agrees_resumption g s.setup) (makes g (known_to s.streams) a e)
+keeps g s a e = if_agreed (agrees_resumption g s.setup) (makes g (covers_next g s) (known_to s.streams) a e)
 
 -- frames of these bytes can be kept without memory
 pub record FindsSpare (s : Spare) (spelled : List (List ℕ)) : Type 0 where

@@ -12,4 +12,7 @@ pub mod Speaking
 pub mod Gathering
 pub mod Sizes
 pub mod Kept
+pub mod Leasing
 pub mod Line
+pub mod Timing
+pub mod Leasing

@@ -7,6 +7,7 @@ use Rattle.tape.specs.declared.answer.Answer.{Answer}
 use Rattle.interactions.specs.Seen.{known_to}
 use Rattle.session_model.specs.Frames.{if_carrying, makes}
 use Rattle.session_core.specs.Fits.{facts_of}
+use Rattle.session_core.specs.Leasing.{covers_next}
 use Rattle.session_core.specs.Kept.{again_from, sent_again}
 use Rattle.session_core.specs.Outgoing.{notices}
 use Rattle.session_core.specs.declared.state.State.{State}
@@ -16,4 +17,4 @@ abbrev pub line_of : Settings → State → Answer → Event → List ℕ
 line_of g s a e =
     framed_all (notices g (facts_of s) a e)
     ++ (sent_again s.replay.held (again_from a e)
-    ++ framed_all (if_carrying s.carrying (makes g (known_to s.streams) a e)))
+    ++ framed_all (if_carrying s.carrying (makes g (covers_next g s) (known_to s.streams) a e)))

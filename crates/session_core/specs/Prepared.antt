@@ -14,8 +14,10 @@ use Rattle.reassembly.specs.Gathering.{ReassemblyView}
 use Rattle.replay_buffer.specs.Held.{new_buffer}
 use Rattle.session_core.specs.Gathering.{ready_for}
 use Rattle.session_core.specs.Kept.{HasFrameLength, keeps}
+use Rattle.session_core.specs.Leasing.{covers_next}
 use Rattle.session_core.specs.Line.{line_of}
 use Rattle.session_core.specs.Queued.{is_connected}
+use Rattle.session_core.specs.Timing.{begun_at}
 use Rattle.session_core.specs.declared.state.State.{State}
 use Rattle.session_core.specs.declared.state.Prepared.{Prepared}
 
@@ -26,10 +28,11 @@ lined_on live bytes = if is_connected live then bytes else []
 -- these need memory, and the state does not change by them
 pub record AreReady (g : Settings) (old : State) (e : Event) (a : Answer) (p : Prepared) : Type 0 where
   pub setup : p.setup ≡ setup_in a e
-  pub made : p.made.items ≡ makes g (known_to old.streams) a e
+  pub made : p.made.items ≡ makes g (covers_next g old) (known_to old.streams) a e
   pub spelled : p.spelled.items ≡ map canonical (keeps g old a e)
   pub long : AllByRecursion HasFrameLength p.spelled.items
-  pub arrival : p.incoming.arrival ≡ ready_for p.incoming.is_part a e
+  pub arrival : p.incoming.arrival ≡ ready_for p.incoming.covered p.incoming.is_part a e
+  pub covered : p.incoming.covered ≡ covers_next g old
   pub spellable : AllByRecursion IsSpellable p.made.items
   pub before : p.before ≡ length old.queue
 
@@ -37,10 +40,11 @@ pub record AreReady (g : Settings) (old : State) (e : Event) (a : Answer) (p : P
 abbrev pub with_line : Settings → State → Event → Answer → State
 with_line g old e a = record old { queue = old.queue ++ lined_on (live_after a old.live) (line_of g old a e) }
 
--- what stays in line: on an opened connection what was put in line for it, on a parted one nothing
+-- what stays in line: on an opened connection what was put in line for it, on one that is parted or whose peer is dead nothing
 abbrev pub left_in_line : Answer → ℕ → List ℕ → List ℕ
 left_in_line (answer.Opened n) before queue = drop before queue
 left_in_line answer.Parted before queue = []
+left_in_line (answer.Dead last) before queue = []
 left_in_line _ before queue = queue
 
 -- a session of which nothing happened yet
@@ -58,4 +62,7 @@ nothing_yet g parts = record {
   streams = record { limits = limits_of g; marks = []; ready = None };
   parts = parts;
   queue = [];
+  timer = begun_at g None 0;
+  lease = None;
+  granted = record { granted = 0; admitted = 0 };
 }

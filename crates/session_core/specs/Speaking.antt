@@ -1,5 +1,5 @@
 -- What an event so answered says on the streams, and the room that it finds there.
-use Rattle.std.specs.Prelude.{◌≡◌, ◌==◌, ℕ, if◌then◌else◌, List, [], ◌∷◌, Option, Some, None, IsSome, IfSome, option_to_list}
+use Rattle.std.specs.Prelude.{◌≡◌, ◌==◌, ℕ, Bool, if◌then◌else◌, List, [], ◌∷◌, Option, Some, None, IsSome, IfSome, option_to_list}
 use Rattle.std.specs.Option.{option_map}
 use Rattle.rs_wire.specs.Calls.{CanBeAsked}
 use Rattle.rs_wire.specs.declared.call.Call.{Call}
@@ -24,10 +24,10 @@ use Rattle.replay_buffer.specs.Held.{Spare}
 use Rattle.session_model.specs.Streams.{arrival_in}
 use Rattle.session_core.specs.declared.state.State.{State}
 
--- what a frame that is handled says, by what was gathered of messages that are not whole
-abbrev pub arrival_for : (ℕ → Gathered) → Answer → Event → Option Arrival
-arrival_for gathered answer.Handled (event.Came conn f) = arrival_in gathered f
-arrival_for gathered _ _ = None
+-- what a frame that is handled says, by whether a request is covered, and by what was gathered of messages that are not whole
+abbrev pub arrival_for : Bool → (ℕ → Gathered) → Answer → Event → Option Arrival
+arrival_for covered gathered answer.Handled (event.Came conn f) = arrival_in covered gathered f
+arrival_for covered gathered _ _ = None
 
 -- what an event so answered says, where a frame that is handled says that
 abbrev pub says : Option Arrival → Answer → Event → List Mark
@@ -38,13 +38,14 @@ says what (answer.Got delivery) (event.Asked (call.Take s)) = Took s delivery �
 says what (answer.GotJob job) (event.Asked call.TakeJob) = TookJob ∷ []
 says what _ _ = []
 
--- the stream of a frame that says something on a stream, or that is a part of a message there
+-- the stream of a frame that says something on a stream, or that is a part of a message there; 0 for pushed metadata
 abbrev pub heard_on : Frame → Option ℕ
 heard_on (frame.Request r) = Some r.stream
 heard_on (frame.Payload s follows complete next message) = Some s
 heard_on (frame.RequestN s n) = Some s
 heard_on (frame.Cancel s) = Some s
 heard_on (frame.Error s code content) = if s == 0 then None else Some s
+heard_on (frame.MetadataPush metadata) = Some 0
 heard_on _ = None
 
 -- the stream on which a call goes on, where it names one
@@ -94,9 +95,11 @@ pub record Begins (v : Seen) (id : ℕ) (asked : Call) : Type 0 where
   pub acts : Acts v asked
   pub next : id ≡ stream_of_call v asked
 
--- a call that begins no stream acts, but for Close
+-- a call that begins no stream acts, but for those that say nothing on a stream
 abbrev pub GoesOn : Seen → Call → Type 0
 GoesOn v (call.Request kind initial message complete) = ⊥
+GoesOn v (call.Push metadata) = Unit {0}
+GoesOn v (call.Lease ttl count metadata) = Unit {0}
 GoesOn v call.Close = Unit {0}
 GoesOn v asked = Acts v asked
 

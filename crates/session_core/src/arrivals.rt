@@ -19,16 +19,20 @@ pub struct Incoming {
     pub arrival: Option<Arrival>,
     /// The frame is a payload that is a part of a message.
     pub is_part: bool,
+    /// What this end lets its peer ask covers a request.
+    pub covered: bool,
 }
 
 impl Incoming {
     /// Nothing comes.
-    pub fn nothing() -> Incoming
+    pub fn nothing(covered: bool) -> Incoming
         ensures arrival { result.arrival ≡ None }
+        ensures covered { result.covered ≡ covered }
     {
         Incoming {
             arrival: None,
             is_part: false,
+            covered,
         }
     }
 }
@@ -44,9 +48,15 @@ fn whole_in(alloc: Global, request: &Request) -> Result<Option<(Message, bool)>,
     Ok(Some((request.message.copy(alloc)?, request.complete)))
 }
 
-fn asked(alloc: Global, request: &Request) -> Result<Arrival, OutOfMemory>
-    ensures { IfOk result (λ a. Some a ≡ alone_in (Frame.Request request.now)) }
+// What a request says, which is passed over where it is not covered.
+fn asked(alloc: Global, covered: bool, request: &Request) -> Result<Arrival, OutOfMemory>
+    ensures { IfOk result (λ a. Some a ≡ alone_in covered (Frame.Request request.now)) }
 {
+    if !covered {
+        return Ok(Arrival::PassedOver {
+            stream: request.stream,
+        });
+    }
     Ok(Arrival::Asked {
         stream: request.stream,
         kind: request.kind,
@@ -56,11 +66,11 @@ fn asked(alloc: Global, request: &Request) -> Result<Arrival, OutOfMemory>
 }
 
 // What a frame says on a stream where nothing is gathered.
-fn alone_in(alloc: Global, frame: &Frame) -> Result<Option<Arrival>, OutOfMemory>
-    ensures { IfOk result (λ a. a ≡ alone_in frame.now) }
+fn alone_in(alloc: Global, covered: bool, frame: &Frame) -> Result<Option<Arrival>, OutOfMemory>
+    ensures { IfOk result (λ a. a ≡ alone_in covered frame.now) }
 {
     Ok(match frame {
-        Frame::Request(request) => Some(asked(alloc, request)?),
+        Frame::Request(request) => Some(asked(alloc, covered, request)?),
         Frame::Payload { follows: true, .. } => None,
         Frame::Payload {
             stream,
@@ -89,17 +99,25 @@ fn alone_in(alloc: Global, frame: &Frame) -> Result<Option<Arrival>, OutOfMemory
             code: *code,
             content: content.copy(alloc)?,
         }),
+        Frame::MetadataPush { metadata } => Some(Arrival::Pushed {
+            metadata: metadata.copy(alloc)?,
+        }),
         _ => None,
     })
 }
 
 // What a frame says before it is joined to other parts.
-fn ready_in(alloc: Global, frame: &Frame, is_part: bool) -> Result<Option<Arrival>, OutOfMemory>
-    ensures { IfOk result (λ a. a ≡ ready_in is_part frame.now) }
+fn ready_in(
+    alloc: Global,
+    covered: bool,
+    frame: &Frame,
+    is_part: bool,
+) -> Result<Option<Arrival>, OutOfMemory>
+    ensures { IfOk result (λ a. a ≡ ready_in covered is_part frame.now) }
 {
     match frame {
         Frame::Payload { .. } if is_part => Ok(None),
-        _ => alone_in(alloc, frame),
+        _ => alone_in(alloc, covered, frame),
     }
 }
 
@@ -140,37 +158,45 @@ fn make_place(parts: &mut Reassembly, frame: &Frame, is_part: bool) -> Result<()
 fn incoming_in(
     alloc: Global,
     parts: &mut Reassembly,
+    covered: bool,
     frame: &Frame,
 ) -> Result<Incoming, OutOfMemory>
     ensures same { IsSameGathered parts.old parts.new }
     ensures kept { IsSameKept parts.old parts.new }
-    ensures arrival { IfOk result (λ i. i.arrival ≡ ready_in i.is_part frame.now) }
+    ensures arrival { IfOk result (λ i. i.arrival ≡ ready_in covered i.is_part frame.now) }
+    ensures covered { IfOk result (λ i. i.covered ≡ covered) }
     ensures place { IfOk result (λ i. FindsPlace parts.new i.is_part frame.now) }
 {
     let is_part = is_part(parts, frame);
     make_place(parts, frame, is_part)?;
     Ok(Incoming {
-        arrival: ready_in(alloc, frame, is_part)?,
+        arrival: ready_in(alloc, covered, frame, is_part)?,
         is_part,
+        covered,
     })
 }
 
-/// What a frame that is handled brings, and room for it among the parts.
+/// What a frame that is handled brings, and room for it among the parts, where `covered` says whether a
+/// request is.
 pub fn incoming_of(
     alloc: Global,
     parts: &mut Reassembly,
+    covered: bool,
     event: &Event,
     answer: &Answer,
 ) -> Result<Incoming, OutOfMemory>
     ensures same { IsSameGathered parts.old parts.new }
     ensures kept { IsSameKept parts.old parts.new }
     ensures arrival { IfOk result (λ i. i.arrival ≡
-        ready_for i.is_part answer.now event.now) }
+        ready_for covered i.is_part answer.now event.now) }
+    ensures covered { IfOk result (λ i. i.covered ≡ covered) }
     ensures place { IfOk result (λ i.
         FindsPlaceFor parts.new i.is_part answer.now event.now) }
 {
     match (answer, event) {
-        (Answer::Handled, Event::Came { frame, .. }) => incoming_in(alloc, parts, frame),
-        _ => Ok(Incoming::nothing()),
+        (Answer::Handled, Event::Came { frame, .. }) => {
+            incoming_in(alloc, parts, covered, frame)
+        }
+        _ => Ok(Incoming::nothing(covered)),
     }
 }

@@ -1,10 +1,10 @@
 //! The answer to a call.
 
-ghost use Rattle.std.specs.Prelude.{◌≡◌, ◌<◌, ◌≤◌, ◌^◌, ℕ, List, None, IfOk};
+ghost use Rattle.std.specs.Prelude.{◌≡◌, ◌≢◌, ◌<◌, ◌≤◌, ◌^◌, ℕ, List, [], ◌∷◌, None, IfOk};
 ghost use Rattle.rs_wire.specs.Calls.{CanBeAsked};
 ghost use Rattle.interactions.specs.Seen.{known_to};
 ghost use Rattle.session_model.specs.Frames.{spoken};
-ghost use Rattle.session_model.specs.Answers.{accepted, by_closed, by_sending, by_size, find_full, refused_call, refused_frames, refused_sending, size_in, to_call};
+ghost use Rattle.session_model.specs.Answers.{accepted, by_closed, by_sending, by_size, find_full, refused_beside, refused_call, refused_frames, refused_sending, size_in, to_call};
 ghost use Rattle.rs_wire.specs.declared.settings.Settings.{Settings};
 ghost use Rattle.rs_frame.specs.declared.frame.Frame.{Frame};
 ghost use Rattle.stream_model.specs.Known.{Known, limits_of};
@@ -13,7 +13,8 @@ ghost use Rattle.session_core.specs.Asked.{refused_later};
 ghost use Rattle.session_core.specs.Fits.{AreLimits, HasRoom, facts_of};
 ghost use Rattle.session_core.specs.Sizes.{size_of_frames};
 
-use crate::sizes::{closing_size, size_spoken};
+use crate::leasing::{by_agreement, by_lease};
+use crate::sizes::{closing_size, option_len, size_beside, size_spoken};
 use crate::state::State;
 use fragment::SplitSize;
 use rs_wire::{Call, Checked, OutOfMemory, Refusal};
@@ -28,6 +29,8 @@ fn size_in(call: &Call) -> u64
     match call {
         Call::Request { message, .. } | Call::Next { message, .. } => message.size(),
         Call::Fail { content, .. } => content.len() as u64,
+        Call::Push { metadata } => metadata.len() as u64,
+        Call::Lease { metadata, .. } => option_len(metadata),
         _ => 0,
     }
 }
@@ -61,9 +64,9 @@ fn by_size(settings: &Checked, call: &Call) -> Option<Refusal>
     None
 }
 
-// Frames of this size go out at once, and find no room in the queue.
+/// Frames of this size go out at once, and find no room in the queue.
 #[tactic(auto, using(crate::proofs::Framed::framed_size))]
-fn find_full(settings: &Checked, state: &State, size: SplitSize) -> bool
+pub fn find_full(settings: &Checked, state: &State, size: SplitSize) -> bool
     requires few { size.frames < 2 ^ 40 }
     requires small { size.bytes < 2 ^ 60 }
     ensures { (fs : List Frame) → size ≡ size_of_frames fs → result ≡
@@ -116,6 +119,35 @@ fn refused_closing(settings: &Checked, state: &State) -> Option<Refusal>
     None
 }
 
+// A frame of the connection alone, of this size, can't be sent.
+fn refused_beside(settings: &Checked, state: &State, size: SplitSize) -> Option<Refusal>
+    requires few { size.frames < 2 ^ 40 }
+    requires small { size.bytes < 2 ^ 60 }
+    ensures { (f : Frame) → size ≡ size_of_frames (f ∷ []) → result ≡
+        refused_beside settings.now (facts_of state.now) f }
+{
+    if !state.carrying {
+        return Some(Refusal::NotConnected);
+    }
+    if find_full(settings, state, size) {
+        return Some(Refusal::OutFull(state.queue.len()));
+    }
+    None
+}
+
+// The frames of a call that is not Close can't be sent.
+fn refused_frame(settings: &Checked, state: &State, call: &Call) -> Option<Refusal>
+    requires room { HasRoom state.now }
+    requires size { size_in call.now ≤ 16000000 }
+    ensures { call.now ≢ Call.Close → result ≡
+        by_sending settings.now (facts_of state.now) call.now }
+{
+    match size_beside(call) {
+        Some(size) => refused_beside(settings, state, size),
+        None => refused_sending(settings, state, call),
+    }
+}
+
 // Close needs no connection.
 fn by_sending(settings: &Checked, state: &State, call: &Call) -> Option<Refusal>
     requires room { HasRoom state.now }
@@ -124,7 +156,7 @@ fn by_sending(settings: &Checked, state: &State, call: &Call) -> Option<Refusal>
 {
     match call {
         Call::Close => refused_closing(settings, state),
-        _ => refused_sending(settings, state, call),
+        _ => refused_frame(settings, state, call),
     }
 }
 
@@ -138,6 +170,9 @@ fn refused_later(settings: &Checked, state: &State, call: &Call) -> Option<Refus
         return Some(why);
     }
     if let Some(why) = state.streams.by_credit(call) {
+        return Some(why);
+    }
+    if let Some(why) = by_lease(settings, state, call) {
         return Some(why);
     }
     if let Some(why) = state.streams.by_ids(call) {
@@ -160,6 +195,9 @@ fn refused_call(settings: &Checked, state: &State, call: &Call) -> Option<Refusa
         return Some(why);
     }
     if let Some(why) = state.streams.by_state(call) {
+        return Some(why);
+    }
+    if let Some(why) = by_agreement(settings, state, call) {
         return Some(why);
     }
     refused_later(settings, state, call)

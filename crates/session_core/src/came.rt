@@ -2,25 +2,23 @@
 
 ghost use Rattle.std.specs.Prelude.{◌≡◌, ◌&&◌, if◌then◌else◌, nat_lt, None, Some};
 ghost use Rattle.rs_frame.specs.Spelling.{IsSpellable};
-ghost use Rattle.interactions.specs.Seen.{known_to};
-ghost use Rattle.session_model.specs.Streams.{is_turned_away};
-ghost use Rattle.session_model.specs.Answers.{answer_spends, breaks_credit, broken_rule, peer_error, rule_now, spends, to_frame, to_known, unknown_type, waiting_rule};
-ghost use Rattle.rs_wire.specs.declared.settings.Settings.{Settings};
+ghost use Rattle.session_model.specs.Answers.{answer_spends, breaks_credit, broken_rule, is_ahead, peer_error, rule_now, spends, to_frame, to_known, unknown_type, waiting_rule};
 ghost use Rattle.session_core.specs.Came.{IsPayload};
 ghost use Rattle.session_core.specs.Fits.{AreLimits, HasRoom, facts_of};
 
 use crate::judge::is_live;
+use crate::leasing::is_covered;
+use crate::life::agrees_resumption;
 use crate::resuming::to_resume_ok;
 use crate::state::State;
-use interactions::Streams;
+use crate::turned_away::turned_away_for;
 use rs_frame::{Frame, Request};
 use rs_wire::{Checked, Message, Rule};
 use session_model::{ANSWER_ROOM, EXTENSION, MAY_IGNORE};
 use tape::Answer;
 
-/// The bytes of the ERROR that turns a request away: a header of 6, a code of 4, and the 7 of
-/// "streams".
-const TURNED_AWAY: u64 = 17;
+/// The bytes of the ERROR that turns a request away before its word: a header of 6, and a code of 4.
+const TURNED_AWAY: u64 = 10;
 
 // The rule that a frame breaks whose type this end doesn't know.
 fn unknown_type(number: u8, flags: u16) -> Option<Rule>
@@ -30,14 +28,6 @@ fn unknown_type(number: u8, flags: u16) -> Option<Rule>
         return None;
     }
     Some(Rule::UnknownType(number))
-}
-
-/// A request opens no stream, and is to be answered by an ERROR.
-pub fn is_turned_away(streams: &Streams, request: &Request) -> bool
-    ensures { (g : Settings) → g.max_streams ≡ streams.now.limits.max_streams → result ≡
-        is_turned_away g (known_to streams.now) request.now }
-{
-    !streams.admits(request.kind, true)
 }
 
 // The position of the frames handled would pass the top.
@@ -56,8 +46,13 @@ fn answer_spends(settings: &Checked, state: &State, request: &Request) -> bool
     requires limits { AreLimits settings.now state.now }
     ensures { result ≡ answer_spends settings.now (facts_of state.now) request.now }
 {
-    is_turned_away(&state.streams, request)
-        && state.made.position + TURNED_AWAY > settings.settings().top_position
+    match turned_away_for(&state.streams, is_covered(settings, state), request) {
+        Some(word) => {
+            let position = state.made.position + TURNED_AWAY + word.len() as u64;
+            position > settings.settings().top_position
+        }
+        None => false,
+    }
 }
 
 // A message of this size is taken in, and has too many bytes.
@@ -150,6 +145,18 @@ fn only_position(settings: &Checked, state: &State, frame: &Frame) -> Option<Rul
     None
 }
 
+// A KEEPALIVE tells a position above that of the frames made, where resumption is agreed.
+fn ahead(settings: &Checked, state: &State, position: u64) -> Option<Rule>
+    ensures { result ≡ (if is_ahead settings.now (facts_of state.now) position then
+        Some (Rule.Ahead state.now.made.position) else None) }
+{
+    let agreed = agrees_resumption(settings.settings(), &state.setup);
+    if agreed && position > state.made.position {
+        return Some(Rule::Ahead(state.made.position));
+    }
+    None
+}
+
 // The least rule that the frame breaks.
 #[tactic(auto, unfolding(session_model::specs::Answers::broken_rule))]
 fn broken_rule(settings: &Checked, state: &State, frame: &Frame) -> Option<Rule>
@@ -170,6 +177,8 @@ fn broken_rule(settings: &Checked, state: &State, frame: &Frame) -> Option<Rule>
         Frame::RequestN { .. } | Frame::Cancel { .. } | Frame::Error { .. } => {
             only_position(settings, state, frame)
         }
+        Frame::Keepalive { position, .. } => ahead(settings, state, *position),
+        Frame::Lease { .. } | Frame::MetadataPush { .. } => None,
         Frame::Unknown { number, flags, .. } => unknown_type(*number, *flags),
         Frame::Ext { flags, .. } => unknown_type(EXTENSION, *flags),
         _ => Some(Rule::NotNow),

@@ -1,6 +1,6 @@
 //! What is gathered of messages that are not whole yet.
 
-ghost use Rattle.std.specs.Prelude.{◌≡◌, ◌++◌, ℕ, false, true, nat_eq};
+ghost use Rattle.std.specs.Prelude.{◌≡◌, ◌++◌, ℕ, Bool, false, true, nat_eq};
 ghost use Rattle.reassembly.specs.Gathering.{HasRoom, gathered_at, has_part_at};
 ghost use Rattle.stream_model.specs.Known.{hears_on};
 ghost use Rattle.interactions.specs.Seen.{known_to};
@@ -50,7 +50,7 @@ fn join(
     next: bool,
 ) -> Option<Arrival>
     requires place { HasRoom parts.old stream message.now }
-    ensures arrival { result ≡ arrival_in (gathered_at parts.old)
+    ensures arrival { (covered : Bool) → result ≡ arrival_in covered (gathered_at parts.old)
         (Frame.Payload stream follows complete next message.now) }
     ensures gathered { (s : ℕ) → gathered_at parts.new s ≡ gathers_of
         (Frame.Payload stream follows complete next message.now) s (gathered_at parts.old s) }
@@ -74,9 +74,9 @@ fn join(
 
 // Takes in what a frame adds to a message, and gives what it says then.
 fn take_frame(parts: &mut Reassembly, frame: &Frame, incoming: Incoming) -> Option<Arrival>
-    requires ready { incoming.arrival ≡ ready_in incoming.is_part frame.now }
+    requires ready { incoming.arrival ≡ ready_in incoming.covered incoming.is_part frame.now }
     requires place { FindsPlace parts.old incoming.is_part frame.now }
-    ensures arrival { result ≡ arrival_in (gathered_at parts.old) frame.now }
+    ensures arrival { result ≡ arrival_in incoming.covered (gathered_at parts.old) frame.now }
     ensures gathered { (s : ℕ) → gathered_at parts.new s ≡
         gathers_of frame.now s (gathered_at parts.old s) }
     ensures others { (s : ℕ) → is_that (heard_on frame.now) s ≡ false →
@@ -105,9 +105,11 @@ fn take_in(
     answer: &Answer,
     incoming: Incoming,
 ) -> Option<Arrival>
-    requires ready { incoming.arrival ≡ ready_for incoming.is_part answer.now event.now }
+    requires ready { incoming.arrival ≡
+        ready_for incoming.covered incoming.is_part answer.now event.now }
     requires place { FindsPlaceFor parts.old incoming.is_part answer.now event.now }
-    ensures arrival { result ≡ arrival_for (gathered_at parts.old) answer.now event.now }
+    ensures arrival { result ≡
+        arrival_for incoming.covered (gathered_at parts.old) answer.now event.now }
     ensures gathered { (s : ℕ) → gathered_at parts.new s ≡
         gathers answer.now event.now s (gathered_at parts.old s) }
     ensures others { (s : ℕ) → is_that (touches answer.now event.now) s ≡ false →
@@ -183,13 +185,15 @@ pub fn speak(
     answer: &Answer,
     incoming: Incoming,
 )
-    requires ready { incoming.arrival ≡ ready_for incoming.is_part answer.now event.now }
+    requires ready { incoming.arrival ≡
+        ready_for incoming.covered incoming.is_part answer.now event.now }
     requires place { FindsPlaceFor parts.old incoming.is_part answer.now event.now }
     requires says { CanSay streams.old answer.now event.now
-        (arrival_for (gathered_at parts.old) answer.now event.now) }
+        (arrival_for incoming.covered (gathered_at parts.old) answer.now event.now) }
     requires heard { IsOfHeard (known_to streams.old) parts.old }
     ensures marks { streams.new.marks ≡
-        marks_in (gathered_at parts.old) answer.now event.now ++ streams.old.marks }
+        marks_in incoming.covered (gathered_at parts.old) answer.now event.now
+        ++ streams.old.marks }
     ensures limits { streams.new.limits ≡ streams.old.limits }
     ensures unfinished { (s : ℕ) → gathered_at parts.new s ≡ while_heard
         streams.new.limits.max_streams streams.new.marks

@@ -37,11 +37,14 @@
 //! once it is whole (RSocket 1.0, "Fragmentation and Reassembly"). Where resumption is agreed, a session
 //! outlives its connection: the frames made that the peer may not have handled are held, as many as the
 //! settings allow, and go out again on the next one from the position that the peer tells (RSocket 1.0,
-//! "Resuming Operation"). Frames of unknown types are ignored where they may be. Leases, keepalive and
-//! metadata push are left out, and frames that belong to them are answered as ones that may not come now. [`refusal_frame`] is what a server gives on
-//! a connection that it refuses.
+//! "Resuming Operation"). Where leases are agreed, an end makes no more requests than the other's last
+//! LEASE allows, and none once that is over (RSocket 1.0, "Lease Semantics"). At a tick a client sends a KEEPALIVE once
+//! its interval has passed, and a peer from which nothing came for a lifetime counts as dead (RSocket 1.0,
+//! "KEEPALIVE Frame"). Metadata is pushed for the whole connection. Frames of unknown types are ignored
+//! where they may be. [`refusal_frame`] is what a server gives on a connection that it refuses.
 #![tactic(auto)]
 
+mod amounts;
 mod arrivals;
 mod asked;
 mod came;
@@ -51,6 +54,7 @@ mod gathering;
 mod history;
 mod judge;
 mod kept;
+mod leasing;
 mod life;
 mod line;
 mod notices;
@@ -62,6 +66,9 @@ mod session;
 mod sizes;
 mod speak;
 mod state;
+mod ticking;
+mod timing;
+mod turned_away;
 
 pub use counts::Counts;
 pub use refusal::refusal_frame;

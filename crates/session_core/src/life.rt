@@ -2,7 +2,7 @@
 
 ghost use Rattle.std.specs.Prelude.{◌≡◌, IfOk};
 ghost use Rattle.session_model.specs.Lists.{first_of};
-ghost use Rattle.session_model.specs.Life.{agrees_resumption, carrying_after, closes_so, is_opened, live_after, openings_in, setup_in, told_in};
+ghost use Rattle.session_model.specs.Life.{agrees_leases, agrees_resumption, carrying_after, closes_so, is_opened, live_after, openings_in, setup_in, told_in};
 
 use rs_frame::{Frame, Setup};
 use rs_wire::{Call, Cause, OutOfMemory, Settings, Side};
@@ -35,7 +35,7 @@ pub fn live_after(answer: &Answer, before: u64) -> u64
 {
     match answer {
         Answer::Opened(number) => *number,
-        Answer::Parted => 0,
+        Answer::Parted | Answer::Dead(_) => 0,
         _ => before,
     }
 }
@@ -53,7 +53,7 @@ pub fn carrying_after(
 {
     match (answer, event) {
         (Answer::Opened(_), _) => !(begun && matches!(settings.side, Side::Client)),
-        (Answer::Parted, _) => false,
+        (Answer::Parted | Answer::Dead(_), _) => false,
         (
             Answer::Handled,
             Event::Came {
@@ -66,9 +66,9 @@ pub fn carrying_after(
 }
 
 /// The position up to which the peer has handled what this end made, where an event and its answer
-/// tell it, else 0.
-pub fn told_in(answer: &Answer, event: &Event) -> u64
-    ensures { result ≡ told_in answer.now event.now }
+/// tell it, else 0. A KEEPALIVE tells it where resumption is agreed.
+pub fn told_in(agreed: bool, answer: &Answer, event: &Event) -> u64
+    ensures { result ≡ told_in agreed answer.now event.now }
 {
     match (answer, event) {
         (
@@ -85,6 +85,13 @@ pub fn told_in(answer: &Answer, event: &Event) -> u64
                 ..
             },
         ) => *position,
+        (
+            Answer::Handled,
+            Event::Came {
+                frame: Frame::Keepalive { position, .. },
+                ..
+            },
+        ) if agreed => *position,
         _ => 0,
     }
 }
@@ -102,6 +109,19 @@ pub fn agrees_resumption(settings: &Settings, setup: &Option<Setup>) -> bool
     }
 }
 
+/// Leases are agreed: on a client as it is set, on a server as SETUP asks.
+pub fn agrees_leases(settings: &Settings, setup: &Option<Setup>) -> bool
+    ensures { result ≡ agrees_leases settings.now setup.now }
+{
+    match settings.side {
+        Side::Client => settings.lease,
+        Side::Server => match setup {
+            Some(setup) => setup.lease,
+            None => false,
+        },
+    }
+}
+
 /// Why the session is closed by an event and its answer, where it was not closed.
 pub fn closes(begun: bool, resumes: bool, answer: &Answer, event: &Event) -> Option<Cause>
     ensures { result ≡ closes_so begun resumes answer.now event.now }
@@ -111,8 +131,9 @@ pub fn closes(begun: bool, resumes: bool, answer: &Answer, event: &Event) -> Opt
             Event::Asked(Call::Close) => Some(Cause::Local),
             _ => None,
         },
-        Answer::Parted if resumes => None,
+        Answer::Parted | Answer::Dead(_) if resumes => None,
         Answer::Parted => Some(Cause::Cut),
+        Answer::Dead(_) => Some(Cause::Dead),
         Answer::PeerError(code) => Some(Cause::Peer(*code)),
         Answer::Violation(rule) => Some(Cause::Broken(*rule)),
         Answer::SetupRefused(_) if begun => None,

@@ -93,14 +93,15 @@ pub fn line_up(
     done
 }
 
-/// Drops what stays no longer in line: what waited before an opening, and all that waits at a cut.
+/// Drops what stays no longer in line: what waited before an opening, and all that waits where the
+/// connection ends.
 pub fn settle(queue: &mut Queue, answer: &Answer, before: u64)
     requires { before ≤ length queue.old }
     ensures { queue.new ≡ left_in_line answer.now before queue.old }
 {
     match answer {
         Answer::Opened(_) => queue.drop_front(before),
-        Answer::Parted => queue.truncate(0),
+        Answer::Parted | Answer::Dead(_) => queue.truncate(0),
         _ => {}
     }
 }

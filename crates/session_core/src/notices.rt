@@ -1,12 +1,13 @@
 //! The frames of the connection that an event puts in line.
 
-ghost use Rattle.std.specs.Prelude.{◌≡◌, if◌then◌else◌, [], ◌∷◌, None, Some, IfOk, false};
+ghost use Rattle.std.specs.Prelude.{◌≡◌, if◌then◌else◌, [], ◌∷◌, None, Some, IfOk, false, option_to_list};
 ghost use Rattle.rs_wire.specs.Settings.{IsChecked};
 ghost use Rattle.rs_frame.specs.Spelling.{IsStream};
 ghost use Rattle.session_model.specs.Frames.{closing_error, resume_frame, setup_frame};
 ghost use Rattle.session_core.specs.Fits.{facts_of};
-ghost use Rattle.session_core.specs.Outgoing.{greeting, notices};
+ghost use Rattle.session_core.specs.Outgoing.{answering, called_beside, frame_beside, greeting, keepalive, notices};
 
+use crate::life::agrees_resumption;
 use crate::state::State;
 use rs_frame::{Frame, Resume, Setup};
 use rs_wire::{Amount, Blob, Call, Checked, Message, OutOfMemory, Settings};
@@ -81,6 +82,15 @@ pub fn only(alloc: Global, frame: Frame) -> Result<Vec<Frame>, OutOfMemory>
     Ok(frames)
 }
 
+fn copy_of(alloc: Global, metadata: &Option<Blob>) -> Result<Option<Blob>, OutOfMemory>
+    ensures { IfOk result (λ m. m ≡ metadata.now) }
+{
+    match metadata {
+        Some(metadata) => Ok(Some(metadata.copy(alloc)?)),
+        None => Ok(None),
+    }
+}
+
 // The frame that a client's accepted opening begins with.
 fn client_greeting(alloc: Global, settings: &Checked, state: &State) -> Result<Frame, OutOfMemory>
     ensures { IfOk result (λ f. f ∷ [] ≡
@@ -128,6 +138,82 @@ fn closing_error(alloc: Global, word: &str) -> Result<Frame, OutOfMemory>
     })
 }
 
+// The KEEPALIVE of this end, which asks for an answer or is one (RSocket 1.0, "KEEPALIVE Frame").
+fn keepalive(settings: &Checked, state: &State, respond: bool, content: Blob) -> Frame
+    ensures { result ≡ keepalive settings.now (facts_of state.now) respond content }
+{
+    let agreed = agrees_resumption(settings.settings(), &state.setup);
+    Frame::Keepalive {
+        respond,
+        position: if agreed { state.handled.position } else { 0 },
+        content,
+    }
+}
+
+// What answers a frame that is handled: a KEEPALIVE that asks for an answer gets its content back.
+fn answering(
+    alloc: Global,
+    settings: &Checked,
+    state: &State,
+    frame: &Frame,
+) -> Result<Vec<Frame>, OutOfMemory>
+    ensures { IfOk result (λ v. v.items ≡ answering settings.now (facts_of state.now) frame.now) }
+{
+    match frame {
+        Frame::Keepalive {
+            respond: true,
+            content,
+            ..
+        } => only(
+            alloc,
+            keepalive(settings, state, false, content.copy(alloc)?),
+        ),
+        _ => Ok(Vec::new(alloc)),
+    }
+}
+
+// The frame of the connection alone that a call makes, where it makes one.
+fn frame_beside(alloc: Global, call: &Call) -> Result<Option<Frame>, OutOfMemory>
+    ensures { IfOk result (λ f. f ≡ frame_beside call.now) }
+{
+    Ok(match call {
+        Call::Push { metadata } => Some(Frame::MetadataPush {
+            metadata: metadata.copy(alloc)?,
+        }),
+        Call::Lease {
+            ttl,
+            count,
+            metadata,
+        } => Some(Frame::Lease {
+            ttl: ttl.get(),
+            count: count.get(),
+            metadata: copy_of(alloc, metadata)?,
+        }),
+        _ => None,
+    })
+}
+
+// One frame, or none.
+fn listed(alloc: Global, frame: Option<Frame>) -> Result<Vec<Frame>, OutOfMemory>
+    ensures { IfOk result (λ v. v.items ≡ option_to_list frame) }
+{
+    match frame {
+        Some(frame) => only(alloc, frame),
+        None => Ok(Vec::new(alloc)),
+    }
+}
+
+// What a call that is done puts in line for the connection alone.
+fn called_beside(alloc: Global, state: &State, call: &Call) -> Result<Vec<Frame>, OutOfMemory>
+    ensures { IfOk result (λ v. v.items ≡ called_beside (facts_of state.now) call.now) }
+{
+    match call {
+        Call::Close if state.carrying => only(alloc, closing_error(alloc, "")?),
+        Call::Close => Ok(Vec::new(alloc)),
+        _ => listed(alloc, frame_beside(alloc, call)?),
+    }
+}
+
 /// The frames of the connection that an event and its answer put in line, which no position counts.
 pub fn notices(
     alloc: Global,
@@ -145,9 +231,12 @@ pub fn notices(
         (Answer::ResumeRefused(gone), Event::Came { .. }) => {
             only(alloc, closing_error(alloc, gone.word())?)
         }
-        (Answer::Done, Event::Asked(Call::Close)) if state.carrying => {
-            only(alloc, closing_error(alloc, "")?)
+        (Answer::Handled, Event::Came { frame, .. }) => answering(alloc, settings, state, frame),
+        (Answer::Sent, _) => {
+            let content = Blob::from_vec(Vec::new(alloc));
+            only(alloc, keepalive(settings, state, true, content))
         }
+        (Answer::Done, Event::Asked(call)) => called_beside(alloc, state, call),
         _ => Ok(Vec::new(alloc)),
     }
 }

@@ -2,21 +2,23 @@
 
 ghost use Rattle.std.specs.Prelude.{◌≡◌, ◌≢◌, ◌+◌, ◌<◌, ◌≤◌, ◌^◌, ◌↔◌, [], ◌∷◌, IfErr, IfOk, OnErr, OnOk, drop, is_some, length, take};
 ghost use Rattle.std.specs.Option.{option_copied};
+ghost use Rattle.rs_wire.specs.Settings.{IsChecked};
 ghost use Rattle.rs_frame.specs.Framed.{framed_all};
 ghost use Rattle.tape.specs.Told.{entry_of};
 ghost use Rattle.session_model.specs.Life.{carrying, closed, live, setup};
 ghost use Rattle.session_model.specs.Frames.{drawn, due, queued};
 ghost use Rattle.session_model.specs.Answers.{answer_to};
-ghost use Rattle.session_model.specs.Legal.{CanBring, Fair, IsFair, IsPlain, LeavesEntry, Legal};
+ghost use Rattle.session_model.specs.Legal.{CanBring, Fair, IsFair, LeavesEntry, Legal};
 ghost use Rattle.session_core.specs.Queued.{IfDrawn, IsBrief, IsOfCut, IsOfDraw, IsUntouched};
 ghost use Rattle.session_core.specs.Seen.{IsCutEvent, IsNoDrawEvent, IsUnlessWant, counts_of, entries_after, told_by};
 
+use crate::amounts::amounts_fit;
 use crate::counts::Counts;
 use crate::history::History;
 use crate::judge::{judge, judge_cut, judge_draw};
 use crate::state::State;
 use rs_frame::Setup;
-use rs_wire::{Call, Cause, Checked, OutOfMemory};
+use rs_wire::{Cause, Checked, OutOfMemory};
 use std::alloc::Global;
 use std::marker::Model;
 use tape::{Answer, Entry, Event, Tape};
@@ -34,17 +36,17 @@ const FULL: u64 = 1 << 63;
 ///    +-----------+                      +-----------------------+
 ///          |                               |  Came or Bad on n: Violation(rule),
 ///          |  Open by a wrong first        |  PeerError(code)
-///          |  frame: SetupRefused(fault)   |  Cut of n: Parted, without resumption
-///          |  Close: Done                  |  Close: Done
+///          |  frame: SetupRefused(fault)   |  Cut of n: Parted, or a Tick: Dead(last),
+///          |  Close: Done                  |  without resumption; Close: Done
 ///          v                               v
 ///    +----------------------------------------------------------+
 ///    | closed, for the first cause, and never open again        |
 ///    +----------------------------------------------------------+
 /// ```
 ///
-/// Where resumption is agreed, a cut leaves a begun session without a live connection, and calls go on.
-/// A client opens again by RESUME, and what it makes waits for RESUME_OK; a server is opened again by
-/// RESUME, which takes the place of a connection that is still live.
+/// Where resumption is agreed, a cut and a dead peer leave a begun session without a live connection,
+/// and calls go on. A client opens again by RESUME, and what it makes waits for RESUME_OK; a server is
+/// opened again by RESUME, which takes the place of a connection that is still live.
 ///
 /// A connection stays live in a closed session until it is cut, so what is queued can still be drawn,
 /// and what waits on a stream can still be taken. Every other call is then refused as `Closed`, and
@@ -76,23 +78,6 @@ impl<T: Tape> Model for Session<T> {
         IsSound s.settings s.state s.history (T.told s.tape) (T.count s.tape) };
 }
 
-// The amounts that an event brings each have their range.
-fn amounts_fit(settings: &Checked, event: &Event)
-    requires brings { CanBring settings.now event.now }
-    ensures fair { IsFair settings.now event.now }
-{
-    if let Event::Asked(
-        Call::Request {
-            initial: Some(n),
-            ..
-        }
-        | Call::Grant { n, .. },
-    ) = event
-    {
-        let _granted = n.get();
-    }
-}
-
 // The answer to a draw or a cut that leaves an entry, again.
 fn answered_again(answer: &Answer) -> Answer
     requires { IsBrief answer.now }
@@ -107,11 +92,11 @@ fn answered_again(answer: &Answer) -> Answer
 }
 
 impl<T: Tape> Session<T> {
-    /// A session that is not begun, of which nothing happened yet. The tape is empty, and the
-    /// settings have no leases. Where memory runs out, the tape comes back.
+    /// A session that is not begun, of which nothing happened yet. The tape is empty. Where memory
+    /// runs out, the tape comes back.
     pub fn new(alloc: Global, settings: Checked, tape: T) -> Result<Session<T>, (T, OutOfMemory)>
         requires empty { T.count tape ≡ 0 }
-        requires plain { IsPlain settings }
+        requires checked { IsChecked settings }
         ensures ok { IfOk result (λ s. s ≡ record {
           settings = settings;
           entries = [];
@@ -205,7 +190,7 @@ impl<T: Tape> Session<T> {
         ensures used { self.old.spare ≤ self.new.spare + 1 }
     {
         let event = Event::Cut { conn };
-        let prepared = self.state.nothing_more(self.alloc);
+        let prepared = self.state.nothing_more(self.alloc, &self.settings);
         self.state.act(&self.settings, &event, &answer, prepared);
         let again = answered_again(&answer);
         self.history.note(who, &event, &answer);

@@ -1,21 +1,27 @@
 //! How many bytes the frames of a call take.
 
-ghost use Rattle.std.specs.Prelude.{◌≡◌, ◌+◌, ◌<◌, ◌≤◌, ◌^◌, [], ◌∷◌, ℕ, IfSome, length};
+ghost use Rattle.std.specs.Prelude.{◌≡◌, ◌+◌, ◌<◌, ◌≤◌, ◌^◌, [], ◌∷◌, ℕ, true, IfSome, length};
+ghost use Rattle.rs_wire.specs.Message.{option_length};
 ghost use Rattle.rs_frame.specs.Spelling.{number_there};
 ghost use Rattle.stream_model.specs.Known.{Known};
 ghost use Rattle.fragment.specs.Splitting.{IsMtu};
 ghost use Rattle.session_model.specs.Frames.{closing_error, spoken};
+ghost use Rattle.rs_frame.specs.declared.frame.Frame.TheVariants as frames;
 ghost use Rattle.session_model.specs.Answers.{size_in};
-ghost use Rattle.session_core.specs.Sizes.{size_of_frames, size_sent};
+ghost use Rattle.session_core.specs.Outgoing.{frame_beside};
+ghost use Rattle.session_core.specs.Sizes.{size_alone, size_of_frames, size_sent};
 
 use fragment::{SplitSize, split_size};
-use rs_wire::{Amount, Call, Checked, Message};
+use rs_wire::{Amount, Blob, Call, Checked, Message};
 
 /// The bytes of a frame's header.
 const HEADER: u32 = 6;
 
-/// The bytes of a code, of an initial n and of the n of REQUEST_N.
+/// The bytes of a code, of an initial n, of the n of REQUEST_N, and of each number of LEASE.
 const NUMBER: u32 = 4;
+
+/// The bytes of the position of a KEEPALIVE.
+const POSITION: u32 = 8;
 
 /// The most bytes of a frame that is sent, 0 for no limit.
 #[tactic(auto, using(crate::proofs::Framed::mtu_limit))]
@@ -24,6 +30,17 @@ pub fn mtu(settings: &Checked) -> u32
     ensures limit { IsMtu result }
 {
     settings.settings().mtu
+}
+
+/// How many bytes these are, where there are some.
+pub fn option_len(bytes: &Option<Blob>) -> u64
+    ensures value { result ≡ option_length bytes.now }
+    ensures bound { result < 2 ^ 63 }
+{
+    match bytes {
+        Some(bytes) => bytes.len() as u64,
+        None => 0,
+    }
 }
 
 // One frame of this length.
@@ -41,6 +58,33 @@ pub fn closing_size() -> SplitSize
     ensures small { result.bytes < 2 ^ 60 }
 {
     one(u64::from(HEADER + NUMBER))
+}
+
+/// The size of a KEEPALIVE without content.
+#[tactic(auto, unfolding(position::specs::Boundaries::pos_by))]
+pub fn keepalive_size() -> SplitSize
+    ensures value { (position : ℕ) → result ≡
+        size_of_frames (frames.Keepalive true position [] ∷ []) }
+    ensures few { result.frames < 2 ^ 40 }
+    ensures small { result.bytes < 2 ^ 60 }
+{
+    one(u64::from(HEADER + POSITION))
+}
+
+/// The size of the frame of the connection alone that a call makes, where it makes one.
+pub fn size_beside(call: &Call) -> Option<SplitSize>
+    requires { size_in call.now ≤ 16000000 }
+    ensures value { result ≡ size_alone (frame_beside call.now) }
+    ensures few { IfSome result (λ n. n.frames < 2 ^ 40) }
+    ensures small { IfSome result (λ n. n.bytes < 2 ^ 60) }
+{
+    match call {
+        Call::Push { metadata } => Some(one(u64::from(HEADER) + metadata.len() as u64)),
+        Call::Lease { metadata, .. } => {
+            Some(one(u64::from(HEADER + 2 * NUMBER) + option_len(metadata)))
+        }
+        _ => None,
+    }
 }
 
 // The bytes before the message in a request.
@@ -76,6 +120,7 @@ pub fn size_spoken(settings: &Checked, call: &Call) -> Option<SplitSize>
         Call::Fail { content, .. } => {
             Some(one(u64::from(HEADER + NUMBER) + content.len() as u64))
         }
-        Call::Take { .. } | Call::TakeJob | Call::Close => None,
+        Call::Push { .. } | Call::Lease { .. } | Call::Take { .. } | Call::TakeJob | Call::Close =>
+            None,
     }
 }

@@ -12,7 +12,8 @@ use rs_wire::{Call, OutOfMemory};
 use stream_model::Arrival;
 use tape::{Answer, Event};
 
-/// The stream of a frame that says something on a stream, or that is a part of a message there.
+/// The stream of a frame that says something on a stream, or that is a part of a message there; 0 for
+/// pushed metadata, which is of no stream.
 pub fn heard_on(frame: &Frame) -> Option<u32>
     ensures { result ≡ heard_on frame.now }
 {
@@ -23,6 +24,7 @@ pub fn heard_on(frame: &Frame) -> Option<u32>
         | Frame::RequestN { stream, .. }
         | Frame::Cancel { stream }
         | Frame::Error { stream, .. } => Some(*stream),
+        Frame::MetadataPush { .. } => Some(0),
         _ => None,
     }
 }
@@ -37,7 +39,12 @@ pub fn named(call: &Call) -> Option<u32>
         | Call::Grant { stream, .. }
         | Call::Cancel { stream }
         | Call::Fail { stream, .. } => Some(*stream),
-        Call::Request { .. } | Call::Take { .. } | Call::TakeJob | Call::Close => None,
+        Call::Request { .. }
+        | Call::Push { .. }
+        | Call::Lease { .. }
+        | Call::Take { .. }
+        | Call::TakeJob
+        | Call::Close => None,
     }
 }
 
@@ -96,7 +103,7 @@ pub fn say(streams: &mut Streams, event: &Event, answer: &Answer, arrival: Optio
 {
     match (answer, event) {
         (Answer::Handled, Event::Came { .. }) => hear(streams, arrival),
-        (Answer::Done, Event::Asked(Call::Close)) => {}
+        (Answer::Done, Event::Asked(Call::Push { .. } | Call::Lease { .. } | Call::Close)) => {}
         (Answer::Started(_) | Answer::Done, Event::Asked(call)) => act(streams, call),
         (Answer::Got(_), Event::Asked(Call::Take { stream })) => {
             let _taken = streams.take(*stream);

@@ -14,9 +14,10 @@ use Rattle.tape.specs.declared.event.Event.TheVariants as event
 use Rattle.tape.specs.declared.answer.Answer.{Answer}
 use Rattle.tape.specs.declared.answer.Answer.TheVariants as answer
 use Rattle.tape.specs.declared.entry.Entry.{Entry}
+use Rattle.session_model.specs.Leases.{is_covered}
 use Rattle.session_model.specs.Lists.{IsPrefix}
 use Rattle.session_model.specs.Life.{begun, carrying, is_live, live, live_after}
-use Rattle.session_model.specs.Frames.{beside, closing_error, first, handled, if_carrying, lines_up, made, makes, owes, resume_frame, setup_frame}
+use Rattle.session_model.specs.Frames.{answers_keepalive, beside, closing_error, first, handled, if_carrying, lines_up, made, makes, owes, position_told, resume_frame, setup_frame}
 use Rattle.session_model.specs.Streams.{known}
 use Rattle.session_model.specs.Answers.{facts}
 use Rattle.session_model.specs.Legal.{Legal}
@@ -36,7 +37,7 @@ pub made_counts : (g : Settings) (past : List Entry) → IsChecked g → Legal g
 unfolding Legal made facts
 made_counts g [] checked legal = refl
 made_counts g (x ∷ past) checked legal =
-    let new = makes g (known g past) x.answer x.event in
+    let new = makes g (is_covered g past) (known g past) x.answer x.event in
     rw (
       filter-append is_resumable (made g past) new,
       made_counts g past checked legal.0,
@@ -80,12 +81,17 @@ closes_none : (carrying : Bool) → counting (if carrying then closing_error [] 
 closes_none true = refl
 closes_none false = refl
 
+answered_none : (respond : Bool) (position : ℕ) (content : List ℕ) → counting (answers_keepalive respond position content) ≡ []
+answered_none true position content = refl
+answered_none false position content = refl
+
 -- of what an entry puts in line beside those that it makes, these count
 beside_counts : (g : Settings) (past : List Entry) (a : Answer) (e : Event) → counting (made g past) ≡ made g past
     → counting (beside g past a e) ≡ resent g past a e
 beside_counts g past (answer.Opened n) (event.Open None taken) all = greets_none g (pos (handled past)) (first g past) (begun past)
 beside_counts g past (answer.Opened n) (event.Open (Some (frame.Resume r)) taken) all = again_counts (made g past) r.server_position all
 beside_counts g past answer.Handled (event.Came conn (frame.ResumeOk position)) all = again_counts (made g past) position all
+beside_counts g past answer.Handled (event.Came conn (frame.Keepalive respond position content)) all = answered_none respond (position_told g past) content
 beside_counts g past (answer.ResumeRefused why) (event.Came conn f) all = refl
 beside_counts g past answer.Done (event.Asked call.Close) all = closes_none (carrying g past)
 beside_counts g past a e all = refl
@@ -95,10 +101,10 @@ carried_counts true fs all = all
 carried_counts false fs all = refl
 
 lines_counts : (g : Settings) (past : List Entry) (a : Answer) (e : Event) → IsChecked g → Legal g past → Means g (facts g past) e a
-    → counting (lines_up g past a e) ≡ resent g past a e ++ if_carrying (carrying g past) (makes g (known g past) a e)
+    → counting (lines_up g past a e) ≡ resent g past a e ++ if_carrying (carrying g past) (makes g (is_covered g past) (known g past) a e)
 unfolding facts
 lines_counts g past a e checked legal means =
-    let new = makes g (known g past) a e in
+    let new = makes g (is_covered g past) (known g past) a e in
     rw (
       filter-append is_resumable (beside g past a e) (if_carrying (carrying g past) new),
       beside_counts g past a e
@@ -113,7 +119,7 @@ chosen_counts false fs gs is = refl
 -- what counts of what an entry adds to the frames due on connection c
 pub owes_counts : (g : Settings) (past : List Entry) (c : ℕ) (a : Answer) (e : Event) → IsChecked g → Legal g past → Means g (facts g past) e a
     → counting (owes g past c a e) ≡ (if is_live (live_after a (live past)) c then resent g past a e ++ if_carrying (carrying g past)
-    (makes g (known g past) a e) else [])
+    (makes g (is_covered g past) (known g past) a e) else [])
 owes_counts g past c a e checked legal means =
     chosen_counts (is_live (live_after a (live past)) c) (lines_up g past a e)
-    (resent g past a e ++ if_carrying (carrying g past) (makes g (known g past) a e)) (lines_counts g past a e checked legal means)
+    (resent g past a e ++ if_carrying (carrying g past) (makes g (is_covered g past) (known g past) a e)) (lines_counts g past a e checked legal means)

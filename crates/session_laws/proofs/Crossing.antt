@@ -147,7 +147,7 @@ crossed_up : (g h : Settings) (C S : List Entry) (pair : ℕ → ℕ) (d : ℕ) 
     → IsPrefix (came S d) (due g C (pair d))
 crossed_up g h C S pair d j is =
     let e = j.ends in
-    let owed = due_spelled g C (pair d) e.client_plain e.client_legal e.client_fair in
+    let owed = due_spelled g C (pair d) e.client_checked e.client_legal e.client_fair in
     frames_given (drawn C (pair d)) (came S d) (due g C (pair d)) (came_spelled h S d e.server_fair) owed (j.joined.up d is).begins
 
 -- what came at the client is a prefix of what the server offered there
@@ -155,7 +155,7 @@ crossed_down : (g h : Settings) (C S : List Entry) (pair : ℕ → ℕ) (d : ℕ
     → IsPrefix (came C (pair d)) (frames_offered h S d)
 crossed_down g h C S pair d j is =
     let e = j.ends in
-    let owed = offered_spelled (refused S d) (due h S d) (due_spelled h S d e.server_plain e.server_legal e.server_fair) (refused_spelled S d) in
+    let owed = offered_spelled (refused S d) (due h S d) (due_spelled h S d e.server_checked e.server_legal e.server_fair) (refused_spelled S d) in
     frames_given (bytes_offered S d) (came C (pair d)) (frames_offered h S d) (came_spelled g C (pair d) e.client_fair) owed (j.joined.down d is).begins
 
 -- where something is due at the server, the first frame that came back is the first that is due
@@ -209,7 +209,7 @@ server_joins g h C S pair j d base part p begins old =
     let c = pair d in
     let up = subst (λ l. IsPrefix l (due g C c)) o.brought (crossed_up g h C S pair d j o.is) in
     let all = joins_up (due g C c) (made g C) (came C c) (first_bad C c) (is_live (live C) c) (carrying g C) (closed g C) o.first o.rest base
-    (flows g C c e.client_plain.checked e.client_legal e.client_fair e.client) up o.fits old in
+    (flows g C c e.client_checked e.client_legal e.client_fair e.client) up o.fits old in
     fewer base part (came S d) (made g C) p (rw (o.brought, o.uncounted) all)
 
 -- ---- the opening that is paired with a connection of the client
@@ -251,7 +251,7 @@ paired_joins g h C S pair d base j is begins old =
     let e = j.ends in
     let o = greeted_at g C (pair d) base e.client begins in
     joins_down (due h S d) (made h S) (came S d) (is_live (live S) d) (carrying h S) o.first o.more (counting (came C (pair d))) base
-    (server_flows h S d e.server_plain.checked e.server_legal e.server_fair e.server)
+    (server_flows h S d e.server_checked e.server_legal e.server_fair e.server)
     (subst (λ l. IsPrefix (came S d) l) o.owed (crossed_up g h C S pair d j is)) o.fits
     (counted_offer S d (due h S d) (came C (pair d)) (crossed_down g h C S pair d j is)) old
 
@@ -303,7 +303,7 @@ drained_up g h C S pair d j all =
     let begins = subst (λ (n : ℕ). Begins h.side (came S n) (due h S n) k.base) here.0 k.begins in
     let o = begun_at g h C S pair d k.base j begins in
     let flow = subst (λ b. Flow (due g C c) (made g C) (came C c) (first_bad C c) b (carrying g C) (closed g C)) all.at_client
-    (flows g C c e.client_plain.checked e.client_legal e.client_fair e.client) in
+    (flows g C c e.client_checked e.client_legal e.client_fair e.client) in
     let whole = whole_up (due g C c) (made g C) (came C c) (first_bad C c) (carrying g C) (closed g C) o.first o.rest k.base flow all.carries
     (sym o.brought ∙ all.up) o.fits k.old in
     taken ∙ (ap (λ l. k.base ++ counting l) o.brought ∙ (ap (λ l. k.base ++ l) o.uncounted ∙ whole))
@@ -318,6 +318,6 @@ drained_down g h C S pair d j all =
     let begins = subst (λ (n : ℕ). Begins g.side (came C n) (due g C n) k.base) here.0 k.begins in
     let o = greeted_at g C c k.base e.client begins in
     let flow = subst (λ b. ServerFlow (due h S d) (made h S) (came S d) b (carrying h S)) all.at_server
-    (server_flows h S d e.server_plain.checked e.server_legal e.server_fair e.server) in
+    (server_flows h S d e.server_checked e.server_legal e.server_fair e.server) in
     let up : IsPrefix (came S d) (o.first ∷ o.more) = subst (IsPrefix (came S d)) (all.up ∙ o.owed) (prefix_refl (came S d)) in
     taken ∙ (ap (λ l. k.base ++ counting l) all.down ∙ whole_down (due h S d) (made h S) (came S d) (carrying h S) o.first o.more k.base flow up o.fits k.old)

@@ -200,12 +200,19 @@ parted g made past e k = record {
   here = λ some free. absurd (omega arith);
 }
 
+died : (g : Settings) (made : List Frame) (past : List Entry) (last : ℕ) (e : Event) → Kept g made past → KeptAfter g made past (answer.Dead last) e
+died g made past last e k = record {
+  all = rw (append-nil (handled past)) k.all;
+  here = λ some free. absurd (omega arith);
+}
+
 kept_step : (g : Settings) (made : List Frame) (past : List Entry) (a : Answer) (e : Event) → Legal g past → LeavesEntry a
     → Means g (facts g past) e a → IsFair g e
     → JoinsAs g.side made (λ c. came past c ++ brings past c e) (λ c. due g past c ++ owes g past c a e) → Kept g made past → KeptAfter g made past a e
 kept_step g made past (answer.Opened n) (event.Open first taken) legal leaves means fair joins k = kept_open g made past n first taken legal fair means k
 kept_step g made past (answer.Opened n) e legal leaves means fair joins k = absurd means
 kept_step g made past answer.Parted e legal leaves means fair joins k = parted g made past e k
+kept_step g made past (answer.Dead last) e legal leaves means fair joins k = died g made past last e k
 kept_step g made past answer.Handled (event.Came conn f) legal leaves means fair joins k = kept_handled g made past conn f legal means joins k
 kept_step g made past answer.Handled e legal leaves means fair joins k = absurd means
 kept_step g made past a e legal leaves means fair joins k = kept_other g made past a e legal leaves means refl refl refl k

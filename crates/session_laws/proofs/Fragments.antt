@@ -1,5 +1,5 @@
 -- No request or payload that was made is longer than the mtu.
-use Rattle.std.proofs.Common.{◌≡◌, ◌≤◌, ℕ, false, cond, true, Bool, List, [], ◌∷◌, ◌++◌, Option, Some, None, IfSome, arith}
+use Rattle.std.proofs.Common.{◌≡◌, ◌≤◌, ℕ, false, Bool, List, [], ◌∷◌, ◌++◌, Option, Some, None, IfSome, arith}
 use Rattle.std.proofs.lemmas.Grind.{common_steps}
 use Rattle.std.specs.List.{AllByRecursion}
 use Rattle.rs_wire.specs.declared.call.Call.{Call}
@@ -16,8 +16,9 @@ use Rattle.tape.specs.declared.event.Event.{Event}
 use Rattle.tape.specs.declared.event.Event.TheVariants as event
 use Rattle.tape.specs.declared.entry.Entry.{Entry}
 use Rattle.stream_model.specs.Known.{Known}
-use Rattle.session_model.specs.Streams.{is_turned_away, known}
-use Rattle.session_model.specs.Frames.{in_fragments, made, makes, sent_as, spoken, turned_away}
+use Rattle.session_model.specs.Leases.{is_covered}
+use Rattle.session_model.specs.Streams.{turned_away_for, known}
+use Rattle.session_model.specs.Frames.{in_fragments, made, makes, sent_as, spoken, turned_away_with}
 use Rattle.session_laws.specs.Fragments.{FitsMtu}
 
 abbrev pub AllFit : ℕ → List Frame → Type 0
@@ -45,15 +46,15 @@ sent_fits : (g : Settings) (o : Option Frame) → 64 ≤ g.mtu → IfSome o (λ 
 sent_fits g None least whole = tt
 sent_fits g (Some f) least whole = fragments_fit_mtu g.mtu f least whole
 
-turned_fits : (mtu s : ℕ) (b : Bool) → AllFit mtu (cond b (turned_away s ∷ []) [])
-turned_fits mtu s true = (tt, tt)
-turned_fits mtu s false = tt
+turned_fits : (mtu s : ℕ) (word : Option (List ℕ)) → AllFit mtu (turned_away_with s word)
+turned_fits mtu s (Some word) = (tt, tt)
+turned_fits mtu s None = tt
 
-makes_fits : (g : Settings) (t : Known) (a : Answer) (e : Event) → 64 ≤ g.mtu → AllFit g.mtu (makes g t a e)
-makes_fits g t (answer.Started id) (event.Asked asked) least = sent_fits g (spoken t id asked) least (spoken_whole t id asked)
-makes_fits g t answer.Done (event.Asked asked) least = sent_fits g (spoken t 0 asked) least (spoken_whole t 0 asked)
-makes_fits g t answer.Handled (event.Came conn (frame.Request r)) least = turned_fits g.mtu r.stream (is_turned_away g t r)
-makes_fits g t a e least = tt
+makes_fits : (g : Settings) (covered : Bool) (t : Known) (a : Answer) (e : Event) → 64 ≤ g.mtu → AllFit g.mtu (makes g covered t a e)
+makes_fits g covered t (answer.Started id) (event.Asked asked) least = sent_fits g (spoken t id asked) least (spoken_whole t id asked)
+makes_fits g covered t answer.Done (event.Asked asked) least = sent_fits g (spoken t 0 asked) least (spoken_whole t 0 asked)
+makes_fits g covered t answer.Handled (event.Came conn (frame.Request r)) least = turned_fits g.mtu r.stream (turned_away_for g covered t r)
+makes_fits g covered t a e least = tt
 
 both_fit : (mtu : ℕ) (xs ys : List Frame) → AllFit mtu xs → AllFit mtu ys → AllFit mtu (xs ++ ys)
 both_fit mtu [] ys h k = k
@@ -62,4 +63,4 @@ both_fit mtu (x ∷ xs) ys h k = (h.0, both_fit mtu xs ys h.1 k)
 pub made_fits : (g : Settings) (past : List Entry) → 64 ≤ g.mtu → AllFit g.mtu (made g past)
 unfolding made
 made_fits g [] least = tt
-made_fits g (x ∷ past) least = both_fit g.mtu (made g past) (makes g (known g past) x.answer x.event) (made_fits g past least) (makes_fits g (known g past) x.answer x.event least)
+made_fits g (x ∷ past) least = both_fit g.mtu (made g past) (makes g (is_covered g past) (known g past) x.answer x.event) (made_fits g past least) (makes_fits g (is_covered g past) (known g past) x.answer x.event least)

@@ -19,6 +19,7 @@ use Rattle.tape.specs.declared.event.Event.TheVariants as event
 use Rattle.tape.specs.declared.answer.Answer.{Answer}
 use Rattle.tape.specs.declared.answer.Answer.TheVariants as answer
 use Rattle.tape.specs.declared.entry.Entry.{Entry}
+use Rattle.session_model.specs.Leases.{is_covered}
 use Rattle.session_model.specs.Lists.{first_of}
 use Rattle.session_model.specs.Life.{begun, carrying, carrying_after, closed, closes, is_live, live, live_after, openings}
 use Rattle.session_model.specs.Streams.{known}
@@ -132,7 +133,7 @@ FlowAt g past c = Flow (due g past c) (made g past) (came past c) (first_bad pas
 -- the same after an event so answered
 abbrev FlowAfter : Settings → List Entry → ℕ → Answer → Event → Type 0
 FlowAfter g past c a e =
-    Flow (due g past c ++ owes g past c a e) (made g past ++ makes g (known g past) a e) (came past c ++ brings past c e)
+    Flow (due g past c ++ owes g past c a e) (made g past ++ makes g (is_covered g past) (known g past) a e) (came past c ++ brings past c e)
     (first_of (first_bad past c) (bad_in past c e))
     (is_live (live_after a (live past)) c) (carrying_after g (begun past) a e (carrying g past)) (first_of (closed g past) (closes g past a e))
 
@@ -207,15 +208,15 @@ resumes g past c conn p checked legal means f =
 
 -- any other entry
 others : (g : Settings) (past : List Entry) (c : ℕ) (a : Answer) (e : Event) → FlowAt g past c → (is_live (live past) c ≡ false → owes g past c a e ≡ [])
-    → counting (owes g past c a e) ≡ (if is_live (live past) c then if_carrying (carrying g past) (makes g (known g past) a e) else [])
+    → counting (owes g past c a e) ≡ (if is_live (live past) c then if_carrying (carrying g past) (makes g (is_covered g past) (known g past) a e) else [])
     → (is_live (live past) c ≡ true → carrying g past ≡ false
     → StaysEmpty (brings past c e) (first_bad past c) (first_of (first_bad past c) (bad_in past c e)) (closed g past)
     (first_of (closed g past) (closes g past a e)))
-    → Flow (due g past c ++ owes g past c a e) (made g past ++ makes g (known g past) a e) (came past c ++ brings past c e)
+    → Flow (due g past c ++ owes g past c a e) (made g past ++ makes g (is_covered g past) (known g past) a e) (came past c ++ brings past c e)
     (first_of (first_bad past c) (bad_in past c e))
     (is_live (live past) c) (carrying g past) (first_of (closed g past) (closes g past a e))
 others g past c a e f off counts stays =
-    flow_other (due g past c) (made g past) (came past c) (owes g past c a e) (makes g (known g past) a e) (brings past c e) (first_bad past c)
+    flow_other (due g past c) (made g past) (came past c) (owes g past c a e) (makes g (is_covered g past) (known g past) a e) (brings past c e) (first_bad past c)
     (first_of (first_bad past c) (bad_in past c e))
     (is_live (live past) c) (carrying g past) (closed g past) (first_of (closed g past) (closes g past a e)) f off counts stays
 
@@ -243,11 +244,18 @@ stays g past c a e legal leaves means idle here = record {
 nowhere : (c : ℕ) → is_live 0 c ≡ false
 nowhere c = grind (arith, nat_tests)
 
+-- a connection that ends
 parted : (g : Settings) (past : List Entry) (c : ℕ) (e : Event) → FlowAt g past c → FlowAfter g past c answer.Parted e
 parted g past c e f =
     rw (not_here past c g answer.Parted e (nowhere c), nowhere c, append-nil (due g past c))
     (flow_off (due g past c) (made g past) (came past c) [] (brings past c e) (first_bad past c) (first_of (first_bad past c) (bad_in past c e))
     (is_live (live past) c) (carrying g past) false (closed g past) (first_of (closed g past) (closes g past answer.Parted e)) f)
+
+died : (g : Settings) (past : List Entry) (c last : ℕ) (e : Event) → FlowAt g past c → FlowAfter g past c (answer.Dead last) e
+died g past c last e f =
+    rw (not_here past c g (answer.Dead last) e (nowhere c), nowhere c, append-nil (due g past c))
+    (flow_off (due g past c) (made g past) (came past c) [] (brings past c e) (first_bad past c) (first_of (first_bad past c) (bad_in past c e))
+    (is_live (live past) c) (carrying g past) false (closed g past) (first_of (closed g past) (closes g past (answer.Dead last) e)) f)
 
 flow_step : (g : Settings) (past : List Entry) (c : ℕ) (a : Answer) (e : Event) → IsChecked g → Legal g past → LeavesEntry a
     → Means g (facts g past) e a → g.side ≡ Client → IsFair g e → FlowAt g past c → FlowAfter g past c a e
@@ -257,6 +265,7 @@ flow_step g past c (answer.Opened n) (event.Open (Some x) taken) checked legal l
     sym side ∙ fair.0 in absurd (cc)
 flow_step g past c (answer.Opened n) e checked legal leaves means side fair f = absurd means
 flow_step g past c answer.Parted e checked legal leaves means side fair f = parted g past c e f
+flow_step g past c (answer.Dead last) e checked legal leaves means side fair f = died g past c last e f
 flow_step g past c answer.Handled (event.Came conn x) checked legal leaves means side fair f = handles_one g past c conn x checked legal means f
 flow_step g past c answer.Handled e checked legal leaves means side fair f = absurd means
 flow_step g past c a e checked legal leaves means side fair f =

@@ -17,6 +17,7 @@ use Rattle.tape.specs.declared.event.Event.TheVariants as event
 use Rattle.tape.specs.declared.answer.Answer.{Answer}
 use Rattle.tape.specs.declared.answer.Answer.TheVariants as answer
 use Rattle.tape.specs.declared.entry.Entry.{Entry}
+use Rattle.session_model.specs.Leases.{is_covered}
 use Rattle.session_model.specs.Life.{begun, carrying, carrying_after, is_live, live, live_after, openings}
 use Rattle.session_model.specs.Streams.{known}
 use Rattle.session_model.specs.Frames.{brings, came, due, greets, handled, if_carrying, made, makes, owes}
@@ -85,7 +86,7 @@ FlowAt g past d = Flow (due g past d) (made g past) (came past d) (is_live (live
 -- the same after an event so answered
 abbrev FlowAfter : Settings → List Entry → ℕ → Answer → Event → Type 0
 FlowAfter g past d a e =
-    Flow (due g past d ++ owes g past d a e) (made g past ++ makes g (known g past) a e) (came past d ++ brings past d e)
+    Flow (due g past d ++ owes g past d a e) (made g past ++ makes g (is_covered g past) (known g past) a e) (came past d ++ brings past d e)
     (is_live (live_after a (live past)) d) (carrying_after g (begun past) a e (carrying g past))
 
 not_here : (g : Settings) (past : List Entry) (d : ℕ) (a : Answer) (e : Event) → is_live (live_after a (live past)) d ≡ false → owes g past d a e ≡ []
@@ -149,11 +150,11 @@ opened g past d n f taken checked legal side next suits k =
 
 -- any other entry
 others : (g : Settings) (past : List Entry) (d : ℕ) (a : Answer) (e : Event) → FlowAt g past d → (is_live (live past) d ≡ false → owes g past d a e ≡ [])
-    → counting (owes g past d a e) ≡ (if is_live (live past) d then if_carrying (carrying g past) (makes g (known g past) a e) else [])
-    → Flow (due g past d ++ owes g past d a e) (made g past ++ makes g (known g past) a e) (came past d ++ brings past d e) (is_live (live past) d)
+    → counting (owes g past d a e) ≡ (if is_live (live past) d then if_carrying (carrying g past) (makes g (is_covered g past) (known g past) a e) else [])
+    → Flow (due g past d ++ owes g past d a e) (made g past ++ makes g (is_covered g past) (known g past) a e) (came past d ++ brings past d e) (is_live (live past) d)
     (carrying g past)
 others g past d a e k off counts =
-    flow_other (due g past d) (made g past) (came past d) (owes g past d a e) (makes g (known g past) a e) (brings past d e) (is_live (live past) d)
+    flow_other (due g past d) (made g past) (came past d) (owes g past d a e) (makes g (is_covered g past) (known g past) a e) (brings past d e) (is_live (live past) d)
     (carrying g past) k off counts
 
 -- a frame that is handled: RESUME_OK is none on a live connection of a server
@@ -180,6 +181,11 @@ parted g past d e k =
     rw (not_here g past d answer.Parted e (nowhere d), nowhere d, append-nil (due g past d))
     (flow_off (due g past d) (made g past) (came past d) [] (brings past d e) (is_live (live past) d) (carrying g past) false k)
 
+died : (g : Settings) (past : List Entry) (d last : ℕ) (e : Event) → FlowAt g past d → FlowAfter g past d (answer.Dead last) e
+died g past d last e k =
+    rw (not_here g past d (answer.Dead last) e (nowhere d), nowhere d, append-nil (due g past d))
+    (flow_off (due g past d) (made g past) (came past d) [] (brings past d e) (is_live (live past) d) (carrying g past) false k)
+
 flow_step : (g : Settings) (past : List Entry) (d : ℕ) (a : Answer) (e : Event) → IsChecked g → Legal g past → Means g (facts g past) e a
     → g.side ≡ Server → IsFair g e → FlowAt g past d → FlowAfter g past d a e
 unfolding facts
@@ -188,6 +194,7 @@ flow_step g past d (answer.Opened n) (event.Open (Some f) taken) checked legal m
     opened g past d n f taken checked legal side means.next means.suits k
 flow_step g past d (answer.Opened n) e checked legal means side fair k = absurd means
 flow_step g past d answer.Parted e checked legal means side fair k = parted g past d e k
+flow_step g past d (answer.Dead last) e checked legal means side fair k = died g past d last e k
 flow_step g past d answer.Handled (event.Came conn f) checked legal means side fair k = handles_one g past d conn f checked legal means k
 flow_step g past d answer.Handled e checked legal means side fair k = absurd means
 flow_step g past d a e checked legal means side fair k = others g past d a e k (λ off. not_here g past d a e off) (owes_counts g past d a e checked legal means)

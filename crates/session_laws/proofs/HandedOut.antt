@@ -16,13 +16,14 @@ use Rattle.tape.specs.declared.answer.Answer.{Answer}
 use Rattle.tape.specs.declared.answer.Answer.TheVariants as answer
 use Rattle.tape.specs.declared.entry.Entry.{Entry}
 use Rattle.fragment.specs.Joining.{Gathered}
-use Rattle.stream_model.specs.Marks.{Opening, Step, Payload, RequestN, Cancel, Fail, Mark, Opens, Sent, Got, Took, TookJob}
+use Rattle.stream_model.specs.Marks.{Opening, Step, Payload, RequestN, Cancel, Fail, Mark, Opens, Passed, Sent, Got, Pushed, Took, TookJob}
 use Rattle.stream_model.specs.Turns.{Word, Said, Taken, Turn, is_role, is_whole, other}
 use Rattle.stream_model.specs.Streams.{brings_job, goes_on, has_room, is_admitted, jobs, jobs_in, jobs_taken, jobs_waiting, late_job, one_if, opening_job, turn}
 use Rattle.stream_model.specs.Known.{front_of, known as known_after}
 use Rattle.stream_model.specs.Fair.{Fair as FairMarks, Fits}
-use Rattle.stream_model.proofs.Ids.{fresh, others_stay, same_id, turn_got, turn_job, turn_opened, turn_sent, turn_took}
+use Rattle.stream_model.proofs.Ids.{fresh, others_stay, same_id, turn_got, turn_job, turn_opened, turn_passed, turn_pushed, turn_sent, turn_took}
 use Rattle.stream_model.proofs.Jobs.{jobs_after, jobs_more}
+use Rattle.session_model.specs.Leases.{is_covered}
 use Rattle.session_model.specs.Streams.{heard_in, marks_in, unfinished, words}
 use Rattle.session_model.specs.Answers.{facts}
 use Rattle.session_model.specs.Legal.{Fair, Legal}
@@ -110,6 +111,7 @@ counts_more most seen (Opens q o) s n fits h =
     here_or_not most seen (Opens q o) q s n (q == s) refl
     (λ same. subst (λ (i : ℕ). Fits most seen (Opens i o) → Counts most seen (Opens i o) s n) (sym same) (λ f. opens_here most seen o s n f h) fits)
     (λ apart. rw (opening_elsewhere q s o o.whole (is_role o.role Responder && is_admitted (has_room most seen) o) apart, others_stay most seen (Opens q o) q s (same_id q) apart) (omega (arith, h)))
+counts_more most seen (Passed q) s n fits h = rw (turn_passed most seen q s) (omega (arith, h))
 counts_more most seen (Sent q step) s n fits h =
     here_or_not most seen (Sent q step) q s n (q == s) refl
     (λ same. rw (same, turn_sent most seen s step) (let on = stays_whole n (turn most seen s) (λ role. Said role step) h in omega (arith, on)))
@@ -118,6 +120,7 @@ counts_more most seen (Got q step) s n fits h =
     here_or_not most seen (Got q step) q s n (q == s) refl
     (λ same. rw (same, turn_got most seen s step) (late_counts n s step (turn most seen s) h))
     (λ apart. rw (late_elsewhere q s step (turn most seen q) apart, others_stay most seen (Got q step) q s (same_id q) apart) (omega (arith, h)))
+counts_more most seen (Pushed metadata) s n fits h = rw (turn_pushed most seen metadata s) (omega (arith, h))
 counts_more most seen (Took q d) s n fits h =
     here_or_not most seen (Took q d) q s n (q == s) refl
     (λ same. rw (same, turn_took most seen s d) (let on = stays_whole n (turn most seen s) (λ role. Taken d) h in omega (arith, on)))
@@ -163,16 +166,16 @@ taken_more most seen got j first h =
     (append_assoc got (j ∷ []) waits.0 ∙ (ap (λ (l : List Job). got ++ l) (sym waits.1) ∙ (h ∙ sym (append-nil (jobs most seen)))))
 
 -- an answer that hands out no job takes none
-quiet_marks : (held : ℕ → Gathered) (a : Answer) (e : Event) → got_in a ≡ [] → AllByRecursion (λ m. jobs_in m ≡ 0) (marks_in held a e)
-quiet_marks held a e none = grind (arith, common_steps)
+quiet_marks : (covered : Bool) (held : ℕ → Gathered) (a : Answer) (e : Event) → got_in a ≡ [] → AllByRecursion (λ m. jobs_in m ≡ 0) (marks_in covered held a e)
+quiet_marks covered held a e none = grind (arith, common_steps)
 
-quiet_more : (g : Settings) (past : List Entry) (a : Answer) (e : Event) → got_in a ≡ [] → FairMarks g.max_streams (marks_in (unfinished g past) a e ++ words g past) → jobs_got past ++ jobs_waiting g.max_streams (words g past) ≡ jobs g.max_streams (words g past)
-    → (jobs_got past ++ got_in a) ++ jobs_waiting g.max_streams (marks_in (unfinished g past) a e ++ words g past) ≡ jobs g.max_streams (marks_in (unfinished g past) a e ++ words g past)
+quiet_more : (g : Settings) (past : List Entry) (a : Answer) (e : Event) → got_in a ≡ [] → FairMarks g.max_streams (marks_in (is_covered g past) (unfinished g past) a e ++ words g past) → jobs_got past ++ jobs_waiting g.max_streams (words g past) ≡ jobs g.max_streams (words g past)
+    → (jobs_got past ++ got_in a) ++ jobs_waiting g.max_streams (marks_in (is_covered g past) (unfinished g past) a e ++ words g past) ≡ jobs g.max_streams (marks_in (is_covered g past) (unfinished g past) a e ++ words g past)
 quiet_more g past a e none fair h =
-    rw (none, append-nil (jobs_got past)) (all_added g.max_streams (marks_in (unfinished g past) a e) (words g past) (jobs_got past) fair (quiet_marks (unfinished g past) a e none) h)
+    rw (none, append-nil (jobs_got past)) (all_added g.max_streams (marks_in (is_covered g past) (unfinished g past) a e) (words g past) (jobs_got past) fair (quiet_marks (is_covered g past) (unfinished g past) a e none) h)
 
-entry_more : (g : Settings) (past : List Entry) (a : Answer) (e : Event) → Means g (facts g past) e a → FairMarks g.max_streams (marks_in (unfinished g past) a e ++ words g past) → jobs_got past ++ jobs_waiting g.max_streams (words g past) ≡ jobs g.max_streams (words g past)
-    → (jobs_got past ++ got_in a) ++ jobs_waiting g.max_streams (marks_in (unfinished g past) a e ++ words g past) ≡ jobs g.max_streams (marks_in (unfinished g past) a e ++ words g past)
+entry_more : (g : Settings) (past : List Entry) (a : Answer) (e : Event) → Means g (facts g past) e a → FairMarks g.max_streams (marks_in (is_covered g past) (unfinished g past) a e ++ words g past) → jobs_got past ++ jobs_waiting g.max_streams (words g past) ≡ jobs g.max_streams (words g past)
+    → (jobs_got past ++ got_in a) ++ jobs_waiting g.max_streams (marks_in (is_covered g past) (unfinished g past) a e ++ words g past) ≡ jobs g.max_streams (marks_in (is_covered g past) (unfinished g past) a e ++ words g past)
 unfolding facts known_after
 entry_more g past (answer.GotJob job) (event.Asked call.TakeJob) means fair h = taken_more g.max_streams (words g past) (jobs_got past) job means h
 entry_more g past (answer.GotJob job) e means fair h = absurd means

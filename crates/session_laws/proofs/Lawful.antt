@@ -11,6 +11,7 @@ use Rattle.stream_model.specs.Laws.{IsOver, Laws}
 use Rattle.stream_model.proofs.ForGood.{over_for_good}
 use Rattle.stream_model.proofs.Lawful.{each_stream}
 use Rattle.stream_model.proofs.Places.{live_within}
+use Rattle.session_model.specs.Leases.{is_covered}
 use Rattle.session_model.specs.Lists.{IsPrefix}
 use Rattle.session_model.specs.Streams.{heard_in, marks_in, unfinished, words}
 use Rattle.session_model.specs.Legal.{Fair, Legal}
@@ -45,4 +46,4 @@ unfolding Legal Fair heard_in
 over_later g [] past s w h is = is
 over_later g (x ∷ more) past s w h is =
     let earlier : IsLawful g (more ++ past) = record { legal = h.legal.0; fair = h.fair.0 } in
-    over_marks g.max_streams (marks_in (unfinished g (more ++ past)) x.answer x.event) (words g (more ++ past)) s w (fair_marks g (x ∷ (more ++ past)) h) (over_later g more past s w earlier is)
+    over_marks g.max_streams (marks_in (is_covered g (more ++ past)) (unfinished g (more ++ past)) x.answer x.event) (words g (more ++ past)) s w (fair_marks g (x ∷ (more ++ past)) h) (over_later g more past s w earlier is)

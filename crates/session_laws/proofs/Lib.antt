@@ -21,3 +21,5 @@ pub mod ReadStreams
 pub mod HandedOut
 pub mod Fragments
 pub mod Rows
+pub mod WithinLeases
+pub mod RowsOfMoments

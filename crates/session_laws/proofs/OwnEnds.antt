@@ -7,7 +7,7 @@ use Rattle.rs_wire.specs.declared.words.Role.{Role}
 use Rattle.rs_wire.specs.declared.words.Role.TheVariants.{Requester, Responder}
 use Rattle.rs_wire.specs.declared.delivery.Delivery.{Delivery}
 use Rattle.tape.specs.declared.entry.Entry.{Entry}
-use Rattle.stream_model.specs.Marks.{Mark, Opens, Sent, Got, Took, TookJob, Step}
+use Rattle.stream_model.specs.Marks.{Mark, Opens, Passed, Sent, Got, Pushed, Took, TookJob, Step}
 use Rattle.stream_model.specs.Turns.{Turn, Said, Taken, taken, waiting, is_role, other}
 use Rattle.stream_model.specs.Streams.{turn, turn_after, goes_on, live, on}
 use Rattle.stream_model.specs.Fair.{Fair as FairMarks, Fits, FitsTurn}
@@ -15,6 +15,7 @@ use Rattle.stream_model.specs.Laws.{own_end}
 use Rattle.stream_model.proofs.Delivered.{dropped}
 use Rattle.stream_model.proofs.Ids.{fresh, turn_sent}
 use Rattle.stream_model.proofs.Streams.{fair_words, fits_here}
+use Rattle.session_model.specs.Leases.{is_covered}
 use Rattle.session_model.specs.Streams.{heard_in, marks_in, unfinished, words}
 use Rattle.session_model.specs.Legal.{Fair, Legal}
 use Rattle.session_laws.specs.Streams.{EndsReceiving, IsLawful, stream}
@@ -46,8 +47,10 @@ opened_on most seen s q before ended none same = let gone : turn most seen s ≡
 mark_on : (most : ℕ) (seen : List Mark) (m : Mark) (s : ℕ) (room : Bool) (before : List Delivery) → FairMarks most seen → Fits most seen m → on s m ≡ true
     → EndedAt before (turn most seen s) → EndedAt before (turn_after room m (turn most seen s))
 mark_on most seen (Opens q o) s room before fair fits is ended = absurd (opened_on most seen s q before ended (fresh most seen q fits.fresh) (grind (arith, nat_tests)))
+mark_on most seen (Passed q) s room before fair fits is ended = ended
 mark_on most seen (Sent q step) s room before fair fits is ended = said_on before (turn most seen s) (λ role. role) step ended
 mark_on most seen (Got q step) s room before fair fits is ended = said_on before (turn most seen s) (λ role. other role) step ended
+mark_on most seen (Pushed metadata) s room before fair fits is ended = ended
 mark_on most seen (Took q d) s room before fair fits is ended = took_on most seen s d before (turn most seen s) refl fair (fits_here most seen q s is (λ role. Taken d) fits) ended
 mark_on most seen TookJob s room before fair fits is ended = ended
 
@@ -68,7 +71,7 @@ unfolding Legal Fair heard_in
 entries_on g [] past s before h ended = ended
 entries_on g (x ∷ more) past s before h ended =
     let earlier : IsLawful g (more ++ past) = record { legal = h.legal.0; fair = h.fair.0 } in
-    marks_on g.max_streams (marks_in (unfinished g (more ++ past)) x.answer x.event) (words g (more ++ past)) s before (fair_marks g (x ∷ (more ++ past)) h) (entries_on g more past s before earlier ended)
+    marks_on g.max_streams (marks_in (is_covered g (more ++ past)) (unfinished g (more ++ past)) x.answer x.event) (words g (more ++ past)) s before (fair_marks g (x ∷ (more ++ past)) h) (entries_on g more past s before earlier ended)
 
 same_role : (r : Role) → is_role r r ≡ true
 same_role Requester = refl

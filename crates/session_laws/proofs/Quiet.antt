@@ -79,4 +79,5 @@ quiet g past c a (event.Came conn f) legal leaves means idle here free =
 quiet g past c a (event.Bad conn rule) legal leaves means idle here free =
     let both = first_none (closed g past) (closes g past a (event.Bad conn rule)) free in
     bad_quiet g past c a conn rule leaves means here both.0 both.1
+quiet g past c a (event.Tick now) legal leaves means idle here free = record { frames = refl; bytes = refl }
 quiet g past c a (event.Asked asked) legal leaves means idle here free = record { frames = refl; bytes = refl }

@@ -25,16 +25,17 @@ use Rattle.fragment.specs.Joining.{Gathered, nothing}
 use Rattle.fragment.specs.Splitting.{follows_of}
 use Rattle.stream_model.specs.declared.arrival.Arrival.{Arrival}
 use Rattle.stream_model.specs.declared.arrival.Arrival.TheVariants as arrival
-use Rattle.stream_model.specs.Marks.{Opening, Step, Payload, RequestN, Cancel, Fail, Mark, Opens, Sent, Got, Took, TookJob}
+use Rattle.stream_model.specs.Marks.{Opening, Step, Payload, RequestN, Cancel, Fail, Mark, Opens, Passed, Sent, Got, Pushed, Took, TookJob}
 use Rattle.stream_model.specs.Turns.{Taken, Turn, is_over, is_response, is_role}
 use Rattle.stream_model.specs.Streams.{count_to, highest, higher, is_admitted, is_live, live, on, top, turn}
 use Rattle.stream_model.specs.Kept.{kept, stream_of}
 use Rattle.stream_model.specs.Known.{known as known_after, hears_on, is_open_response}
 use Rattle.stream_model.specs.Arriving.{heard, no_message, said, theirs}
 use Rattle.stream_model.specs.Fair.{Fair as FairMarks}
-use Rattle.stream_model.proofs.Ids.{highest_opens, highest_said, others_stay, same_id, still_none, turn_got, turn_job, turn_opened, turn_sent, turn_took}
-use Rattle.session_model.specs.Frames.{Mark as Seen, Sent as Made, Got as Handled, in_fragments, marks, request_frame, seen, sent_as, spoken, turned_away}
-use Rattle.session_model.specs.Streams.{Heard, arrival_in, gathers_of, heard_in, is_turned_away, known, marks_in, more_heard, unfinished, while_heard, words}
+use Rattle.stream_model.proofs.Ids.{fresh, highest_opens, highest_passed, highest_said, others_stay, same_id, still_none, turn_got, turn_job, turn_opened, turn_passed, turn_pushed, turn_sent, turn_took}
+use Rattle.session_model.specs.Frames.{Mark as Seen, Sent as Made, Got as Handled, in_fragments, marks, request_frame, seen, sent_as, spoken, turned_away, turned_away_with}
+use Rattle.session_model.specs.Leases.{is_covered}
+use Rattle.session_model.specs.Streams.{Heard, arrival_in, gathers_of, heard_in, known, marks_in, more_heard, request_in, turned_away_for, unfinished, while_heard, words}
 use Rattle.session_model.specs.Answers.{facts}
 use Rattle.session_model.specs.Legal.{Fair, Legal}
 use Rattle.session_model.specs.Means.{Does, Means}
@@ -121,6 +122,28 @@ same_job most W R h = record {
   ids = λ p. h.ids p ∙ sym (highest_said p W TookJob refl);
 }
 
+-- metadata that is pushed stands in no frame that counts
+same_pushed : (most : ℕ) (W R : List Mark) (metadata : List ℕ) → Same most W R → Same most (Pushed metadata ∷ W) R
+same_pushed most W R metadata h = record {
+  turns = λ q. h.turns q ∙ sym (ap framed (turn_pushed most W metadata q));
+  ids = λ p. h.ids p ∙ sym (highest_said p W (Pushed metadata) refl);
+}
+
+same_came : (most : ℕ) (W R : List Mark) (metadata : List ℕ) → Same most W R → Same most (Pushed metadata ∷ W) (Pushed metadata ∷ R)
+same_came most W R metadata h =
+    let before = same_pushed most W R metadata h in
+    record {
+      turns = λ q. turn_pushed most R metadata q ∙ before.turns q;
+      ids = λ p. highest_said p R (Pushed metadata) refl ∙ before.ids p;
+    }
+
+-- a request that is passed over
+same_passed : (most : ℕ) (W R : List Mark) (s : ℕ) → Same most W R → Same most (Passed s ∷ W) (Passed s ∷ R)
+same_passed most W R s h = record {
+  turns = λ q. turn_passed most R s q ∙ (h.turns q ∙ sym (ap framed (turn_passed most W s q)));
+  ids = λ p. highest_passed p R s ∙ (ap (higher p s) (h.ids p) ∙ sym (highest_passed p W s));
+}
+
 -- a frame on a stream that was never admitted tells nothing
 stray_turns : (most : ℕ) (R : List Mark) (s q : ℕ) (step : Step) (same : Bool) → (s == q) ≡ same → turn most R s ≡ None → turn most (Sent s step ∷ R) q ≡ turn most R q
 stray_turns most R s q step true is none =
@@ -189,23 +212,23 @@ said_no_more most h r after own is says same =
     }
 
 -- what was heard and said, after a frame of the peer's
-abbrev on_after : ℕ → Heard → Frame → Heard
-on_after most h f = on_with most (record { words = h.words; unfinished = λ s. gathers_of f s (h.unfinished s) }) (option_to_list (option_map heard (arrival_in h.unfinished f)) ++ h.words)
+abbrev on_after : ℕ → Bool → Heard → Frame → Heard
+on_after most covered h f = on_with most (record { words = h.words; unfinished = λ s. gathers_of f s (h.unfinished s) }) (option_to_list (option_map heard (arrival_in covered h.unfinished f)) ++ h.words)
 
 -- a frame that was handled
-heard_more : (most : ℕ) (h : Heard) (r : Reading) (f : Frame) → IsRead most h r
-    → Same most (option_to_list (option_map heard (arrival_in h.unfinished f)) ++ h.words) (option_to_list (option_map heard (arrival_in h.unfinished f)) ++ r.marks)
-    → IsRead most (on_after most h f) (reads most r (Handled f))
-heard_more most h r f is same =
-    let said = option_to_list (option_map heard (arrival_in h.unfinished f)) in
+heard_more : (most : ℕ) (covered : Bool) (h : Heard) (r : Reading) (f : Frame) → IsRead most h r
+    → Same most (option_to_list (option_map heard (arrival_in covered h.unfinished f)) ++ h.words) (option_to_list (option_map heard (arrival_in covered h.unfinished f)) ++ r.marks)
+    → IsRead most (on_after most covered h f) (reads most r (Handled covered f))
+heard_more most covered h r f is same =
+    let said = option_to_list (option_map heard (arrival_in covered h.unfinished f)) in
     let gathered : ℕ → Gathered = λ s. gathers_of f s (h.unfinished s) in
-    let at : IsRead most (on_after most h f) (more_read most (said ++ r.marks) gathered r.begun) = record {
+    let at : IsRead most (on_after most covered h f) (more_read most (said ++ r.marks) gathered r.begun) = record {
       told = same;
       held = mask_same most (said ++ h.words) (said ++ r.marks) gathered same;
       masked = mask_again most (said ++ r.marks) gathered;
       none = is.none;
     } in
-    subst (λ (u : ℕ → Gathered). IsRead most (on_after most h f) (more_read most (option_to_list (option_map heard (arrival_in u f)) ++ r.marks) (λ s. gathers_of f s (u s)) r.begun)) (sym is.held) at
+    subst (λ (u : ℕ → Gathered). IsRead most (on_after most covered h f) (more_read most (option_to_list (option_map heard (arrival_in covered u f)) ++ r.marks) (λ s. gathers_of f s (u s)) r.begun)) (sym is.held) at
 
 -- ---- the entries
 
@@ -257,6 +280,8 @@ done_read g past r (call.Fail s code content) does is =
     frame_more g past r (frame.Error s code content) _ refl is (same_sent g.max_streams (words g past) r.marks s _ _ (λ u there. refl) is.told)
 done_read g past r (call.Take s) does is = absurd does
 done_read g past r call.TakeJob does is = absurd does
+done_read g past r (call.Push metadata) does is = quiet g.max_streams (heard_in g past) r (words g past) is is.told
+done_read g past r (call.Lease ttl count metadata) does is = quiet g.max_streams (heard_in g past) r (words g past) is is.told
 done_read g past r call.Close does is = quiet g.max_streams (heard_in g past) r (words g past) is is.told
 
 heard_same : (most : ℕ) (W R : List Mark) (o : Option Arrival) → FairMarks most (option_to_list (option_map heard o) ++ W) → Same most W R
@@ -268,55 +293,76 @@ heard_same most W R (Some (arrival.Whole s m c n)) fair h = same_got most W R s 
 heard_same most W R (Some (arrival.Granted s n)) fair h = same_got most W R s (RequestN n) h
 heard_same most W R (Some (arrival.Canceled s)) fair h = same_got most W R s Cancel h
 heard_same most W R (Some (arrival.Failed s code content)) fair h = same_got most W R s (Fail code content) h
+heard_same most W R (Some (arrival.PassedOver s)) fair h = same_passed most W R s h
+heard_same most W R (Some (arrival.Pushed metadata)) fair h = same_came most W R metadata h
 
 -- after a frame that counts and was handled
-counted_read : (most : ℕ) (h : Heard) (r : Reading) (f : Frame) → FairMarks most (option_to_list (option_map heard (arrival_in h.unfinished f)) ++ h.words) → IsRead most h r
-    → IsRead most (on_after most h f) (reads most r (Handled f))
-counted_read most h r f fair is = heard_more most h r f is (heard_same most h.words r.marks (arrival_in h.unfinished f) fair is.told)
+counted_read : (most : ℕ) (covered : Bool) (h : Heard) (r : Reading) (f : Frame) → FairMarks most (option_to_list (option_map heard (arrival_in covered h.unfinished f)) ++ h.words) → IsRead most h r
+    → IsRead most (on_after most covered h f) (reads most r (Handled covered f))
+counted_read most covered h r f fair is = heard_more most covered h r f is (heard_same most h.words r.marks (arrival_in covered h.unfinished f) fair is.told)
 
--- any other says nothing on the streams
-unseen : (gathered : ℕ → Gathered) (f : Frame) → is_resumable f ≡ false → arrival_in gathered f ≡ None
-unseen gathered f off = grind (arith, common_steps)
+abbrev is_push : Frame → Bool
+is_push (frame.MetadataPush metadata) = true
+is_push f = false
+
+-- any other says nothing on the streams, but for metadata that is pushed
+unseen : (covered : Bool) (gathered : ℕ → Gathered) (f : Frame) → is_resumable f ≡ false → is_push f ≡ false → arrival_in covered gathered f ≡ None
+unseen covered gathered f off kept = grind (arith, common_steps)
 
 ungathered : (f : Frame) (s : ℕ) (held : Gathered) → is_resumable f ≡ false → gathers_of f s held ≡ held
 ungathered f s held off = grind (arith, common_steps)
 
-uncounted : (most : ℕ) (h : Heard) (f : Frame) → is_resumable f ≡ false → on_after most h f ≡ on_with most h h.words
-uncounted most h f off =
-    rw (unseen h.unfinished f off) (ap (λ (u : ℕ → Gathered). on_with most (record { words = h.words; unfinished = u }) h.words) (fun_ext (λ s. ungathered f s (h.unfinished s) off)))
+uncounted : (most : ℕ) (covered : Bool) (h : Heard) (f : Frame) → is_resumable f ≡ false → is_push f ≡ false → on_after most covered h f ≡ on_with most h h.words
+uncounted most covered h f off kept =
+    rw (unseen covered h.unfinished f off kept) (ap (λ (u : ℕ → Gathered). on_with most (record { words = h.words; unfinished = u }) h.words) (fun_ext (λ s. ungathered f s (h.unfinished s) off)))
 
-came_read : (most : ℕ) (h : Heard) (r : Reading) (f : Frame) (b : Bool) → is_resumable f ≡ b → FairMarks most (option_to_list (option_map heard (arrival_in h.unfinished f)) ++ h.words) → IsRead most h r
-    → IsRead most (on_after most h f) (reading most r (map Handled (cond b (f ∷ []) [])))
+came_read : (most : ℕ) (covered : Bool) (h : Heard) (r : Reading) (f : Frame) (b : Bool) → is_resumable f ≡ b → FairMarks most (option_to_list (option_map heard (arrival_in covered h.unfinished f)) ++ h.words) → IsRead most h r
+    → IsRead most (on_after most covered h f) (reading most r (map (Handled covered) (cond b (f ∷ []) [])))
 unfolding reading
-came_read most h r f true is fair before = counted_read most h r f fair before
-came_read most h r f false is fair before = rw (uncounted most h f is) (quiet most h r h.words before before.told)
+came_read most covered h r f true is fair before = counted_read most covered h r f fair before
+came_read most covered h r (frame.MetadataPush metadata) false is fair before = quiet most h r (Pushed metadata ∷ h.words) before (same_pushed most h.words r.marks metadata before.told)
+came_read most covered h r f false is fair before = rw (uncounted most covered h f is refl) (quiet most h r h.words before before.told)
 
 -- a request that is turned away has no stream
-none_there : (g : Settings) (past : List Entry) (q : Request) (o : Opening) → highest (q.stream % 2) (words g past) < q.stream → is_turned_away g (known g past) q ≡ true → o.role ≡ Responder → o.kind ≡ q.kind
+none_there : (g : Settings) (past : List Entry) (q : Request) (o : Opening) (word : List ℕ) → highest (q.stream % 2) (words g past) < q.stream → turned_away_for g true (known g past) q ≡ Some word → o.role ≡ Responder → o.kind ≡ q.kind
     → turn g.max_streams (Opens q.stream o ∷ words g past) q.stream ≡ None
 unfolding known_after
-none_there g past q o below away role kind = rw (turn_opened g.max_streams (words g past) q.stream o below, role, kind) (grind (arith, common_steps))
+none_there g past q o word below away role kind = rw (turn_opened g.max_streams (words g past) q.stream o below, role, kind) (grind (arith, common_steps))
 
-request_read : (g : Settings) (past : List Entry) (r : Reading) (q : Request) (b : Bool) → is_turned_away g (known g past) q ≡ b
-    → FairMarks g.max_streams (option_to_list (option_map heard (arrival_in (unfinished g past) (frame.Request q))) ++ words g past) → IsRead g.max_streams (heard_in g past) r
-    → IsRead g.max_streams (on_after g.max_streams (heard_in g past) (frame.Request q)) (reading g.max_streams r (Handled (frame.Request q) ∷ map Made (cond b (turned_away q.stream ∷ []) [])))
-unfolding reading FairMarks
-request_read g past r q false away fair is = counted_read g.max_streams (heard_in g past) r (frame.Request q) fair is
-request_read g past r q true away fair is =
-    let now = counted_read g.max_streams (heard_in g past) r (frame.Request q) fair is in
-    said_no_more g.max_streams _ _ _ _ now (frame_says g.max_streams 0 _ (turned_away q.stream) refl now.masked now.none)
-    (same_stray g.max_streams _ _ q.stream _ (none_there g past q _ fair.1.fresh away refl refl) now.told)
+-- nor has one that is passed over
+none_passed : (g : Settings) (past : List Entry) (s : ℕ) → highest (s % 2) (words g past) < s → turn g.max_streams (Passed s ∷ words g past) s ≡ None
+none_passed g past s below = turn_passed g.max_streams (words g past) s s ∙ fresh g.max_streams (words g past) s below
+
+-- the marks with a request of the peer's
+abbrev asks_more : Settings → List Entry → Bool → Request → List Mark
+asks_more g past covered q = heard (request_in covered q) ∷ words g past
+
+none_asked : (g : Settings) (past : List Entry) (q : Request) (covered : Bool) (word : List ℕ) → turned_away_for g covered (known g past) q ≡ Some word → FairMarks g.max_streams (asks_more g past covered q)
+    → turn g.max_streams (asks_more g past covered q) q.stream ≡ None
+unfolding FairMarks
+none_asked g past q true word away fair = none_there g past q _ word fair.1.fresh away refl refl
+none_asked g past q false word away fair = none_passed g past q.stream fair.1
+
+request_read : (g : Settings) (past : List Entry) (r : Reading) (q : Request) (covered : Bool) (away : Option (List ℕ)) → turned_away_for g covered (known g past) q ≡ away
+    → FairMarks g.max_streams (asks_more g past covered q) → IsRead g.max_streams (heard_in g past) r
+    → IsRead g.max_streams (on_after g.max_streams covered (heard_in g past) (frame.Request q)) (reading g.max_streams r (Handled covered (frame.Request q) ∷ map Made (turned_away_with q.stream away)))
+unfolding reading
+request_read g past r q covered None away fair is = counted_read g.max_streams covered (heard_in g past) r (frame.Request q) fair is
+request_read g past r q covered (Some word) away fair is =
+    let now = counted_read g.max_streams covered (heard_in g past) r (frame.Request q) fair is in
+    said_no_more g.max_streams _ _ _ _ now (frame_says g.max_streams 0 _ (turned_away q.stream word) refl now.masked now.none)
+    (same_stray g.max_streams _ _ q.stream _ (none_asked g past q covered word away fair) now.told)
 
 handled_read : (g : Settings) (past : List Entry) (r : Reading) (conn : ℕ) (f : Frame)
-    → FairMarks g.max_streams (option_to_list (option_map heard (arrival_in (unfinished g past) f)) ++ words g past) → IsRead g.max_streams (heard_in g past) r
-    → IsRead g.max_streams (on_after g.max_streams (heard_in g past) f) (reading g.max_streams r (marks g (known g past) answer.Handled (event.Came conn f)))
-handled_read g past r conn (frame.Request q) fair is = request_read g past r q (is_turned_away g (known g past) q) refl fair is
+    → FairMarks g.max_streams (option_to_list (option_map heard (arrival_in (is_covered g past) (unfinished g past) f)) ++ words g past) → IsRead g.max_streams (heard_in g past) r
+    → IsRead g.max_streams (on_after g.max_streams (is_covered g past) (heard_in g past) f) (reading g.max_streams r (marks g (is_covered g past) (known g past) answer.Handled (event.Came conn f)))
+handled_read g past r conn (frame.Request q) fair is = request_read g past r q (is_covered g past) (turned_away_for g (is_covered g past) (known g past) q) refl fair is
 handled_read g past r conn f fair is =
-    let only : marks g (known g past) answer.Handled (event.Came conn f) ≡ map Handled (cond (is_resumable f) (f ∷ []) []) = append-nil _ in
-    rw (only) (came_read g.max_streams (heard_in g past) r f (is_resumable f) refl fair is)
+    let only : marks g (is_covered g past) (known g past) answer.Handled (event.Came conn f) ≡ map (Handled (is_covered g past)) (cond (is_resumable f) (f ∷ []) []) = append-nil _ in
+    rw (only) (came_read g.max_streams (is_covered g past) (heard_in g past) r f (is_resumable f) refl fair is)
 
-entry_read : (g : Settings) (past : List Entry) (r : Reading) (a : Answer) (e : Event) → Means g (facts g past) e a → FairMarks g.max_streams (marks_in (unfinished g past) a e ++ words g past) → IsRead g.max_streams (heard_in g past) r
-    → IsRead g.max_streams (more_heard g.max_streams (marks_in (unfinished g past) a e ++ words g past) (heard_in g past) a e) (reading g.max_streams r (marks g (known g past) a e))
+entry_read : (g : Settings) (past : List Entry) (r : Reading) (a : Answer) (e : Event) → Means g (facts g past) e a → FairMarks g.max_streams (marks_in (is_covered g past) (unfinished g past) a e ++ words g past) → IsRead g.max_streams (heard_in g past) r
+    → IsRead g.max_streams (more_heard g.max_streams (marks_in (is_covered g past) (unfinished g past) a e ++ words g past) (heard_in g past) a e) (reading g.max_streams r (marks g (is_covered g past) (known g past) a e))
 unfolding reading FairMarks
 entry_read g past r (answer.Started id) (event.Asked (call.Request kind initial message complete)) means fair is =
     frame_more g past r (request_frame id kind initial message complete) _ refl is (same_opens g.max_streams (words g past) r.marks id _ fair.1.fresh is.told)
@@ -342,7 +388,7 @@ frames_read g [] h = record { told = record { turns = λ s. refl; ids = λ p. re
 frames_read g (x ∷ past) h =
     let before : IsLawful g past = record { legal = h.legal.0; fair = h.fair.0 } in
     let fair = legal_fair g (x ∷ past) h.legal h.fair in
-    rw (read_on g.max_streams nothing_read (seen g past) (marks g (known g past) x.answer x.event))
+    rw (read_on g.max_streams nothing_read (seen g past) (marks g (is_covered g past) (known g past) x.answer x.event))
     (entry_read g past (reading g.max_streams nothing_read (seen g past)) x.answer x.event (last_means g x past h.legal) fair (frames_read g past before))
 
 -- ---- the law

@@ -102,6 +102,7 @@ unfolding facts
 stays_off g past d (answer.Opened n) (event.Open first taken) means off within = let next = means.next in grind (arith, nat_tests)
 stays_off g past d (answer.Opened n) e means off within = absurd means
 stays_off g past d answer.Parted e means off within = grind (arith, nat_tests)
+stays_off g past d (answer.Dead last) e means off within = grind (arith, nat_tests)
 stays_off g past d a e means off within = off
 
 owes_none : (g : Settings) (past : List Entry) (d : ℕ) (a : Answer) (e : Event) → is_live (live_after a (live past)) d ≡ false → due g past d ≡ []

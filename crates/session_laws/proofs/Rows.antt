@@ -84,8 +84,8 @@ client_life :
     × (carrying client (cut ∷ asks ∷ opens ∷ []) ≡ false)
     × (carrying client (opens_again ∷ cut ∷ asks ∷ opens ∷ []) ≡ false)
     × (carrying client (ok 8 answer.Handled ∷ opens_again ∷ cut ∷ asks ∷ opens ∷ []) ≡ true)
-    × (told (opens_again ∷ cut ∷ asks ∷ opens ∷ []) ≡ 0)
-    × (told (ok 8 answer.Handled ∷ opens_again ∷ cut ∷ asks ∷ opens ∷ []) ≡ 8)
+    × (told client (opens_again ∷ cut ∷ asks ∷ opens ∷ []) ≡ 0)
+    × (told client (ok 8 answer.Handled ∷ opens_again ∷ cut ∷ asks ∷ opens ∷ []) ≡ 8)
 unfolding begun carrying told
 client_life = (refl, refl, refl, refl, refl, refl)
 

@@ -133,12 +133,12 @@ kept_boundary g past p is =
 
 -- where resumption is agreed, what is held begins where it begins of all that was made
 held_starts : (g : Settings) (past : List Entry) → resumption_agreed g past ≡ true → held_from g past ≡ first g past
-held_starts g past agreed = ap (λ fs. first_held fs (told past) g.hold) (kept_made g past agreed)
+held_starts g past agreed = ap (λ fs. first_held fs (told g past) g.hold) (kept_made g past agreed)
 
 -- and so a boundary from there on is held
 is_held : (g : Settings) (past : List Entry) (p : ℕ) → resumption_agreed g past ≡ true → IsHeldFrom g past p → is_held_boundary g past p ≡ true
 is_held g past p agreed holds =
-    subst (λ fs. (leb (first_held fs (told past) g.hold) p && is_boundary fs p) ≡ true) (sym (kept_made g past agreed))
+    subst (λ fs. (leb (first_held fs (told g past) g.hold) p && is_boundary fs p) ≡ true) (sym (kept_made g past agreed))
     (rw (le-leb (first g past) p holds.held, test_boundary length_of (made g past) p holds.boundary) refl)
 
 -- a server whose SETUP had a token agreed

@@ -1,19 +1,20 @@
 -- The two ends of a session.
 use Rattle.std.specs.Prelude.{◌≡◌, ℕ, true, List, None}
 use Rattle.rs_wire.specs.declared.words.Side.TheVariants.{Client, Server}
+use Rattle.rs_wire.specs.Settings.{IsChecked}
 use Rattle.rs_wire.specs.declared.settings.Settings.{Settings}
 use Rattle.tape.specs.declared.entry.Entry.{Entry}
 use Rattle.session_model.specs.Life.{carrying, closed, is_live, live}
 use Rattle.session_model.specs.Frames.{due, came}
-use Rattle.session_model.specs.Legal.{Fair, IsPlain, Legal}
+use Rattle.session_model.specs.Legal.{Fair, Legal}
 use Rattle.session_model.specs.Joined.{Joined}
 
--- a client under settings g and a server under settings h, each with the legal and fair entries of a plain session
+-- a client under settings g and a server under settings h, each with legal and fair entries
 pub record AreEnds (g h : Settings) (C S : List Entry) : Type 0 where
   pub client : g.side ≡ Client
   pub server : h.side ≡ Server
-  pub client_plain : IsPlain g
-  pub server_plain : IsPlain h
+  pub client_checked : IsChecked g
+  pub server_checked : IsChecked h
   pub client_legal : Legal g C
   pub server_legal : Legal h S
   pub client_fair : Fair g C

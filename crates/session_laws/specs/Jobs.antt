@@ -18,6 +18,7 @@ jobs_got (x ∷ past) = jobs_got past ++ got_in x.answer
 
 abbrev pub is_on : ℕ → Job → ℕ
 is_on s (job.Asked stream kind initial message complete) = one_if (stream == s)
+is_on s (job.Pushed metadata) = 0
 
 -- how many of these jobs are on a stream
 unfoldable pub jobs_on : ℕ → List Job → ℕ

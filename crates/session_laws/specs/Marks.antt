@@ -7,10 +7,10 @@ use Rattle.session_model.specs.Frames.{Mark, Sent, Got}
 abbrev pub sent : List Mark → List Frame
 sent [] = []
 sent (Sent f ∷ marks) = f ∷ sent marks
-sent (Got f ∷ marks) = sent marks
+sent (Got covered f ∷ marks) = sent marks
 
 -- the frames that are marked as handled
 abbrev pub got : List Mark → List Frame
 got [] = []
 got (Sent f ∷ marks) = got marks
-got (Got f ∷ marks) = f ∷ got marks
+got (Got covered f ∷ marks) = f ∷ got marks

@@ -54,7 +54,7 @@ reads_made most r whole =
 
 abbrev pub reads : ℕ → Reading → Seen → Reading
 reads most r (Made f) = reads_made most r (continued (r.begun (stream_of f)) f)
-reads most r (Handled f) = more_read most (option_to_list (option_map heard (arrival_in r.unfinished f)) ++ r.marks) (λ s. gathers_of f s (r.unfinished s)) r.begun
+reads most r (Handled covered f) = more_read most (option_to_list (option_map heard (arrival_in covered r.unfinished f)) ++ r.marks) (λ s. gathers_of f s (r.unfinished s)) r.begun
 
 -- what frames say, the oldest first, after these were read
 unfoldable pub reading : ℕ → Reading → List Seen → Reading

@@ -5,6 +5,7 @@ use Rattle.tape.specs.declared.entry.Entry.{Entry}
 use Rattle.stream_model.specs.Marks.{Step, Sent}
 use Rattle.stream_model.specs.Turns.{Said, Turn, ends, inbound, over}
 use Rattle.stream_model.specs.Streams.{turn}
+use Rattle.session_model.specs.Leases.{is_covered}
 use Rattle.session_model.specs.Streams.{marks_in, unfinished, words}
 use Rattle.session_model.specs.Legal.{Fair, Legal}
 
@@ -27,5 +28,5 @@ pub record EndsReceiving (g : Settings) (past : List Entry) (x : Entry) (s : ℕ
   pub there : stream g past s ≡ Some t
   pub receiving : over t.opening t.words (inbound t.opening.role) ≡ false
   pub step : Step
-  pub own : marks_in (unfinished g past) x.answer x.event ≡ Sent s step ∷ []
+  pub own : marks_in (is_covered g past) (unfinished g past) x.answer x.event ≡ Sent s step ∷ []
   pub last : ends t.opening.kind (inbound t.opening.role) (Said t.opening.role step) ≡ true

@@ -1,8 +1,8 @@
 //! The laws of a session, proved from its definitions alone.
 //!
 //! Each function here does nothing: its clauses are laws of the entries of one end (`one_end`), of
-//! its streams (`streams`), of its resumption (`resumption`), or of two ends whose bytes crossed
-//! (`two_ends`), for sessions without leases. The frames that count are those of streams, and
+//! its streams (`streams`), of its resumption (`resumption`), of its leases (`leases`), or of two ends
+//! whose bytes crossed (`two_ends`). The frames that count are those of streams, and
 //! positions count their bytes (RSocket 1.0, "Resuming Operation"). A frame is one that travels, so
 //! each fragment of a long request or payload is one; a word of a stream is a whole message, in
 //! however many fragments it travels (RSocket 1.0, "Fragmentation and Reassembly").
@@ -18,11 +18,15 @@
 //! that is due comes in the end.
 #![tactic(auto)]
 
+mod leases;
 mod one_end;
 mod resumption;
 mod streams;
 mod two_ends;
 
+pub use leases::{
+    covered_requests_stay_within_the_sum, requests_stay_within_the_lease, the_moment_never_falls,
+};
 pub use one_end::{
     closed_stays_closed, frames_are_spellable, frames_only_grow,
     no_fragment_is_longer_than_the_mtu, nothing_more_is_agreed, queued_is_what_is_left,

@@ -3,6 +3,7 @@
 ghost use Rattle.std.specs.Prelude.{◌≡◌, ◌≤◌, ◌+◌, ◌++◌, ℕ, IfSome, List, length, Some, false};
 ghost use Rattle.std.specs.List.{AllByRecursion};
 ghost use Rattle.rs_wire.specs.declared.fault.Cause.{Cause};
+ghost use Rattle.rs_wire.specs.Settings.{IsChecked};
 ghost use Rattle.rs_wire.specs.declared.settings.Settings.{Settings};
 ghost use Rattle.rs_frame.specs.Spelling.{IsSpellable};
 ghost use Rattle.rs_frame.specs.Framed.{framed_all};
@@ -12,7 +13,7 @@ ghost use Rattle.session_model.specs.Life.{closed, leases_agreed, live, resumpti
 ghost use Rattle.session_model.specs.Lists.{IsPrefix};
 ghost use Rattle.session_model.specs.Frames.{came, drawn, due, handled, made};
 ghost use Rattle.session_model.specs.Frames.{queued, refusal, seen};
-ghost use Rattle.session_model.specs.Legal.{Fair, IsPlain, Legal};
+ghost use Rattle.session_model.specs.Legal.{Fair, Legal};
 ghost use Rattle.session_laws.specs.Fragments.{FitsMtu};
 ghost use Rattle.session_laws.specs.Marks.{got, sent};
 
@@ -54,15 +55,15 @@ pub fn nothing_more_is_agreed()
         g.lease ≡ false → leases_agreed g past ≡ false }
 {}
 
-/// Every frame that a plain end makes or owes has its fields in range and a length below 2^24
+/// Every frame that an end makes or owes has its fields in range and a length below 2^24
 /// bytes, so it can be written (RSocket 1.0, "Framing Format"), where its caller asks for what can
 /// be asked; so is the ERROR that refuses a connection. What comes is so by the conditions of its
 /// events.
 pub fn frames_are_spellable()
     ensures made { (g : Settings) (past : List Entry) →
-        IsPlain g → Legal g past → Fair g past → AllByRecursion IsSpellable (made g past) }
+        IsChecked g → Legal g past → Fair g past → AllByRecursion IsSpellable (made g past) }
     ensures due { (g : Settings) (past : List Entry) (c : ℕ) →
-        IsPlain g → Legal g past → Fair g past → AllByRecursion IsSpellable (due g past c) }
+        IsChecked g → Legal g past → Fair g past → AllByRecursion IsSpellable (due g past c) }
     ensures refusal { (a : Answer) → IfSome (refusal a) IsSpellable }
     ensures came { (g : Settings) (past : List Entry) (c : ℕ) →
         Fair g past → AllByRecursion IsSpellable (came past c) }

@@ -21,17 +21,18 @@ ghost use Rattle.session_laws.specs.Resumption.{CanGoOn, CanResume, refused_resu
 /// The position that the peer told, what of the frames made is acknowledged by it, and the position
 /// from which they are held never fall.
 pub fn positions_never_fall()
-    ensures told { (more past : List Entry) → told past ≤ told (more ++ past) }
+    ensures told { (g : Settings) (more past : List Entry) → told g past ≤ told g (more ++ past) }
     ensures acked { (g : Settings) (more past : List Entry) →
-        acked (made g past) (told past)
-        ≤ acked (made g (more ++ past)) (told (more ++ past)) }
+        acked (made g past) (told g past)
+        ≤ acked (made g (more ++ past)) (told g (more ++ past)) }
     ensures first { (g : Settings) (more past : List Entry) →
         first g past ≤ first g (more ++ past) }
 {}
 
 /// The frames are held from a boundary on, not before what is acknowledged, and have no more bytes
 /// than may be held; their boundaries are those of the frames made from there on. The peer never
-/// tells a position that is no boundary of the frames made: such a resumption is refused.
+/// tells a position past the frames made: such a resumption is refused, and such a KEEPALIVE closes
+/// the session (RSocket 1.0, "KEEPALIVE Frame").
 pub fn held_frames_follow_a_boundary()
     ensures boundary { (g : Settings) (past : List Entry) →
         IsBoundary (made g past) (first g past) }
@@ -39,11 +40,11 @@ pub fn held_frames_follow_a_boundary()
         IsBoundary (made g past) p
         ↔ IsBoundary (frames_from (made g past) (first g past)) (p - first g past) }
     ensures acked { (g : Settings) (past : List Entry) →
-        acked (made g past) (told past) ≤ first g past }
+        acked (made g past) (told g past) ≤ first g past }
     ensures hold { (g : Settings) (past : List Entry) →
         pos (frames_from (made g past) (first g past)) ≤ g.hold }
     ensures told { (g : Settings) (past : List Entry) →
-        Legal g past → IsBoundary (made g past) (told past) }
+        Legal g past → told g past ≤ pos (made g past) }
 {}
 
 /// A server accepts a RESUME exactly where both ends hold what the other has not handled, on a

@@ -82,6 +82,7 @@ waits_step g t (event.Open (Some f) taken) (answer.Opened n) conn m asked waits 
     absurd (cc)
 waits_step g t e (answer.Opened n) conn m asked waits here before = absurd m
 waits_step g t e answer.Parted conn m asked waits here before = let off = (both (0 == conn) (not (0 == 0)) here).1 in absurd (cc)
+waits_step g t e (answer.Dead last) conn m asked waits here before = let off = (both (0 == conn) (not (0 == 0)) here).1 in absurd (cc)
 waits_step g t (event.Came c (frame.ResumeOk position)) answer.Handled conn m asked waits here before = absurd (cc)
 waits_step g t e a conn m asked waits here before = before waits here
 

@@ -1,5 +1,5 @@
 -- All that is made, and all that an entry puts in line, can be spelled; positions stay below their top.
-use Rattle.std.proofs.Common.{◌≤◌, ◌<◌, ◌+◌, ◌-◌, ◌^◌, ◌==◌, ℕ, Bool, true, false, cond, List, [], ◌∷◌, ◌++◌, length, max, Option, Some, None, IfSome, length-append, arith, lit<}
+use Rattle.std.proofs.Common.{◌≡◌, ◌≤◌, ◌<◌, ◌+◌, ◌-◌, ◌^◌, ◌==◌, ℕ, Bool, true, false, cond, List, [], ◌∷◌, ◌++◌, length, max, Option, Some, None, IfSome, length-append, arith, lit<}
 use Rattle.std.proofs.lemmas.Grind.{common_steps}
 use Rattle.std.specs.List.{AllByRecursion}
 use Rattle.byteorder.specs.Endian.{big_bytes}
@@ -8,6 +8,8 @@ use Rattle.rs_wire.specs.Settings.{IsChecked}
 use Rattle.rs_wire.specs.declared.fault.Gone.{Gone}
 use Rattle.rs_wire.specs.declared.fault.Rule.{Rule}
 use Rattle.rs_wire.specs.declared.settings.Settings.{Settings}
+use Rattle.rs_wire.specs.Message.{option_length}
+use Rattle.rs_wire.specs.declared.call.Call.{Call}
 use Rattle.rs_wire.specs.declared.call.Call.TheVariants as call
 use Rattle.rs_frame.specs.declared.frame.Frame.{Frame}
 use Rattle.rs_frame.specs.declared.frame.Frame.TheVariants as frame
@@ -21,14 +23,16 @@ use Rattle.tape.specs.declared.answer.Answer.{Answer}
 use Rattle.tape.specs.declared.answer.Answer.TheVariants as answer
 use Rattle.tape.specs.declared.entry.Entry.{Entry}
 use Rattle.session_model.specs.declared.numbers.TheConstants.{CONNECTION_ERROR, REJECTED_RESUME}
-use Rattle.session_model.specs.Life.{begun, carrying, told}
+use Rattle.session_model.specs.Life.{begun, carrying, resumption_agreed, told}
+use Rattle.session_model.specs.Leases.{is_covered}
 use Rattle.session_model.specs.Streams.{known}
-use Rattle.session_model.specs.Frames.{beside, closing_error, first, handled, handles, if_carrying, lines_up, made, makes, refusal, resume_frame, setup_frame}
-use Rattle.session_model.specs.Answers.{facts}
-use Rattle.session_model.specs.Legal.{Fair, IsFair, IsPlain, Legal}
+use Rattle.session_model.specs.Frames.{answers_keepalive, beside, closing_error, first, handled, handles, if_carrying, lines_up, made, makes, position_told, refusal, resume_frame, setup_frame, tells}
+use Rattle.session_model.specs.Answers.{Facts, by_size, facts, size_in}
+use Rattle.session_model.specs.Legal.{Fair, IsFair, Legal}
 use Rattle.session_model.specs.Means.{Means}
 use Rattle.session_model.proofs.Ids.{ids_fit}
 use Rattle.session_model.proofs.Meaning.{last_means}
+use Rattle.session_model.proofs.Refusals.{size_fits, unrefused}
 use Rattle.session_model.proofs.Spelled.{error_spellable, handles_fit, makes_fit, makes_spellable}
 
 -- ---- what is made
@@ -42,14 +46,14 @@ unfolding Legal Fair made facts
 made_spellable g [] checked legal fair = tt
 made_spellable g (x ∷ past) checked legal fair =
     let ids = ids_fit g past checked legal.0 fair.0 in
-    all_both IsSpellable (made g past) (makes g (known g past) x.answer x.event) (made_spellable g past checked legal.0 fair.0)
+    all_both IsSpellable (made g past) (makes g (is_covered g past) (known g past) x.answer x.event) (made_spellable g past checked legal.0 fair.0)
     (makes_spellable g (facts g past) x.event x.answer checked ids fair.1 (last_means g x past legal))
 
 pub made_within : (g : Settings) (past : List Entry) → Legal g past → pos (made g past) ≤ g.top_position
 unfolding Legal made facts pos_by
 made_within g [] legal = omega arith
 made_within g (x ∷ past) legal =
-    let new = makes g (known g past) x.answer x.event in
+    let new = makes g (is_covered g past) (known g past) x.answer x.event in
     omega (arith, pos-append length_of (made g past) new, makes_fit g (facts g past) x.event x.answer (last_means g x past legal) (made_within g past legal.0))
 
 pub handled_within : (g : Settings) (past : List Entry) → Legal g past → pos (handled past) ≤ g.top_position
@@ -61,7 +65,7 @@ handled_within g (x ∷ past) legal =
 
 -- what is held begins within what was made
 held_within : (g : Settings) (past : List Entry) → first g past ≤ pos (made g past)
-held_within g past = first_within length_of (made g past) (max (acked (made g past) (told past)) (pos (made g past) - g.hold))
+held_within g past = first_within length_of (made g past) (max (acked (made g past) (told g past)) (pos (made g past) - g.hold))
 
 -- ---- what stands beside
 
@@ -131,36 +135,81 @@ client_greets g past is =
       | false ↦ setup_spellable g is.checked
     ]
 
-beside_spellable : (g : Settings) (past : List Entry) (e : Event) (a : Answer) → InPlace g past → AllByRecursion IsSpellable (beside g past a e)
-beside_spellable g past (event.Open None taken) (answer.Opened n) is = (client_greets g past is, tt)
-beside_spellable g past (event.Open (Some (frame.Resume r)) taken) (answer.Opened n) is =
+-- a position that is told
+pub tells_below : (agreed : Bool) (handled top : ℕ) → handled ≤ top → tells agreed handled ≤ top
+tells_below true handled top h = h
+tells_below false handled top h = omega arith
+
+told_below : (g : Settings) (past : List Entry) → InPlace g past → position_told g past < 2 ^ 63
+told_below g past is =
+    let top = is.checked.top_position in
+    let below = tells_below (resumption_agreed g past) (pos (handled past)) g.top_position is.handled_below in
+    omega arith
+
+-- a KEEPALIVE that is sent, and one that answers
+pub asks_spellable : (position : ℕ) → position < 2 ^ 63 → IsSpellable (frame.Keepalive true position [])
+asks_spellable position fits = record { fields = fits; short = lit< tt }
+
+pub answers_spellable : (respond : Bool) (position came : ℕ) (content : List ℕ) → position < 2 ^ 63 → IsSpellable (frame.Keepalive respond came content) → AllByRecursion IsSpellable (answers_keepalive respond position content)
+answers_spellable false position came content fits spellable = tt
+answers_spellable true position came content fits spellable =
+    let short = spellable.short in
+    (record { fields = fits; short = omega (arith, short, length-append (big_bytes 8 came) content, length-append (big_bytes 8 position) content) }, tt)
+
+-- metadata that is pushed, and a LEASE
+pub push_spellable : (metadata : List ℕ) → length metadata ≤ 16000000 → IsSpellable (frame.MetadataPush metadata)
+push_spellable metadata small = record { fields = tt; short = omega (arith, small) }
+
+pub lease_spellable : (ttl count : ℕ) (metadata : Option (List ℕ)) → ttl < 2 ^ 31 → count < 2 ^ 31 → option_length metadata ≤ 16000000 → IsSpellable (frame.Lease ttl count metadata)
+lease_spellable ttl count None t c small = record { fields = (t, c); short = lit< tt }
+lease_spellable ttl count (Some metadata) t c small = record { fields = (t, c); short = omega (arith, small, length-append (big_bytes 4 count) metadata) }
+
+-- what a call that is not refused sends is small
+pub done_small : (g : Settings) (t : Facts) (asked : Call) → IsChecked g → by_size g asked ≡ None → size_in asked ≤ 16000000
+done_small g t asked checked none =
+    let most = checked.max_payload.below in
+    let small = size_fits g asked none in
+    omega arith
+
+beside_spellable : (g : Settings) (past : List Entry) (e : Event) (a : Answer) → InPlace g past → IsFair g e → Means g (facts g past) e a → AllByRecursion IsSpellable (beside g past a e)
+beside_spellable g past (event.Open None taken) (answer.Opened n) is fair means = (client_greets g past is, tt)
+beside_spellable g past (event.Open (Some (frame.Resume r)) taken) (answer.Opened n) is fair means =
     (ok_spellable g (pos (handled past)) is.checked is.handled_below, again_spellable (made g past) r.server_position is.spellable)
-beside_spellable g past e (answer.Opened n) is = tt
-beside_spellable g past e (answer.Violation r) is = (closing_spellable (rule_word r) (words_short r), tt)
-beside_spellable g past (event.Came conn f) (answer.ResumeRefused why) is = (closing_spellable (gone_word why) (gone_short why), tt)
-beside_spellable g past (event.Came conn (frame.ResumeOk position)) answer.Handled is = again_spellable (made g past) position is.spellable
-beside_spellable g past (event.Asked call.Close) answer.Done is =
+beside_spellable g past e (answer.Opened n) is fair means = tt
+beside_spellable g past e (answer.Violation r) is fair means = (closing_spellable (rule_word r) (words_short r), tt)
+beside_spellable g past (event.Came conn f) (answer.ResumeRefused why) is fair means = (closing_spellable (gone_word why) (gone_short why), tt)
+beside_spellable g past (event.Came conn (frame.ResumeOk position)) answer.Handled is fair means = again_spellable (made g past) position is.spellable
+beside_spellable g past (event.Came conn (frame.Keepalive respond position content)) answer.Handled is fair means =
+    answers_spellable respond (position_told g past) position content (told_below g past is) fair
+beside_spellable g past e answer.Sent is fair means = (asks_spellable (position_told g past) (told_below g past is), tt)
+beside_spellable g past (event.Asked (call.Push metadata)) answer.Done is fair means =
+    let asked = call.Push metadata in
+    (push_spellable metadata (done_small g (facts g past) asked is.checked (unrefused g (facts g past) asked means).size), tt)
+beside_spellable g past (event.Asked (call.Lease ttl count metadata)) answer.Done is fair means =
+    let asked = call.Lease ttl count metadata in
+    (lease_spellable ttl count metadata fair.1.0.1 fair.1.1.1 (done_small g (facts g past) asked is.checked (unrefused g (facts g past) asked means).size), tt)
+beside_spellable g past (event.Asked call.Close) answer.Done is fair means =
     elim (carrying g past) as (λ v. AllByRecursion IsSpellable (cond {A = List Frame} v (closing_error [] ∷ []) [])) [ true ↦ (closing_spellable [] (omega arith), tt) | false ↦ tt ]
-beside_spellable g past e a is = tt
+beside_spellable g past e a is fair means = tt
 
 carried_spellable : (carrying : Bool) (fs : List Frame) → AllByRecursion IsSpellable fs → AllByRecursion IsSpellable (if_carrying carrying fs)
 carried_spellable true fs h = h
 carried_spellable false fs h = tt
 
 -- all that an entry puts in line
-pub lines_spellable : (g : Settings) (past : List Entry) (e : Event) (a : Answer) → IsPlain g → Legal g past → Fair g past → IsFair g e → Means g (facts g past) e a → AllByRecursion IsSpellable (lines_up g past a e)
+pub lines_spellable : (g : Settings) (past : List Entry) (e : Event) (a : Answer) → IsChecked g → Legal g past → Fair g past → IsFair g e → Means g (facts g past) e a → AllByRecursion IsSpellable (lines_up g past a e)
 unfolding facts
-lines_spellable g past e a plain legal fair can means =
-    let ids = ids_fit g past plain.checked legal fair in
-    let new = makes g (known g past) a e in
+lines_spellable g past e a checked legal fair can means =
+    let ids = ids_fit g past checked legal fair in
+    let new = makes g (is_covered g past) (known g past) a e in
     let is : InPlace g past = record {
-      checked = plain.checked;
-      spellable = made_spellable g past plain.checked legal fair;
+      checked = checked;
+      spellable = made_spellable g past checked legal fair;
       made_below = made_within g past legal;
       handled_below = handled_within g past legal;
     } in
-    all_both IsSpellable (beside g past a e) (if_carrying (carrying g past) new) (beside_spellable g past e a is)
-    (carried_spellable (carrying g past) new (makes_spellable g (facts g past) e a plain.checked ids can means))
+    all_both IsSpellable (beside g past a e) (if_carrying (carrying g past) new) (beside_spellable g past e a is can means)
+    (carried_spellable (carrying g past) new (makes_spellable g (facts g past) e a checked ids can means))
 
 -- the frame that refuses a connection
 pub refusal_spelled : (a : Answer) → IfSome (refusal a) IsSpellable

@@ -1,5 +1,5 @@
 -- What holds where a frame breaks no rule: each row of the rules alone, for each kind of frame.
-use Rattle.std.proofs.Common.{◌≡◌, ◌≤◌, ◌+◌, ℕ, Bool, true, false, None, arith}
+use Rattle.std.proofs.Common.{◌≡◌, ◌≤◌, ◌+◌, ℕ, Bool, true, false, List, Some, None, arith}
 use Rattle.std.proofs.lemmas.Grind.{common_steps}
 use Rattle.rs_wire.specs.Message.{size_of}
 use Rattle.rs_wire.specs.declared.settings.Settings.{Settings}
@@ -12,9 +12,9 @@ use Rattle.stream_model.specs.Known.{is_peers_next, hears_on}
 use Rattle.stream_model.specs.Arriving.{over_credit_on}
 use Rattle.session_model.specs.declared.numbers.TheConstants.{MAY_IGNORE}
 use Rattle.fragment.specs.Joining.{Gathered, with_part}
-use Rattle.session_model.specs.Streams.{is_turned_away}
+use Rattle.session_model.specs.Streams.{turned_away_for}
 use Rattle.session_model.specs.Frames.{turned_away}
-use Rattle.session_model.specs.Answers.{Facts, broken_rule, payload_rule}
+use Rattle.session_model.specs.Answers.{Facts, broken_rule, covered_by, is_ahead, payload_rule}
 use Rattle.session_model.specs.Means.{MayCome}
 
 -- a frame finds its place in the position of the frames handled
@@ -26,7 +26,7 @@ pub record RequestUnbroken (g : Settings) (t : Facts) (r : Request) : Type 0 whe
   pub small : size_of r.message ≤ g.max_payload
   pub handled : HandledFits g t (frame.Request r)
   -- the ERROR that answers it, where it opens no stream, finds its place too
-  pub answered : is_turned_away g t.streams r ≡ true → t.made.position + length_of (turned_away r.stream) ≤ g.top_position
+  pub answered : (word : List ℕ) → turned_away_for g (covered_by g t) t.streams r ≡ Some word → t.made.position + length_of (turned_away r.stream word) ≤ g.top_position
 
 -- a payload that makes so much of its message
 pub record PayloadUnbroken (g : Settings) (t : Facts) (s : ℕ) (follows : Bool) (sum : Gathered) (f : Frame) : Type 0 where
@@ -43,6 +43,9 @@ Unbroken g t (frame.Payload s follows complete next message) =
 Unbroken g t (frame.RequestN s n) = HandledFits g t (frame.RequestN s n)
 Unbroken g t (frame.Cancel s) = HandledFits g t (frame.Cancel s)
 Unbroken g t (frame.Error s code content) = HandledFits g t (frame.Error s code content)
+Unbroken g t (frame.Keepalive respond position content) = is_ahead g t position ≡ false
+Unbroken g t (frame.Lease ttl count metadata) = Unit {0}
+Unbroken g t (frame.MetadataPush metadata) = Unit {0}
 Unbroken g t (frame.Unknown stream number flags rest) = flag MAY_IGNORE flags ≡ true
 Unbroken g t (frame.Ext stream flags extended rest) = flag MAY_IGNORE flags ≡ true
 Unbroken g t _ = ⊥
@@ -54,7 +57,7 @@ request_unbroken g t r none =
       next = grind (arith, common_steps);
       small = grind (arith, common_steps);
       handled = grind (arith, common_steps);
-      answered = λ is. grind (arith, common_steps);
+      answered = λ word is. grind (arith, common_steps);
     }
 
 payload_unbroken : (g : Settings) (t : Facts) (s : ℕ) (follows : Bool) (sum : Gathered) (f : Frame) → payload_rule g t s follows sum f ≡ None → PayloadUnbroken g t s follows sum f
@@ -72,6 +75,9 @@ unbroken g t (frame.Payload s follows complete next message) none = payload_unbr
 unbroken g t (frame.RequestN s n) none = grind (arith, common_steps)
 unbroken g t (frame.Cancel s) none = grind (arith, common_steps)
 unbroken g t (frame.Error s code content) none = grind (arith, common_steps)
+unbroken g t (frame.Keepalive respond position content) none = grind (arith, common_steps)
+unbroken g t (frame.Lease ttl count metadata) none = tt
+unbroken g t (frame.MetadataPush metadata) none = tt
 unbroken g t (frame.Unknown stream number flags rest) none = grind (arith, common_steps)
 unbroken g t (frame.Ext stream flags extended rest) none = grind (arith, common_steps)
 unbroken g t f none = absurd (cc)

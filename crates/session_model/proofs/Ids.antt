@@ -23,6 +23,7 @@ use Rattle.stream_model.specs.Known.{Known, known as known_after, highest_at, li
 use Rattle.stream_model.specs.Arriving.{heard}
 use Rattle.stream_model.specs.Refused.{by_ids}
 use Rattle.fragment.specs.Joining.{Gathered}
+use Rattle.session_model.specs.Leases.{is_covered}
 use Rattle.session_model.specs.Streams.{arrival_in, heard_in, known, marks_in, unfinished, words}
 use Rattle.session_model.specs.Answers.{Facts, facts}
 use Rattle.session_model.specs.Legal.{Fair, IsFair, Legal}
@@ -62,25 +63,26 @@ started_fits g t kind initial message complete id checked starts =
 raised : (parity s before : ℕ) → s < 2 ^ 31 → before < 2 ^ 31 → higher parity s before < 2 ^ 31
 raised parity s before fits below = grind (arith, common_steps)
 
-heard_below : (held : ℕ → Gathered) (f : Frame) (seen : List Mark) (parity : ℕ) → IsSpellable f → highest parity seen < 2 ^ 31
-    → highest parity (option_to_list (option_map heard (arrival_in held f)) ++ seen) < 2 ^ 31
+heard_below : (covered : Bool) (held : ℕ → Gathered) (f : Frame) (seen : List Mark) (parity : ℕ) → IsSpellable f → highest parity seen < 2 ^ 31
+    → highest parity (option_to_list (option_map heard (arrival_in covered held f)) ++ seen) < 2 ^ 31
 unfolding highest
-heard_below held (frame.Request r) seen parity spellable before = raised parity r.stream (highest parity seen) spellable.fields.0.1 before
-heard_below held f seen parity spellable before = grind (arith, common_steps)
+heard_below true held (frame.Request r) seen parity spellable before = raised parity r.stream (highest parity seen) spellable.fields.0.1 before
+heard_below false held (frame.Request r) seen parity spellable before = raised parity r.stream (highest parity seen) spellable.fields.0.1 before
+heard_below covered held f seen parity spellable before = grind (arith, common_steps)
 
-highest_after : (g : Settings) (t : Facts) (held : ℕ → Gathered) (a : Answer) (e : Event) (seen : List Mark) (parity : ℕ) → IsChecked g → IsFair g e → Means g t e a
-    → highest parity seen < 2 ^ 31 → highest parity (marks_in held a e ++ seen) < 2 ^ 31
+highest_after : (g : Settings) (t : Facts) (covered : Bool) (held : ℕ → Gathered) (a : Answer) (e : Event) (seen : List Mark) (parity : ℕ) → IsChecked g → IsFair g e → Means g t e a
+    → highest parity seen < 2 ^ 31 → highest parity (marks_in covered held a e ++ seen) < 2 ^ 31
 unfolding highest
-highest_after g t held (answer.Started id) (event.Asked (call.Request kind initial message complete)) seen parity checked fair means before =
+highest_after g t covered held (answer.Started id) (event.Asked (call.Request kind initial message complete)) seen parity checked fair means before =
     raised parity id (highest parity seen) (started_fits g t kind initial message complete id checked means).1 before
-highest_after g t held answer.Handled (event.Came conn f) seen parity checked fair means before = heard_below held f seen parity fair before
-highest_after g t held a e seen parity checked fair means before = grind (arith, common_steps)
+highest_after g t covered held answer.Handled (event.Came conn f) seen parity checked fair means before = heard_below covered held f seen parity fair before
+highest_after g t covered held a e seen parity checked fair means before = grind (arith, common_steps)
 
 highest_below : (g : Settings) (past : List Entry) (parity : ℕ) → IsChecked g → Legal g past → Fair g past → highest parity (words g past) < 2 ^ 31
 unfolding Legal Fair heard_in highest
 highest_below g [] parity checked legal fair = omega arith
 highest_below g (x ∷ past) parity checked legal fair =
-    highest_after g (facts g past) (unfinished g past) x.answer x.event (words g past) parity checked fair.1 (last_means g x past legal) (highest_below g past parity checked legal.0 fair.0)
+    highest_after g (facts g past) (is_covered g past) (unfinished g past) x.answer x.event (words g past) parity checked fair.1 (last_means g x past legal) (highest_below g past parity checked legal.0 fair.0)
 
 pub ids_fit : (g : Settings) (past : List Entry) → IsChecked g → Legal g past → Fair g past → IdsFit (known g past)
 unfolding known_after

@@ -9,3 +9,4 @@ pub mod Spelled
 pub mod Beside
 pub mod Fairness
 pub mod Silent
+pub mod Stepping

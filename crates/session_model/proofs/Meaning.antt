@@ -1,5 +1,5 @@
 -- Each answer has its meaning.
-use Rattle.std.proofs.Common.{◌≡◌, ◌+◌, ◌&&◌, ℕ, Bool, true, false, not, cond, List, ◌∷◌, Option, Some, None, refl, subst, sym, arith}
+use Rattle.std.proofs.Common.{◌≡◌, ◌+◌, ◌&&◌, ◌||◌, ◌==◌, ℕ, Bool, true, false, not, cond, List, [], ◌∷◌, Option, Some, None, is_some, refl, subst, sym, arith}
 use Rattle.std.specs.Prelude.{nat_lt}
 use Rattle.std.proofs.lemmas.Grind.{common_steps}
 use Rattle.rs_wire.specs.Settings.{out_limit_of}
@@ -26,10 +26,12 @@ use Rattle.tape.specs.declared.entry.Entry.{Entry}
 use Rattle.stream_model.specs.Known.{front_of}
 use Rattle.session_model.specs.declared.numbers.TheConstants.{ANSWER_ROOM}
 use Rattle.session_model.specs.Life.{is_live}
-use Rattle.session_model.specs.Answers.{Facts, facts, answer_by, refused_call, refused_or, accepted, got, got_job}
+use Rattle.session_model.specs.Answers.{Facts, facts, answer_by, asks_alive, due_now, find_full, refused_call, refused_or, accepted, got, got_job, to_due}
 use Rattle.session_model.specs.Answers.{broken_rule, handled_unless, handled_unless_gone, ok_gone, opened_unless, opened_unless_gone, peer_error, resume_gone, to_first, to_known, unless_busy, unless_closed, unless_error, waiting_rule}
 use Rattle.session_model.specs.Legal.{Legal}
-use Rattle.session_model.specs.Means.{Handling, Means}
+use Rattle.session_model.specs.Means.{Handling, Lives, Means}
+use Rattle.keepalive.specs.declared.timer.Due.{Due}
+use Rattle.keepalive.specs.declared.timer.Due.TheVariants.{Dead, Send, Nothing}
 
 -- what is taken waits first
 taken : (g : Settings) (t : Facts) (s : ℕ) (first : Option Delivery) → front_of (t.streams.waits s) ≡ first → Means g t (event.Asked (call.Take s)) (got first)
@@ -48,6 +50,8 @@ called g t (call.Done s) None is = is
 called g t (call.Grant s n) None is = is
 called g t (call.Cancel s) None is = is
 called g t (call.Fail s code content) None is = is
+called g t (call.Push metadata) None is = is
+called g t (call.Lease ttl count metadata) None is = is
 called g t (call.Take s) None is = taken g t s (front_of (t.streams.waits s)) refl
 called g t call.TakeJob None is = job_taken g t (front_of t.streams.jobs) refl
 called g t call.Close None is = is
@@ -127,6 +131,25 @@ came_means : (g : Settings) (t : Facts) (conn : ℕ) (f : Frame) (live : Bool) �
 came_means g t conn f true here = open_means g t conn f t.closed refl here
 came_means g t conn f false stray = stray
 
+-- ---- a tick
+
+sent_means : (g : Settings) (t : Facts) (now : ℕ) (carries full : Bool) → t.carrying ≡ carries → find_full g t (asks_alive g t ∷ []) ≡ full → Lives t → due_now t (event.Tick now) ≡ Send
+    → Means g t (event.Tick now) (cond (carries && not full) answer.Sent answer.Quiet)
+sent_means g t now true false on place lives due = record { lives = lives; carries = on; place = place; due = due }
+sent_means g t now true true on place lives due = tt
+sent_means g t now false full on place lives due = tt
+
+due_means : (g : Settings) (t : Facts) (now : ℕ) (due : Due) → due_now t (event.Tick now) ≡ due → Lives t → Means g t (event.Tick now) (to_due g t due)
+due_means g t now (Dead last) is lives = record { lives = lives; due = is }
+due_means g t now Send is lives = sent_means g t now t.carrying (find_full g t (asks_alive g t ∷ [])) refl refl lives is
+due_means g t now Nothing is lives = tt
+
+tick_means : (g : Settings) (t : Facts) (now : ℕ) (none : Bool) (why : Option Cause) → (t.live == 0) ≡ none → t.closed ≡ why
+    → Means g t (event.Tick now) (cond (none || is_some why) answer.Quiet (to_due g t (due_now t (event.Tick now))))
+tick_means g t now true why none is = tt
+tick_means g t now false (Some cause) none is = tt
+tick_means g t now false None none is = due_means g t now (due_now t (event.Tick now)) refl (record { here = none; free = is })
+
 pub meaning : (g : Settings) (t : Facts) (e : Event) → Means g t e (answer_by g t e)
 meaning g t (event.Asked asked) = called g t asked (refused_call g t asked) refl
 meaning g t (event.Open first taken) = opening_means g t first taken t.closed refl
@@ -134,6 +157,7 @@ meaning g t (event.Cut conn) = grind (arith, common_steps)
 meaning g t (event.Draw conn room) = grind (arith, common_steps)
 meaning g t (event.Came conn f) = came_means g t conn f (is_live t.live conn) refl
 meaning g t (event.Bad conn number) = grind (arith, common_steps)
+meaning g t (event.Tick now) = tick_means g t now (t.live == 0) t.closed refl refl
 
 -- the newest answer has its meaning
 pub last_means : (g : Settings) (x : Entry) (past : List Entry) → Legal g (x ∷ past) → Means g (facts g past) x.event x.answer

@@ -11,7 +11,7 @@ use Rattle.tape.specs.declared.event.Event.TheVariants as event
 use Rattle.tape.specs.declared.answer.Answer.{Answer}
 use Rattle.tape.specs.declared.answer.Answer.TheVariants as answer
 use Rattle.session_model.specs.Frames.{in_fragments, makes, sent_as, spoken}
-use Rattle.session_model.specs.Answers.{Facts, by_closed, refused_sending}
+use Rattle.session_model.specs.Answers.{Facts, by_closed, covered_by, refused_sending}
 use Rattle.session_model.specs.Means.{Means}
 use Rattle.session_model.proofs.Refusals.{can_send, unrefused}
 use Rattle.session_model.proofs.Spelled.{done_passes, done_sends}
@@ -21,7 +21,7 @@ unsent : (g : Settings) (t : Facts) (o : Option Frame) → refused_sending g t o
 unsent g t None none fresh = refl
 unsent g t (Some f) none fresh = let begun = (can_send g t (in_fragments g.mtu f) none).begun in absurd (cc)
 
-pub silent_before : (g : Settings) (t : Facts) (e : Event) (a : Answer) → Means g t e a → t.begun ≡ false → t.live ≡ 0 → makes g t.streams a e ≡ []
+pub silent_before : (g : Settings) (t : Facts) (e : Event) (a : Answer) → Means g t e a → t.begun ≡ false → t.live ≡ 0 → makes g (covered_by g t) t.streams a e ≡ []
 silent_before g t (event.Asked (call.Request kind initial message complete)) (answer.Started id) means fresh none =
     let asked = call.Request kind initial message complete in
     let sends = (unrefused g t asked means.accepted).sending in
@@ -37,7 +37,7 @@ silent_before g t e a means fresh none = refl
 closed_unsent : (g : Settings) (t : Facts) (asked : Call) (id : ℕ) (why : Cause) → by_closed t asked ≡ None → t.closed ≡ Some why → sent_as g (spoken t.streams id asked) ≡ []
 closed_unsent g t asked id why none is = grind (arith, common_steps)
 
-pub silent_closed : (g : Settings) (t : Facts) (e : Event) (a : Answer) (why : Cause) → Means g t e a → t.closed ≡ Some why → makes g t.streams a e ≡ []
+pub silent_closed : (g : Settings) (t : Facts) (e : Event) (a : Answer) (why : Cause) → Means g t e a → t.closed ≡ Some why → makes g (covered_by g t) t.streams a e ≡ []
 silent_closed g t (event.Asked (call.Request kind initial message complete)) (answer.Started id) why means is =
     let asked = call.Request kind initial message complete in
     closed_unsent g t asked id why (unrefused g t asked means.accepted).open_session is

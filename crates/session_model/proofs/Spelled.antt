@@ -9,26 +9,30 @@ use Rattle.rs_wire.specs.Calls.{CanBeAsked}
 use Rattle.rs_wire.specs.Ranges.{is_between}
 use Rattle.rs_wire.specs.Settings.{IsChecked, fault_of}
 use Rattle.rs_wire.specs.declared.words.Kind.{Kind}
+use Rattle.rs_wire.specs.declared.words.Side.{Side}
 use Rattle.rs_wire.specs.declared.message.Message.{Message}
 use Rattle.rs_wire.specs.declared.settings.Settings.{Settings}
 use Rattle.rs_wire.specs.declared.call.Call.{Call}
 use Rattle.rs_wire.specs.declared.call.Call.TheVariants as call
 use Rattle.rs_frame.specs.declared.frame.Frame.{Frame}
 use Rattle.rs_frame.specs.declared.frame.Frame.TheVariants as frame
+use Rattle.rs_frame.specs.declared.frame.Request.{Request}
 use Rattle.rs_frame.specs.Spelling.{IsSpellable, IsStream, InitialFits, MessageFits, payload, is_resumable, length_of}
 use Rattle.position.specs.Boundaries.{pos, pos_by}
 use Rattle.tape.specs.declared.event.Event.{Event}
 use Rattle.tape.specs.declared.event.Event.TheVariants as event
 use Rattle.tape.specs.declared.answer.Answer.{Answer}
 use Rattle.tape.specs.declared.answer.Answer.TheVariants as answer
-use Rattle.stream_model.specs.Known.{Known, highest_at, is_open_response}
+use Rattle.stream_model.specs.Known.{Known, highest_at, is_open_response, is_peers_next}
 use Rattle.stream_model.specs.Refused.{by_state}
 use Rattle.stream_model.specs.Arriving.{no_message}
 use Rattle.fragment.specs.Splitting.{IsMtu, IsSplittable, follows_of, split_of}
 use Rattle.fragment.proofs.Cuts.{first_spellable, rest_spellable}
 use Rattle.fragment.proofs.Splits.{by_cuts}
-use Rattle.session_model.specs.Frames.{request_frame, turned_away, spoken, in_fragments, sent_as, makes, handles}
-use Rattle.session_model.specs.Answers.{Facts, refused_sending}
+use Rattle.session_model.specs.declared.numbers.TheConstants.{REJECTED}
+use Rattle.session_model.specs.Streams.{turned_away_for}
+use Rattle.session_model.specs.Frames.{request_frame, turned_away, turned_away_with, spoken, in_fragments, sent_as, makes, handles}
+use Rattle.session_model.specs.Answers.{Facts, covered_by, refused_sending}
 use Rattle.session_model.specs.Legal.{AmountsFit, IsFair}
 use Rattle.session_model.specs.Means.{Does, Means}
 use Rattle.session_model.proofs.Refusals.{Unrefused, unrefused, size_fits, can_send, names}
@@ -131,17 +135,29 @@ spoken_spellable g t id (call.Fail s code content) checked ids fair stream u =
     let small = size_fits g (call.Fail s code content) u.size in
     let is = fair.0 in
     error_spellable s code content (named t.streams s ids n.above n.below).1 (grind (arith, common_steps)) (omega arith)
+spoken_spellable g t id (call.Push metadata) checked ids fair stream u = tt
+spoken_spellable g t id (call.Lease ttl count metadata) checked ids fair stream u = tt
 spoken_spellable g t id (call.Take s) checked ids fair stream u = tt
 spoken_spellable g t id call.TakeJob checked ids fair stream u = tt
 spoken_spellable g t id call.Close checked ids fair stream u = tt
 
 -- ---- what an entry makes
 
-turned_away_spellable : (s : ℕ) → s < 2 ^ 31 → IsSpellable (turned_away s)
-turned_away_spellable s fits = record { fields = (fits, lit< tt); short = lit< tt }
+-- the word of why a request is turned away is short
+abbrev pub IsWord : Option (List ℕ) → Type 0
+IsWord None = Unit {0}
+IsWord (Some word) = length word ≤ 16000000
 
-answer_spellable : (g : Settings) (t : Facts) (conn : ℕ) (f : Frame) → IsSpellable f → AllByRecursion IsSpellable (makes g t.streams answer.Handled (event.Came conn f))
-answer_spellable g t conn (frame.Request r) spellable = let turned = turned_away_spellable r.stream spellable.fields.0.1 in grind (arith, common_steps)
+word_short : (g : Settings) (covered : Bool) (t : Known) (r : Request) → IsWord (turned_away_for g covered t r)
+word_short g covered t r = grind (arith, common_steps)
+
+away_spellable : (s : ℕ) (word : Option (List ℕ)) → s < 2 ^ 31 → IsWord word → AllByRecursion IsSpellable (turned_away_with s word)
+away_spellable s None fits short = tt
+away_spellable s (Some word) fits short = (error_spellable s REJECTED word fits (lit< tt) short, tt)
+
+answer_spellable : (g : Settings) (t : Facts) (conn : ℕ) (f : Frame) → IsSpellable f → AllByRecursion IsSpellable (makes g (covered_by g t) t.streams answer.Handled (event.Came conn f))
+answer_spellable g t conn (frame.Request r) spellable =
+    away_spellable r.stream (turned_away_for g (covered_by g t) t.streams r) spellable.fields.0.1 (word_short g (covered_by g t) t.streams r)
 answer_spellable g t conn f spellable = tt
 
 -- a call that starts nothing and takes nothing is not refused
@@ -152,6 +168,8 @@ done_passes g t (call.Done s) does = unrefused g t (call.Done s) does
 done_passes g t (call.Grant s n) does = unrefused g t (call.Grant s n) does
 done_passes g t (call.Cancel s) does = unrefused g t (call.Cancel s) does
 done_passes g t (call.Fail s code content) does = unrefused g t (call.Fail s code content) does
+done_passes g t (call.Push metadata) does = unrefused g t (call.Push metadata) does
+done_passes g t (call.Lease ttl count metadata) does = unrefused g t (call.Lease ttl count metadata) does
 done_passes g t (call.Take s) does = absurd does
 done_passes g t call.TakeJob does = absurd does
 done_passes g t call.Close does = unrefused g t call.Close does
@@ -167,7 +185,7 @@ done_spellable g t asked checked ids fair does =
     rw (← done_same g t asked 1 does) (spoken_spellable g t 1 asked checked ids fair (lit< tt, lit< tt) (done_passes g t asked does))
 
 -- the frames that an entry makes
-pub makes_spellable : (g : Settings) (t : Facts) (e : Event) (a : Answer) → IsChecked g → IdsFit t.streams → IsFair g e → Means g t e a → AllByRecursion IsSpellable (makes g t.streams a e)
+pub makes_spellable : (g : Settings) (t : Facts) (e : Event) (a : Answer) → IsChecked g → IdsFit t.streams → IsFair g e → Means g t e a → AllByRecursion IsSpellable (makes g (covered_by g t) t.streams a e)
 makes_spellable g t (event.Asked (call.Request kind initial message complete)) (answer.Started id) checked ids fair means =
     let asked = call.Request kind initial message complete in
     sent_spellable g (spoken t.streams id asked) checked (spoken_whole t.streams id asked) (spoken_spellable g t id asked checked ids fair (started_fits g t kind initial message complete id checked means) (unrefused g t asked means.accepted))
@@ -199,14 +217,23 @@ spoken_counts : (g : Settings) (t : Facts) (id : ℕ) (asked : Call) → by_stat
 spoken_counts g t id (call.Fail s code content) none = let n = (names t.streams s _ none).above in grind (arith, common_steps)
 spoken_counts g t id asked none = grind (arith, common_steps)
 
+-- the id of a request of the peer's is above 0
+next_some : (side : Side) (t : Known) (s : ℕ) → is_peers_next side t s ≡ true → 0 < s
+next_some side t s is = grind (arith, common_steps)
+
+away_counts : (s : ℕ) (word : Option (List ℕ)) → 0 < s → filter is_resumable (turned_away_with s word) ≡ turned_away_with s word
+away_counts s None above = refl
+away_counts s (Some word) above = grind (arith, common_steps)
+
 -- and each that an entry makes
-pub makes_count : (g : Settings) (t : Facts) (e : Event) (a : Answer) → IsChecked g → Means g t e a → filter is_resumable (makes g t.streams a e) ≡ makes g t.streams a e
+pub makes_count : (g : Settings) (t : Facts) (e : Event) (a : Answer) → IsChecked g → Means g t e a → filter is_resumable (makes g (covered_by g t) t.streams a e) ≡ makes g (covered_by g t) t.streams a e
 makes_count g t (event.Asked (call.Request kind initial message complete)) (answer.Started id) checked means =
     let asked = call.Request kind initial message complete in
     sent_count g (spoken t.streams id asked) checked (spoken_whole t.streams id asked) refl
 makes_count g t (event.Asked asked) answer.Done checked means =
     sent_count g (spoken t.streams 0 asked) checked (spoken_whole t.streams 0 asked) (spoken_counts g t 0 asked (done_passes g t asked means).state)
-makes_count g t (event.Came conn (frame.Request r)) answer.Handled checked means = let next = (unbroken g t (frame.Request r) means.may.1).next in grind (arith, common_steps)
+makes_count g t (event.Came conn (frame.Request r)) answer.Handled checked means =
+    away_counts r.stream (turned_away_for g (covered_by g t) t.streams r) (next_some g.side t.streams r.stream (unbroken g t (frame.Request r) means.may.1).next)
 makes_count g t e a checked means = grind (arith, common_steps)
 
 -- ---- positions
@@ -220,10 +247,18 @@ spoken_fits g t (Some f) none below = (can_send g t (in_fragments g.mtu f) none)
 pub done_sends : (g : Settings) (t : Facts) (asked : Call) → Does g t (event.Asked asked) → refused_sending g t (spoken t.streams 0 asked) ≡ None
 done_sends g t (call.Request kind initial message complete) does = absurd does
 done_sends g t call.Close does = refl
+done_sends g t (call.Push metadata) does = refl
+done_sends g t (call.Lease ttl count metadata) does = refl
 done_sends g t asked does = (done_passes g t asked does).sending
 
+away_fits : (made top s : ℕ) (away : Option (List ℕ)) {why : Option (List ℕ)} → why ≡ away → ((word : List ℕ) → why ≡ Some word → made + length_of (turned_away s word) ≤ top) → made ≤ top
+    → made + pos (turned_away_with s away) ≤ top
+unfolding pos_by
+away_fits made top s None is answered below = omega (arith, below)
+away_fits made top s (Some word) is answered below = let fits = answered word is in omega (arith, fits)
+
 -- and the frames that an entry makes
-pub makes_fit : (g : Settings) (t : Facts) (e : Event) (a : Answer) → Means g t e a → t.made.position ≤ g.top_position → t.made.position + pos (makes g t.streams a e) ≤ g.top_position
+pub makes_fit : (g : Settings) (t : Facts) (e : Event) (a : Answer) → Means g t e a → t.made.position ≤ g.top_position → t.made.position + pos (makes g (covered_by g t) t.streams a e) ≤ g.top_position
 unfolding pos_by
 makes_fit g t (event.Asked (call.Request kind initial message complete)) (answer.Started id) means below =
     let asked = call.Request kind initial message complete in
@@ -232,7 +267,8 @@ makes_fit g t (event.Asked (call.Request kind initial message complete)) (answer
 makes_fit g t e (answer.Started id) means below = absurd means
 makes_fit g t (event.Asked asked) answer.Done means below = spoken_fits g t (spoken t.streams 0 asked) (done_sends g t asked means) below
 makes_fit g t e answer.Done means below = absurd means
-makes_fit g t (event.Came conn (frame.Request r)) answer.Handled means below = let answered = (unbroken g t (frame.Request r) means.may.1).answered in grind (arith, common_steps)
+makes_fit g t (event.Came conn (frame.Request r)) answer.Handled means below =
+    away_fits t.made.position g.top_position r.stream (turned_away_for g (covered_by g t) t.streams r) refl (unbroken g t (frame.Request r) means.may.1).answered below
 makes_fit g t e a means below = grind (arith, common_steps)
 
 -- and the frames that an entry handles

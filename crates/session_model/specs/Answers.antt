@@ -1,7 +1,7 @@
 -- The answer to an event, after the entries so far.
-use Rattle.std.specs.Prelude.{ℕ, ◌+◌, ◌==◌, ◌&&◌, ◌||◌, Bool, true, not, nat_lt, min, if◌then◌else◌, List, [], ◌∷◌, length, Option, Some, None}
+use Rattle.std.specs.Prelude.{ℕ, ◌+◌, ◌==◌, ◌&&◌, ◌||◌, Bool, true, false, not, nat_lt, min, if◌then◌else◌, List, [], ◌∷◌, length, Option, Some, None, is_some}
 use Rattle.std.specs.Option.{option_or, option_map}
-use Rattle.rs_wire.specs.Message.{size_of}
+use Rattle.rs_wire.specs.Message.{option_length, size_of}
 use Rattle.rs_wire.specs.Ranges.{first_true}
 use Rattle.rs_wire.specs.Settings.{out_limit_of}
 use Rattle.rs_wire.specs.declared.message.Message.{Message}
@@ -39,11 +39,21 @@ use Rattle.resume_core.specs.Resumption.{resume_fault, ok_fault}
 use Rattle.stream_model.specs.Known.{Known, limits_of, next_id, is_peers_next, hears_on, front_of}
 use Rattle.stream_model.specs.Refused.{by_state, by_credit, by_ids, by_live}
 use Rattle.stream_model.specs.Arriving.{over_credit_on}
-use Rattle.session_model.specs.Life.{openings, live, is_live, carrying, begun, setup, closed, asked_token}
+use Rattle.keepalive.specs.Times.{Times, due_at}
+use Rattle.keepalive.specs.declared.timer.Due.{Due}
+use Rattle.keepalive.specs.declared.timer.Due.TheVariants.{Dead, Send, Nothing}
+use Rattle.lease.specs.Lease.{lease_fault}
+use Rattle.lease.specs.Sum.{Sum}
+use Rattle.lease.specs.declared.requester.Terms.{Terms}
+use Rattle.lease.specs.declared.requester.LeaseFault.{LeaseFault}
+use Rattle.lease.specs.declared.requester.LeaseFault.TheVariants.{Used, Over}
+use Rattle.session_model.specs.Life.{openings, live, is_live, carrying, begun, setup, closed, agrees_leases, agrees_resumption, asked_token}
+use Rattle.session_model.specs.Moments.{moment_with, times}
+use Rattle.session_model.specs.Leases.{covers, lease, sum}
 use Rattle.session_model.specs.declared.facts.Counted.{Counted}
 use Rattle.session_model.specs.declared.numbers.TheConstants.{ANSWER_ROOM, EXTENSION, MAY_IGNORE}
-use Rattle.session_model.specs.Streams.{known, unfinished, is_turned_away}
-use Rattle.session_model.specs.Frames.{closing_error, turned_away, spoken, in_fragments, made, handled, held_from, is_held_boundary, queued}
+use Rattle.session_model.specs.Streams.{known, unfinished, turned_away_for}
+use Rattle.session_model.specs.Frames.{closing_error, turned_away, spoken, in_fragments, made, handled, held_from, is_held_boundary, queued, tells}
 
 -- how many frames there are, and the position after them
 abbrev pub counted : List Frame → Counted
@@ -67,6 +77,12 @@ pub record Facts : Type 0 where
   pub boundary : ℕ → Bool
   -- how many bytes wait to be drawn
   pub queued : ℕ
+  -- by which the peer counts as dead, and a KEEPALIVE is due, with the moment
+  pub times : Times
+  -- by which this end may make requests
+  pub lease : Option Terms
+  -- of what this end lets its peer ask
+  pub sum : Sum
   pub streams : Known
   -- what came, on a stream, of a message that is not whole yet
   pub unfinished : ℕ → Gathered
@@ -85,9 +101,20 @@ facts g past = record {
   first = held_from g past;
   boundary = is_held_boundary g past;
   queued = queued g past;
+  times = times g past;
+  lease = lease g past;
+  sum = sum g past;
   streams = known g past;
   unfinished = unfinished g past;
 }
+
+-- leases are agreed
+abbrev pub leases_by : Settings → Facts → Bool
+leases_by g t = agrees_leases g t.setup
+
+-- the next request of the peer's is covered
+abbrev pub covered_by : Settings → Facts → Bool
+covered_by g t = covers (leases_by g t) t.sum
 
 -- ---- resumption (RSocket 1.0, "Resuming Operation")
 
@@ -161,9 +188,17 @@ unknown_type number flags = if flag MAY_IGNORE flags then None else Some (rule.U
 abbrev pub spends : Settings → Facts → Frame → Bool
 spends g t f = nat_lt g.top_position (t.handled.position + length_of f)
 
+-- a KEEPALIVE tells a position above that of the frames made, where resumption is agreed
+abbrev pub is_ahead : Settings → Facts → ℕ → Bool
+is_ahead g t position = agrees_resumption g t.setup && nat_lt t.made.position position
+
 -- the position of the frames made would pass the top by the answer to a request that opens no stream
+abbrev pub spends_away : Settings → Facts → ℕ → Option (List ℕ) → Bool
+spends_away g t stream None = false
+spends_away g t stream (Some word) = nat_lt g.top_position (t.made.position + length_of (turned_away stream word))
+
 abbrev pub answer_spends : Settings → Facts → Request → Bool
-answer_spends g t r = is_turned_away g t.streams r && nat_lt g.top_position (t.made.position + length_of (turned_away r.stream))
+answer_spends g t r = spends_away g t r.stream (turned_away_for g (covered_by g t) t.streams r)
 
 -- a message is taken in, and has too many bytes
 abbrev pub is_too_large : Settings → Bool → Message → Bool
@@ -193,6 +228,9 @@ broken_rule g t (frame.Payload s follows complete next message) =
 broken_rule g t (frame.RequestN s n) = first_true ((spends g t (frame.RequestN s n), rule.PositionSpent) ∷ [])
 broken_rule g t (frame.Cancel s) = first_true ((spends g t (frame.Cancel s), rule.PositionSpent) ∷ [])
 broken_rule g t (frame.Error s code content) = first_true ((spends g t (frame.Error s code content), rule.PositionSpent) ∷ [])
+broken_rule g t (frame.Keepalive respond position content) = first_true ((is_ahead g t position, rule.Ahead t.made.position) ∷ [])
+broken_rule g t (frame.Lease ttl count metadata) = None
+broken_rule g t (frame.MetadataPush metadata) = None
 broken_rule g t (frame.Unknown stream number flags rest) = unknown_type number flags
 broken_rule g t (frame.Ext stream flags extended rest) = unknown_type EXTENSION flags
 broken_rule g t _ = Some rule.NotNow
@@ -225,11 +263,32 @@ to_frame g t conn f = on_live t conn (unless_closed t.closed (unless_busy g t (l
 abbrev pub to_bad : Settings → Facts → ℕ → ℕ → Answer
 to_bad g t conn number = on_live t conn (unless_closed t.closed (unless_busy g t 0 (answer.Violation (rule.BadFrame number))))
 
--- ---- a call
+-- ---- queueing
 
 -- frames go out at once, and find no room in the queue for themselves and their length fields
 abbrev pub find_full : Settings → Facts → List Frame → Bool
 find_full g t fs = t.carrying && nat_lt (out_limit_of g) (t.queued + length (framed_all fs))
+
+-- ---- a tick (RSocket 1.0, "KEEPALIVE Frame")
+
+-- the KEEPALIVE that asks for an answer
+abbrev pub asks_alive : Settings → Facts → Frame
+asks_alive g t = frame.Keepalive true (tells (agrees_resumption g t.setup) t.handled.position) []
+
+-- it goes out where the connection carries and the queue has room for it
+abbrev pub to_due : Settings → Facts → Due → Answer
+to_due g t (Dead last) = answer.Dead last
+to_due g t Send = if t.carrying && not (find_full g t (asks_alive g t ∷ [])) then answer.Sent else answer.Quiet
+to_due g t Nothing = answer.Quiet
+
+abbrev pub due_now : Facts → Event → Due
+due_now t e = due_at t.times (moment_with t.times.moment e)
+
+-- without a live connection, and once the session is closed, a moment is taken and nothing else is done
+abbrev pub to_tick : Settings → Facts → ℕ → Answer
+to_tick g t now = if (t.live == 0) || is_some t.closed then answer.Quiet else to_due g t (due_now t (event.Tick now))
+
+-- ---- a call
 
 -- the session is closed; what waits can still be taken
 abbrev pub if_none_waits : {A : Type 0} → List A → Option Refusal → Option Refusal
@@ -250,10 +309,28 @@ abbrev pub size_in : Call → ℕ
 size_in (call.Request kind initial message complete) = size_of message
 size_in (call.Next s message complete) = size_of message
 size_in (call.Fail s code content) = length content
+size_in (call.Push metadata) = length metadata
+size_in (call.Lease ttl count metadata) = option_length metadata
 size_in _ = 0
 
 abbrev pub by_size : Settings → Call → Option Refusal
 by_size g asked = if nat_lt g.max_payload (size_in asked) then Some (refusal.TooLarge (size_in asked)) else None
+
+-- a LEASE needs that leases are agreed
+abbrev pub by_agreement : Settings → Facts → Call → Option Refusal
+by_agreement g t (call.Lease ttl count metadata) = if t.begun && not (leases_by g t) then Some refusal.WrongKind else None
+by_agreement g t _ = None
+
+-- why the lease lets no request through
+abbrev pub lease_refused : Option LeaseFault → Option Refusal
+lease_refused None = None
+lease_refused (Some (Used count)) = Some (refusal.NoLease count)
+lease_refused (Some (Over expires)) = Some (refusal.LeaseOver expires)
+
+-- where leases are agreed, a request needs one that is neither used up nor over (RSocket 1.0, "Lease Semantics")
+abbrev pub by_lease : Settings → Facts → Call → Option Refusal
+by_lease g t (call.Request kind initial message complete) = if t.begun && leases_by g t then lease_refused (lease_fault t.lease t.times.moment) else None
+by_lease g t _ = None
 
 -- frames can't be made: there is no connection yet, no room in the queue, or the position would pass the top
 abbrev pub refused_frames : Settings → Facts → List Frame → Option Refusal
@@ -268,9 +345,18 @@ abbrev pub refused_sending : Settings → Facts → Option Frame → Option Refu
 refused_sending g t None = None
 refused_sending g t (Some f) = refused_frames g t (in_fragments g.mtu f)
 
+-- a frame of the connection alone, which no position counts, needs one that carries it
+abbrev pub refused_beside : Settings → Facts → Frame → Option Refusal
+refused_beside g t f = first_true (
+    (not t.carrying, refusal.NotConnected)
+    ∷ (find_full g t (f ∷ []), refusal.OutFull t.queued)
+    ∷ [])
+
 -- Close needs no connection, and room for its ERROR where there is one
 abbrev pub by_sending : Settings → Facts → Call → Option Refusal
 by_sending g t call.Close = if find_full g t (closing_error [] ∷ []) then Some (refusal.OutFull t.queued) else None
+by_sending g t (call.Push metadata) = refused_beside g t (frame.MetadataPush metadata)
+by_sending g t (call.Lease ttl count metadata) = refused_beside g t (frame.Lease ttl count metadata)
 by_sending g t asked = refused_sending g t (spoken t.streams (next_id g.side t.streams) asked)
 
 -- the first refusal of a call
@@ -278,11 +364,13 @@ unfoldable pub refused_call : Settings → Facts → Call → Option Refusal
 refused_call g t asked =
     option_or (by_closed t asked)
     (option_or (by_state t.streams asked)
+    (option_or (by_agreement g t asked)
     (option_or (by_size g asked)
     (option_or (by_credit t.streams asked)
+    (option_or (by_lease g t asked)
     (option_or (by_ids (limits_of g) t.streams asked)
     (option_or (by_live (limits_of g) t.streams asked)
-    (by_sending g t asked))))))
+    (by_sending g t asked))))))))
 
 abbrev pub got : Option Delivery → Answer
 got None = answer.NotYet
@@ -314,6 +402,7 @@ answer_by g t (event.Cut conn) = to_cut t conn
 answer_by g t (event.Draw conn room) = to_draw t conn room
 answer_by g t (event.Came conn f) = to_frame g t conn f
 answer_by g t (event.Bad conn number) = to_bad g t conn number
+answer_by g t (event.Tick now) = to_tick g t now
 answer_by g t (event.Asked asked) = to_call g t asked
 
 -- the answer to an event after these entries

@@ -1,5 +1,5 @@
 -- The frames of a session, over its entries, the newest first: made, due, come and handled.
-use Rattle.std.specs.Prelude.{ℕ, ◌+◌, ◌-◌, ◌==◌, ◌&&◌, Bool, false, nat_le, nat_lt, if◌then◌else◌, List, [], ◌∷◌, ◌++◌, length, take, map, Option, Some, None, is_none, ◌||◌, true, codes}
+use Rattle.std.specs.Prelude.{ℕ, ◌+◌, ◌-◌, ◌==◌, ◌&&◌, Bool, false, nat_le, nat_lt, if◌then◌else◌, List, [], ◌∷◌, ◌++◌, length, take, map, Option, Some, None, is_none, ◌||◌, true}
 use Rattle.rs_wire.specs.Words.{gone_word, rule_word, setup_word}
 use Rattle.rs_wire.specs.declared.words.Kind.{Kind}
 use Rattle.rs_wire.specs.declared.message.Message.{Message}
@@ -23,7 +23,8 @@ use Rattle.session_model.specs.Lists.{first_of}
 use Rattle.session_model.specs.Life.{openings, live, live_after, is_live, begun, carrying, resumption_agreed, told}
 use Rattle.position.specs.Boundaries.{pos, is_boundary, frames_from, first as first_held}
 use Rattle.session_model.specs.declared.numbers.TheConstants.{CONNECTION_ERROR, REJECTED, REJECTED_RESUME}
-use Rattle.session_model.specs.Streams.{known, is_turned_away}
+use Rattle.session_model.specs.Leases.{is_covered}
+use Rattle.session_model.specs.Streams.{known, turned_away_for}
 
 -- the SETUP of a client: version 1.0, its intervals, its token where it resumes, its MIME texts, no payload
 abbrev pub setup_frame : Settings → Frame
@@ -60,9 +61,13 @@ refusal (answer.SetupRefused fault) = Some (frame.Error 0 (code_of fault) (setup
 refusal (answer.ResumeRefused gone) = Some (frame.Error 0 REJECTED_RESUME (gone_word gone))
 refusal _ = None
 
--- the ERROR that answers a request for which no stream more may be open
-abbrev pub turned_away : ℕ → Frame
-turned_away stream = frame.Error stream REJECTED (codes "streams")
+-- the ERROR that answers a request which opens no stream, with the word of why
+abbrev pub turned_away : ℕ → List ℕ → Frame
+turned_away stream word = frame.Error stream REJECTED word
+
+abbrev pub turned_away_with : ℕ → Option (List ℕ) → List Frame
+turned_away_with stream None = []
+turned_away_with stream (Some word) = turned_away stream word ∷ []
 
 -- ---- made
 
@@ -86,17 +91,17 @@ abbrev pub sent_as : Settings → Option Frame → List Frame
 sent_as g None = []
 sent_as g (Some f) = in_fragments g.mtu f
 
--- the resumable frames that an entry makes, by what is known of the streams before it
-abbrev pub makes : Settings → Known → Answer → Event → List Frame
-makes g t (answer.Started id) (event.Asked asked) = sent_as g (spoken t id asked)
-makes g t answer.Done (event.Asked asked) = sent_as g (spoken t 0 asked)
-makes g t answer.Handled (event.Came conn (frame.Request r)) = if is_turned_away g t r then turned_away r.stream ∷ [] else []
-makes g t _ _ = []
+-- the resumable frames that an entry makes, by whether a request is covered before it, and by what is known of the streams
+abbrev pub makes : Settings → Bool → Known → Answer → Event → List Frame
+makes g covered t (answer.Started id) (event.Asked asked) = sent_as g (spoken t id asked)
+makes g covered t answer.Done (event.Asked asked) = sent_as g (spoken t 0 asked)
+makes g covered t answer.Handled (event.Came conn (frame.Request r)) = turned_away_with r.stream (turned_away_for g covered t r)
+makes g covered t _ _ = []
 
 -- the resumable frames that this end made, in order, over all connections
 unfoldable pub made : Settings → List Entry → List Frame
 made g [] = []
-made g (x ∷ past) = made g past ++ makes g (known g past) x.answer x.event
+made g (x ∷ past) = made g past ++ makes g (is_covered g past) (known g past) x.answer x.event
 
 -- ---- handled
 
@@ -114,7 +119,7 @@ handled (x ∷ past) = handled past ++ handles x.answer x.event
 
 -- the position from which on the frames made are held: those that the peer may not have handled, and of them as many as may be held
 abbrev pub first : Settings → List Entry → ℕ
-first g past = first_held (made g past) (told past) g.hold
+first g past = first_held (made g past) (told g past) g.hold
 
 -- frames are kept where resumption is agreed
 abbrev pub if_agreed : Bool → List Frame → List Frame
@@ -126,7 +131,7 @@ kept g past = if_agreed (resumption_agreed g past) (made g past)
 
 -- the position from which on they are held, 0 where none is kept
 abbrev pub held_from : Settings → List Entry → ℕ
-held_from g past = first_held (kept g past) (told past) g.hold
+held_from g past = first_held (kept g past) (told g past) g.hold
 
 -- a held frame begins or ends at the position
 abbrev pub is_held_boundary : Settings → List Entry → ℕ → Bool
@@ -150,12 +155,27 @@ greets g past (event.Open None taken) = (if begun past then resume_frame g (pos 
 greets g past (event.Open (Some (frame.Resume r)) taken) = frame.ResumeOk (pos (handled past)) ∷ frames_from (made g past) r.server_position
 greets g past _ = []
 
+-- the position up to which this end handled what came, as a KEEPALIVE tells it: 0 where resumption is not agreed (RSocket 1.0, "KEEPALIVE Frame")
+abbrev pub tells : Bool → ℕ → ℕ
+tells agreed handled = if agreed then handled else 0
+
+abbrev pub position_told : Settings → List Entry → ℕ
+position_told g past = tells (resumption_agreed g past) (pos (handled past))
+
+-- a KEEPALIVE that asks for an answer is answered with what it carries
+abbrev pub answers_keepalive : Bool → ℕ → List ℕ → List Frame
+answers_keepalive respond position content = if respond then frame.Keepalive false position content ∷ [] else []
+
 -- the frames that an entry puts in line before those that it makes: frames of the connection, which no position counts, and frames that are sent again
 abbrev pub beside : Settings → List Entry → Answer → Event → List Frame
 beside g past (answer.Opened n) e = greets g past e
 beside g past (answer.Violation rule) e = closing_error (rule_word rule) ∷ []
 beside g past (answer.ResumeRefused gone) (event.Came conn f) = closing_error (gone_word gone) ∷ []
 beside g past answer.Handled (event.Came conn (frame.ResumeOk position)) = frames_from (made g past) position
+beside g past answer.Handled (event.Came conn (frame.Keepalive respond position content)) = answers_keepalive respond (position_told g past) content
+beside g past answer.Sent e = frame.Keepalive true (position_told g past) [] ∷ []
+beside g past answer.Done (event.Asked (call.Push metadata)) = frame.MetadataPush metadata ∷ []
+beside g past answer.Done (event.Asked (call.Lease ttl count metadata)) = frame.Lease ttl count metadata ∷ []
 beside g past answer.Done (event.Asked call.Close) = if carrying g past then closing_error [] ∷ [] else []
 beside g past _ e = []
 
@@ -165,7 +185,7 @@ if_carrying carrying frames = if carrying then frames else []
 
 -- the frames that an entry puts in line
 abbrev pub lines_up : Settings → List Entry → Answer → Event → List Frame
-lines_up g past a e = beside g past a e ++ if_carrying (carrying g past) (makes g (known g past) a e)
+lines_up g past a e = beside g past a e ++ if_carrying (carrying g past) (makes g (is_covered g past) (known g past) a e)
 
 -- what an entry adds to the frames due on connection c: what it puts in line, where that connection is live after it
 abbrev pub owes : Settings → List Entry → ℕ → Answer → Event → List Frame
@@ -221,15 +241,15 @@ came (x ∷ past) c = came past c ++ brings past c x.event
 
 -- ---- seen
 
--- a frame that this end made, or one that it handled
+-- a frame that this end made, or one that it handled, with whether a request was covered then
 pub data Mark : Type 0 where
   Sent : Frame → Mark
-  Got : Frame → Mark
+  Got : (covered : Bool) → Frame → Mark
 
-abbrev pub marks : Settings → Known → Answer → Event → List Mark
-marks g t a e = map Mark.Got (handles a e) ++ map Mark.Sent (makes g t a e)
+abbrev pub marks : Settings → Bool → Known → Answer → Event → List Mark
+marks g covered t a e = map (Mark.Got covered) (handles a e) ++ map Mark.Sent (makes g covered t a e)
 
 -- all resumable frames of this end in the order of the entries, each marked
 unfoldable pub seen : Settings → List Entry → List Mark
 seen g [] = []
-seen g (x ∷ past) = seen g past ++ marks g (known g past) x.answer x.event
+seen g (x ∷ past) = seen g past ++ marks g (is_covered g past) (known g past) x.answer x.event

@@ -1,11 +1,10 @@
 -- Which lists of entries are a session's.
-use Rattle.std.specs.Prelude.{◌≡◌, ◌≤◌, ◌<◌, ◌^◌, false, IsTrue, List, [], ◌∷◌, Some, None, IfSome}
+use Rattle.std.specs.Prelude.{◌≡◌, ◌≤◌, ◌<◌, ◌^◌, IsTrue, List, [], ◌∷◌, Some, None, IfSome}
 use Rattle.rs_wire.specs.declared.words.Side.TheVariants.{Client, Server}
 use Rattle.rs_wire.specs.declared.settings.Settings.{Settings}
 use Rattle.rs_wire.specs.declared.call.Call.{Call}
 use Rattle.rs_wire.specs.declared.call.Call.TheVariants as call
 use Rattle.rs_wire.specs.Calls.{CanBeAsked}
-use Rattle.rs_wire.specs.Settings.{IsChecked}
 use Rattle.rs_frame.specs.Spelling.{IsSpellable, IsStream}
 use Rattle.tape.specs.declared.event.Event.{Event}
 use Rattle.tape.specs.declared.event.Event.TheVariants as event
@@ -15,15 +14,11 @@ use Rattle.tape.specs.declared.entry.Entry.{Entry}
 use Rattle.session_model.specs.Answers.{answer_to}
 use Rattle.session_model.specs.declared.numbers.TheConstants.{LONG_FRAME}
 
--- settings that were tested, of an end without leases
-pub record IsPlain (g : Settings) : Type 0 where
-  pub checked : IsChecked g
-  pub no_leases : g.lease ≡ false
-
--- the numbers of items that a call grants are above 0, and have 31 bits
+-- the numbers that a call grants are above 0, and have 31 bits
 abbrev pub AmountsFit : Call → Type 0
 AmountsFit (call.Request kind initial message complete) = IfSome initial IsStream
 AmountsFit (call.Grant stream n) = IsStream n
+AmountsFit (call.Lease ttl count metadata) = IsStream ttl × IsStream count
 AmountsFit _ = Unit {0}
 
 -- what whoever brings an event ensures: a first frame exactly on a server, frames that can be spelled, rules that there are
@@ -34,6 +29,7 @@ IsFair g (event.Cut conn) = Unit {0}
 IsFair g (event.Draw conn room) = (0 < room) × (room < 2 ^ 32)
 IsFair g (event.Came conn f) = IsSpellable f
 IsFair g (event.Bad conn number) = (0 < number) × (number ≤ LONG_FRAME)
+IsFair g (event.Tick now) = Unit {0}
 IsFair g (event.Asked asked) = CanBeAsked asked × AmountsFit asked
 
 -- the same but for the amounts, which each have their range: what a caller ensures

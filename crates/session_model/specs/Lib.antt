@@ -1,5 +1,7 @@
 pub mod Lists
 pub mod Life
+pub mod Moments
+pub mod Leases
 pub mod Streams
 pub mod Frames
 pub mod Answers

@@ -1,5 +1,5 @@
 -- What an answer says of the event and of what was before it: a table by answer and event, with nothing where the two never meet.
-use Rattle.std.specs.Prelude.{◌≡◌, ◌≤◌, ℕ, ◌+◌, Bool, true, false, Option, Some, None}
+use Rattle.std.specs.Prelude.{◌≡◌, ◌≤◌, ℕ, ◌+◌, ◌==◌, Bool, true, false, [], ◌∷◌, Option, Some, None}
 use Rattle.rs_wire.specs.declared.settings.Settings.{Settings}
 use Rattle.rs_wire.specs.declared.call.Call.{Call}
 use Rattle.rs_wire.specs.declared.call.Call.TheVariants as call
@@ -15,7 +15,8 @@ use Rattle.tape.specs.declared.answer.Answer.{Answer}
 use Rattle.tape.specs.declared.answer.Answer.TheVariants as answer
 use Rattle.session_model.specs.Life.{is_live}
 use Rattle.stream_model.specs.Known.{next_id, front_of}
-use Rattle.session_model.specs.Answers.{Facts, broken_rule, ok_gone, peer_error, refused_call, resume_gone}
+use Rattle.keepalive.specs.declared.timer.Due.TheVariants.{Dead, Send}
+use Rattle.session_model.specs.Answers.{Facts, asks_alive, broken_rule, due_now, find_full, ok_gone, peer_error, refused_call, resume_gone}
 
 -- a client begins, or resumes; a server can resume by the RESUME that came first, or keep the SETUP
 abbrev pub SuitsFirst : Settings → Facts → Option Frame → Bool → Type 0
@@ -52,6 +53,21 @@ pub record Failing (t : Facts) (conn : ℕ) (f : Frame) (code : ℕ) : Type 0 wh
   pub here : is_live t.live conn ≡ true
   pub free : t.closed ≡ None
   pub error : peer_error f ≡ Some code
+
+-- there is a live connection, and the session is not closed
+pub record Lives (t : Facts) : Type 0 where
+  pub here : (t.live == 0) ≡ false
+  pub free : t.closed ≡ None
+
+pub record Keeping (g : Settings) (t : Facts) (now : ℕ) : Type 0 where
+  pub lives : Lives t
+  pub carries : t.carrying ≡ true
+  pub place : find_full g t (asks_alive g t ∷ []) ≡ false
+  pub due : due_now t (event.Tick now) ≡ Send
+
+pub record Dying (t : Facts) (now last : ℕ) : Type 0 where
+  pub lives : Lives t
+  pub due : due_now t (event.Tick now) ≡ Dead last
 
 abbrev pub Opens : Settings → Facts → ℕ → Event → Type 0
 Opens g t n (event.Open first taken) = Opening g t first taken n
@@ -101,6 +117,7 @@ Strays t (event.Bad conn rule) = is_live t.live conn ≡ false
 Strays t (event.Draw conn room) = is_live t.live conn ≡ false
 Strays t (event.Cut conn) = is_live t.live conn ≡ false
 Strays t (event.Open first taken) = Unit {0}
+Strays t (event.Tick now) = ⊥
 Strays t (event.Asked asked) = ⊥
 
 -- something came on the live connection of a session that is not closed
@@ -132,6 +149,21 @@ FindsNothing t (event.Asked (call.Take s)) = front_of (t.streams.waits s) ≡ No
 FindsNothing t (event.Asked call.TakeJob) = front_of t.streams.jobs ≡ None
 FindsNothing t _ = ⊥
 
+-- a moment is taken, and nothing else is done
+abbrev pub Rests : Event → Type 0
+Rests (event.Tick now) = Unit {0}
+Rests _ = ⊥
+
+-- a KEEPALIVE is sent
+abbrev pub KeepsAlive : Settings → Facts → Event → Type 0
+KeepsAlive g t (event.Tick now) = Keeping g t now
+KeepsAlive g t _ = ⊥
+
+-- the peer counts as dead
+abbrev pub FindsDead : Facts → ℕ → Event → Type 0
+FindsDead t last (event.Tick now) = Dying t now last
+FindsDead t last _ = ⊥
+
 abbrev pub Means : Settings → Facts → Event → Answer → Type 0
 Means g t e (answer.Opened n) = Opens g t n e
 Means g t e (answer.Started id) = Starts g t id e
@@ -140,6 +172,9 @@ Means g t e (answer.Got delivery) = Takes t delivery e
 Means g t e (answer.GotJob job) = TakesJob t job e
 Means g t e (answer.Drawn n) = GivesBytes t n e
 Means g t e answer.Parted = Parts t e
+Means g t e answer.Quiet = Rests e
+Means g t e answer.Sent = KeepsAlive g t e
+Means g t e (answer.Dead last) = FindsDead t last e
 Means g t e answer.Handled = Handles g t e
 Means g t e (answer.PeerError code) = Fails t code e
 Means g t e (answer.Violation rule) = Lands t e

@@ -1,5 +1,5 @@
 -- What the entries of a session say on its streams, and what is known of these. Entries and marks are the newest first.
-use Rattle.std.specs.Prelude.{ℕ, ◌==◌, ◌&&◌, Bool, true, false, not, nat_lt, if◌then◌else◌, List, [], ◌∷◌, ◌++◌, Option, Some, None, option_to_list}
+use Rattle.std.specs.Prelude.{ℕ, ◌==◌, Bool, true, false, not, nat_lt, if◌then◌else◌, List, [], ◌∷◌, ◌++◌, Option, Some, None, option_to_list, codes}
 use Rattle.std.specs.Option.{option_map}
 use Rattle.rs_wire.specs.declared.settings.Settings.{Settings}
 use Rattle.rs_wire.specs.declared.message.Message.{Message}
@@ -19,6 +19,7 @@ use Rattle.stream_model.specs.Turns.{is_fnf}
 use Rattle.stream_model.specs.Known.{Known, known as known_after, hears_on}
 use Rattle.fragment.specs.Joining.{Gathered, nothing, left_held, with_part}
 use Rattle.stream_model.specs.Arriving.{said, heard}
+use Rattle.session_model.specs.Leases.{is_covered}
 
 -- a message is whole where no fragment follows
 abbrev pub whole_in : Bool → Message → Bool → Option (Message × Bool)
@@ -28,23 +29,29 @@ whole_in false message complete = Some (message, complete)
 abbrev pub arrives_whole : ℕ → Gathered → Arrival
 arrives_whole s sum = arrival.Whole s sum.message sum.complete sum.next
 
--- what a frame of the peer's says on a stream, by what was gathered there of a message that is not whole
-abbrev pub arrival_in : (ℕ → Gathered) → Frame → Option Arrival
-arrival_in gathered (frame.Request r) = Some (arrival.Asked r.stream r.kind r.initial (whole_in r.follows r.message r.complete))
-arrival_in gathered (frame.Payload s follows complete next message) = if follows then None else Some (arrives_whole s (with_part (gathered s) message complete next))
-arrival_in gathered (frame.RequestN s n) = Some (arrival.Granted s n)
-arrival_in gathered (frame.Cancel s) = Some (arrival.Canceled s)
-arrival_in gathered (frame.Error s code content) = if s == 0 then None else Some (arrival.Failed s code content)
-arrival_in gathered _ = None
+-- a request is asked of this end where its lease covers it, and is passed over else (RSocket 1.0, "Lease Semantics")
+abbrev pub request_in : Bool → Request → Arrival
+request_in true r = arrival.Asked r.stream r.kind r.initial (whole_in r.follows r.message r.complete)
+request_in false r = arrival.PassedOver r.stream
+
+-- what a frame of the peer's says on a stream, by whether a request is covered, and by what was gathered of a message that is not whole
+abbrev pub arrival_in : Bool → (ℕ → Gathered) → Frame → Option Arrival
+arrival_in covered gathered (frame.Request r) = Some (request_in covered r)
+arrival_in covered gathered (frame.Payload s follows complete next message) = if follows then None else Some (arrives_whole s (with_part (gathered s) message complete next))
+arrival_in covered gathered (frame.RequestN s n) = Some (arrival.Granted s n)
+arrival_in covered gathered (frame.Cancel s) = Some (arrival.Canceled s)
+arrival_in covered gathered (frame.Error s code content) = if s == 0 then None else Some (arrival.Failed s code content)
+arrival_in covered gathered (frame.MetadataPush metadata) = Some (arrival.Pushed metadata)
+arrival_in covered gathered _ = None
 
 -- what an event so answered says on the streams
-abbrev pub marks_in : (ℕ → Gathered) → Answer → Event → List Mark
-marks_in gathered answer.Handled (event.Came conn f) = option_to_list (option_map heard (arrival_in gathered f))
-marks_in gathered (answer.Started id) (event.Asked asked) = said id asked
-marks_in gathered answer.Done (event.Asked asked) = said 0 asked
-marks_in gathered (answer.Got delivery) (event.Asked (call.Take s)) = Took s delivery ∷ []
-marks_in gathered (answer.GotJob job) (event.Asked call.TakeJob) = TookJob ∷ []
-marks_in gathered _ _ = []
+abbrev pub marks_in : Bool → (ℕ → Gathered) → Answer → Event → List Mark
+marks_in covered gathered answer.Handled (event.Came conn f) = option_to_list (option_map heard (arrival_in covered gathered f))
+marks_in covered gathered (answer.Started id) (event.Asked asked) = said id asked
+marks_in covered gathered answer.Done (event.Asked asked) = said 0 asked
+marks_in covered gathered (answer.Got delivery) (event.Asked (call.Take s)) = Took s delivery ∷ []
+marks_in covered gathered (answer.GotJob job) (event.Asked call.TakeJob) = TookJob ∷ []
+marks_in covered gathered _ _ = []
 
 -- what is gathered on a stream after a frame of the peer's
 abbrev pub gathers_of : Frame → ℕ → Gathered → Gathered
@@ -73,7 +80,7 @@ more_heard most words h a e = record { words = words; unfinished = while_heard m
 
 unfoldable pub heard_in : Settings → List Entry → Heard
 heard_in g [] = record { words = []; unfinished = λ s. nothing }
-heard_in g (x ∷ past) = let h = heard_in g past in more_heard g.max_streams (marks_in h.unfinished x.answer x.event ++ h.words) h x.answer x.event
+heard_in g (x ∷ past) = let h = heard_in g past in more_heard g.max_streams (marks_in (is_covered g past) h.unfinished x.answer x.event ++ h.words) h x.answer x.event
 
 -- what the entries say on the streams
 abbrev pub words : Settings → List Entry → List Mark
@@ -87,6 +94,11 @@ unfinished g past = (heard_in g past).unfinished
 abbrev pub known : Settings → List Entry → Known
 known g past = known_after g.max_streams (words g past)
 
--- a request that comes opens no stream, and is answered by an ERROR: as many are open as may be, and it is no fire-and-forget
-abbrev pub is_turned_away : Settings → Known → Request → Bool
-is_turned_away g t r = not (nat_lt t.live g.max_streams) && not (is_fnf r.kind)
+-- the word of why a request that comes opens no stream and is answered by an ERROR: its lease does not cover it, or as many streams are
+-- open as may be; none of a fire-and-forget, which is never answered
+abbrev pub turned_away_for : Settings → Bool → Known → Request → Option (List ℕ)
+turned_away_for g covered t r =
+    if is_fnf r.kind then None
+    else if not covered then Some (codes "lease")
+    else if not (nat_lt t.live g.max_streams) then Some (codes "streams")
+    else None

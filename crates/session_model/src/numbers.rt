@@ -22,6 +22,10 @@ pub const EXTENSION: u8 = 0x3F;
 /// the nine rules of a frame's own bytes.
 pub const LONG_FRAME: u8 = 10;
 
+/// The last moment, 2^62 milliseconds: a later one counts as it. So a moment and a span of 31 bits fit in
+/// 64 bits together.
+pub const LAST_MOMENT: u64 = 0x4000_0000_0000_0000;
+
 /// Bytes that stay free in the queue after a frame came, beyond the frame's own length, for what
 /// answers it: a length field of 3, and 64. The longest ERROR that names a rule has 24.
 pub const ANSWER_ROOM: u64 = 67;

@@ -23,13 +23,13 @@ use Rattle.stream_model.specs.declared.arrival.Effect.{Effect}
 use Rattle.stream_model.specs.declared.arrival.Effect.TheVariants as effect
 use Rattle.stream_model.specs.declared.stream.Limits.{Limits}
 use Rattle.stream_model.specs.declared.stream.Stream.{Stream as Kept}
-use Rattle.stream_model.specs.Marks.{Opening, Payload, RequestN, Cancel, Fail, Mark, Opens, Sent, Got}
+use Rattle.stream_model.specs.Marks.{Opening, Payload, RequestN, Cancel, Fail, Mark, Opens, Passed, Sent, Got, Pushed}
 use Rattle.stream_model.specs.Turns.{Word, carries, needs_credit, is_fnf, inbound, other, over}
 use Rattle.stream_model.specs.Streams.{turn, live, highest, higher}
 use Rattle.stream_model.specs.Kept.{stream_of, kept}
 use Rattle.stream_model.specs.Known.{Known, known, next_id, id_after, highest_at, is_peers_next, is_own_parity, other_side, over_at, credit_at}
 use Rattle.stream_model.specs.Refused.{credit_refused, outbound_credit, by_state, by_credit, by_ids, by_live, refused_by}
-use Rattle.stream_model.specs.Arriving.{ours, theirs, no_message, said, heard, or_zero, over_credit, over_credit_on, asked_effect, used_unless, message_effect, effect_by}
+use Rattle.stream_model.specs.Arriving.{ours, theirs, no_message, said, heard, or_zero, over_credit, over_credit_on, asked_effect, used_unless, message_effect, passed_effect, effect_by}
 use Rattle.stream_model.specs.Fair.{Fair, Fits, FairWords}
 use Rattle.stream_model.proofs.Words.{used_within}
 use Rattle.stream_model.proofs.Streams.{fair_words}
@@ -59,6 +59,7 @@ pub parity_or_zero : (p : ℕ) (seen : List Mark) → (highest p seen ≡ 0) ⊎
 unfolding highest
 parity_or_zero p [] = inl refl
 parity_or_zero p (Opens s o ∷ seen) = raised p s (highest p seen) (parity_or_zero p seen)
+parity_or_zero p (Passed s ∷ seen) = raised p s (highest p seen) (parity_or_zero p seen)
 parity_or_zero p (m ∷ seen) = parity_or_zero p seen
 
 next_parity : (p h : ℕ) → (h == 0) ≡ false → (h ≡ 0) ⊎ (h % 2 ≡ p) → (h + 2) % 2 ≡ p
@@ -264,6 +265,10 @@ next_counted : (is_next room fnf whole : Bool) (s : ℕ) → IsCounted (asked_ef
 next_counted true room fnf whole s h = refl
 next_counted false room fnf whole s h = absurd (h)
 
+passed_counted : (is_next : Bool) (s : ℕ) → IsCounted (passed_effect is_next s) → is_next ≡ true
+passed_counted true s h = refl
+passed_counted false s h = absurd (h)
+
 used_counted : (o : Option ℕ) → IsCounted (used_unless o) → o ≡ None
 used_counted None h = refl
 used_counted (Some n) h = absurd (h)
@@ -285,3 +290,6 @@ heard_fair most seen l (arrival.Whole s m complete next) h n counted = fair_and 
 heard_fair most seen l (arrival.Granted s k) h n counted = fair_and most seen (Got s (RequestN k)) h (got_fits most seen s (RequestN k) n (λ f is. grant_credited f (other f.role) k))
 heard_fair most seen l (arrival.Canceled s) h n counted = fair_and most seen (Got s Cancel) h (got_fits most seen s Cancel tt (λ f is. cancel_credited f (other f.role)))
 heard_fair most seen l (arrival.Failed s code content) h n counted = fair_and most seen (Got s (Fail code content)) h (got_fits most seen s (Fail code content) tt (λ f is. fail_credited f (other f.role) code content))
+heard_fair most seen l (arrival.PassedOver s) h n counted =
+    fair_and most seen (Passed s) h (peer_fresh most seen s (peers_above (known most seen) l.side s (passed_counted (is_peers_next l.side (known most seen) s) s counted)))
+heard_fair most seen l (arrival.Pushed metadata) h n counted = fair_and most seen (Pushed metadata) h tt

@@ -3,7 +3,7 @@ use Rattle.std.proofs.Common.{◌≡◌, ℕ, Bool, true, false, cond, List, ◌
 use Rattle.std.proofs.lemmas.Bool.Decides.{nat_tests}
 use Rattle.rs_wire.specs.declared.words.Role.{Role}
 use Rattle.rs_wire.specs.declared.words.Way.{Way}
-use Rattle.stream_model.specs.Marks.{Mark, Opens, Sent, Got, Took, TookJob}
+use Rattle.stream_model.specs.Marks.{Mark, Opens, Passed, Sent, Got, Pushed, Took, TookJob}
 use Rattle.stream_model.specs.Turns.{Turn, Word, Said, Taken, other}
 use Rattle.stream_model.specs.Streams.{turn, turn_after, goes_on, on, live}
 use Rattle.stream_model.specs.Fair.{Fair, Fits}
@@ -20,8 +20,10 @@ over_here most seen (Opens q o) s room w is f h =
     let none : turn most seen s ≡ None = subst (λ k. turn most seen k ≡ None) same (fresh most seen q f.fresh) in
     let some = h.1 in
     absurd (cc)
+over_here most seen (Passed q) s room w is f h = h
 over_here most seen (Sent q step) s room w is f h = still_over (turn most seen s) (λ role. Said role step) w h
 over_here most seen (Got q step) s room w is f h = still_over (turn most seen s) (λ role. Said (other role) step) w h
+over_here most seen (Pushed metadata) s room w is f h = h
 over_here most seen (Took q d) s room w is f h = still_over (turn most seen s) (λ role. Taken d) w h
 over_here most seen TookJob s room w is f h = h
 

@@ -4,7 +4,7 @@ use Rattle.rs_wire.specs.declared.words.Kind.{Kind}
 use Rattle.rs_wire.specs.declared.words.Role.{Role}
 use Rattle.rs_wire.specs.declared.words.Way.{Way}
 use Rattle.rs_wire.specs.declared.words.Way.TheVariants as way
-use Rattle.stream_model.specs.Marks.{Opening, Payload, RequestN, Cancel, Fail, Mark, Opens, Sent, Got, Took, TookJob}
+use Rattle.stream_model.specs.Marks.{Opening, Payload, RequestN, Cancel, Fail, Mark, Opens, Passed, Sent, Got, Pushed, Took, TookJob}
 use Rattle.stream_model.specs.Turns.{Turn, Word, Said, Taken, granted, grants, may_grant, first_grant, other}
 use Rattle.stream_model.specs.Streams.{turn, turn_after, goes_on, is_admitted, on, live}
 use Rattle.stream_model.specs.Fair.{Fair, Fits, FitsTurn, GrantsAmount}
@@ -48,8 +48,10 @@ opened_within false o t n lt h = wider t n (n + 2 ^ 31) (omega arith) h
 
 within_here : (most : ℕ) (seen : List Mark) (m : Mark) (s n : ℕ) (room : Bool) → on s m ≡ true → Fits most seen m → AtMost (turn most seen s) n → AtMost (turn_after room m (turn most seen s)) (n + 2 ^ 31)
 within_here most seen (Opens q o) s n room is f h = opened_within (is_admitted room o) o (turn most seen s) n f.initial h
+within_here most seen (Passed q) s n room is f h = wider (turn most seen s) n (n + 2 ^ 31) (omega arith) h
 within_here most seen (Sent q step) s n room is f h = within_on (turn most seen s) (λ role. Said role step) n h (fits_here most seen q s is (λ role. Said role step) f)
 within_here most seen (Got q step) s n room is f h = within_on (turn most seen s) (λ role. Said (other role) step) n h (fits_here most seen q s is (λ role. Said (other role) step) f)
+within_here most seen (Pushed metadata) s n room is f h = wider (turn most seen s) n (n + 2 ^ 31) (omega arith) h
 within_here most seen (Took q d) s n room is f h = within_on (turn most seen s) (λ role. Taken d) n h (fits_here most seen q s is (λ role. Taken d) f)
 within_here most seen TookJob s n room is f h = wider (turn most seen s) n (n + 2 ^ 31) (omega arith) h
 

@@ -1,12 +1,12 @@
 -- How many streams are open after a mark.
 use Rattle.std.proofs.Common.{◌≡◌, ◌≤◌, ◌<◌, ◌+◌, ◌%◌, ◌==◌, ℕ, true, false, List, ◌∷◌, Option, Some, None, refl, ap, subst, sym, ◌∙◌, arith, ltb}
 use Rattle.std.proofs.lemmas.Bool.Decides.{nat_tests}
-use Rattle.stream_model.specs.Marks.{Opening, Mark, Opens, TookJob}
+use Rattle.stream_model.specs.Marks.{Opening, Mark, Opens, Passed, Pushed, TookJob}
 use Rattle.stream_model.specs.Turns.{Turn}
 use Rattle.stream_model.specs.Streams.{turn, live, on, is_live, one_if, count_to, highest, top}
 use Rattle.stream_model.specs.Fair.{Fair}
 use Rattle.stream_model.proofs.Counts.{count_same, count_changed, count_above}
-use Rattle.stream_model.proofs.Ids.{is_opening, top_said, top_opens, fresh, none_above, no_zero, others_stay, still_none}
+use Rattle.stream_model.proofs.Ids.{is_opening, top_said, top_opens, top_passed, turn_passed, fresh, none_above, no_zero, others_stay, still_none}
 
 -- of an open stream the id is from 1 to the highest
 between : (most : ℕ) (seen : List Mark) (s : ℕ) (t : Turn) → Fair most seen → turn most seen s ≡ Some t → (0 < s) × (s ≤ top seen)
@@ -50,6 +50,19 @@ live_opens most seen s o h =
     let change = count_changed (top (Opens s o ∷ seen)) s (λ q. is_live (turn most seen q)) (λ q. is_live (turn most (Opens s o ∷ seen) q)) (omega arith) n.1 (λ q apart. ap is_live (others_stay most seen (Opens s o) s q here apart)) in
     let zero : one_if (is_live (turn most seen s)) ≡ 0 = ap (λ t. one_if (is_live t)) before in
     omega arith
+
+-- with a request that is passed over
+pub live_passed : (most : ℕ) (seen : List Mark) (s : ℕ) → live most (Passed s ∷ seen) ≡ live most seen
+live_passed most seen s =
+    let top_is = top (Passed s ∷ seen) in
+    let above = count_above (top seen) top_is (λ q. is_live (turn most seen q)) (top_passed seen s) (λ q more. ap is_live (none_above most seen q more)) in
+    let same = count_same top_is (λ q. is_live (turn most seen q)) (λ q. is_live (turn most (Passed s ∷ seen) q)) (λ q le. ap is_live (turn_passed most seen s q)) in
+    same ∙ above
+
+-- with metadata that is pushed
+pub live_pushed : (most : ℕ) (seen : List Mark) (metadata : List ℕ) → live most (Pushed metadata ∷ seen) ≡ live most seen
+unfolding turn highest
+live_pushed most seen metadata = refl
 
 -- with a job that is taken
 pub live_job : (most : ℕ) (seen : List Mark) → live most (TookJob ∷ seen) ≡ live most seen

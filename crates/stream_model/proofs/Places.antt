@@ -8,13 +8,13 @@ use Rattle.rs_wire.specs.declared.words.Role.{Role}
 use Rattle.rs_wire.specs.declared.words.Role.TheVariants.{Requester, Responder}
 use Rattle.rs_wire.specs.declared.words.Way.TheVariants as way
 use Rattle.rs_wire.specs.declared.message.Message.{Message}
-use Rattle.stream_model.specs.Marks.{Opening, Mark, Opens, Sent, Got, Took, TookJob}
+use Rattle.stream_model.specs.Marks.{Opening, Mark, Opens, Passed, Sent, Got, Pushed, Took, TookJob}
 use Rattle.stream_model.specs.Turns.{Turn, Word, Said, Taken, over, is_fnf, is_role, ends, opening_ends, other}
 use Rattle.stream_model.specs.Streams.{turn, live, on, is_live, one_if, is_admitted, goes_on, highest, count_to, has_room}
 use Rattle.stream_model.specs.Fair.{Fair, Fits, FindsPlace}
 use Rattle.stream_model.specs.Laws.{LiveWithin}
 use Rattle.stream_model.proofs.Ids.{is_opening, same_id, turn_opened, turn_sent, turn_got, turn_took}
-use Rattle.stream_model.proofs.Live.{live_said, live_opens, live_job}
+use Rattle.stream_model.proofs.Live.{live_said, live_opens, live_passed, live_pushed, live_job}
 
 -- ---- a request
 
@@ -89,8 +89,10 @@ place_after : (most : ℕ) (seen : List Mark) (m : Mark) → Fair most seen → 
 place_after most seen (Opens s o) h f le =
     let e : turn most (Opens s o ∷ seen) s ≡ opened (is_admitted (has_room most seen) o) o = turn_opened most seen s o f.fresh in
     rw (live_opens most seen s o f.fresh, e) (place_by o.role most seen o f.place le)
+place_after most seen (Passed s) h f le = rw (live_passed most seen s) le
 place_after most seen (Sent s step) h f le = said_place most seen (Sent s step) s (λ role. Said role step) h (same_id s) refl (turn_sent most seen s step) le
 place_after most seen (Got s step) h f le = said_place most seen (Got s step) s (λ role. Said (other role) step) h (same_id s) refl (turn_got most seen s step) le
+place_after most seen (Pushed metadata) h f le = rw (live_pushed most seen metadata) le
 place_after most seen (Took s d) h f le = said_place most seen (Took s d) s (λ role. Taken d) h (same_id s) refl (turn_took most seen s d) le
 place_after most seen TookJob h f le = rw (live_job most seen) le
 

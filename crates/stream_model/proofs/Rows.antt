@@ -13,11 +13,12 @@ use Rattle.rs_wire.specs.declared.call.Call.TheVariants as call
 use Rattle.rs_wire.specs.declared.fault.Refusal.{Refusal}
 use Rattle.rs_wire.specs.declared.fault.Refusal.TheVariants as refusal
 use Rattle.stream_model.specs.declared.stream.Limits.{Limits}
-use Rattle.stream_model.specs.Marks.{Step, Payload, RequestN, Cancel, Mark, Opens, Sent, Got, Took}
+use Rattle.stream_model.specs.Marks.{Step, Payload, RequestN, Cancel, Mark, Opens, Passed, Sent, Got, Pushed, Took}
 use Rattle.stream_model.specs.Turns.{Turn, over, is_whole, items, granted, used, delivered, taken, waiting}
 use Rattle.stream_model.specs.Streams.{turn, live, highest, count_to, jobs, jobs_taken, jobs_waiting}
 use Rattle.stream_model.specs.Kept.{stream_of}
-use Rattle.stream_model.specs.Known.{known}
+use Rattle.stream_model.specs.declared.stream.State.TheVariants.{Over}
+use Rattle.stream_model.specs.Known.{known, state}
 use Rattle.stream_model.specs.Refused.{refused_by}
 use Rattle.stream_model.specs.Arriving.{ours, theirs, no_message}
 
@@ -185,3 +186,24 @@ response_client = Got 1 (Payload no_message true true) ∷ Opens 1 (ours Respons
 pub response_at_client : at_end response_client ≡ Some (record { live = 0; request = (0, 0); reply = (0, 1); delivered = delivery.Item no_message ∷ delivery.Complete ∷ []; taken = []; waiting = delivery.Item no_message ∷ delivery.Complete ∷ [] })
 unfolding turn over is_whole granted used items highest count_to delivered taken waiting
 response_at_client = refl
+
+-- ---- a request that its lease does not cover, and metadata that is pushed
+
+abbrev passed_over : List Mark
+passed_over = Pushed (97 ∷ []) ∷ Passed 3 ∷ Opens 1 (theirs Response None (Some (a, false))) ∷ []
+
+pub its_id_is_used : (known 256 passed_over).odd ≡ 3
+unfolding known turn over is_whole granted used items highest count_to stream_of delivered taken waiting
+its_id_is_used = refl
+
+pub it_opens_no_stream : state Server (known 256 passed_over) 3 ≡ Over
+unfolding known turn over is_whole granted used items highest count_to stream_of delivered taken waiting
+it_opens_no_stream = refl
+
+pub the_one_before_it_is_open : (known 256 passed_over).live ≡ 1
+unfolding known turn over is_whole granted used items highest count_to stream_of delivered taken waiting
+the_one_before_it_is_open = refl
+
+pub metadata_waits_as_a_job : jobs_waiting 256 passed_over ≡ job.Asked 1 Response None a false ∷ job.Pushed (97 ∷ []) ∷ []
+unfolding turn over is_whole highest count_to jobs jobs_taken jobs_waiting
+metadata_waits_as_a_job = refl

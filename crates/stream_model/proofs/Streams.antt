@@ -3,7 +3,7 @@ use Rattle.std.proofs.Common.{◌≡◌, ◌==◌, ℕ, Bool, true, false, cond,
 use Rattle.std.proofs.lemmas.Bool.Decides.{nat_tests}
 use Rattle.stream_model.specs.Turns.{Turn, Word, Said, Taken, other}
 use Rattle.rs_wire.specs.declared.words.Role.{Role}
-use Rattle.stream_model.specs.Marks.{Mark, Opens, Sent, Got, Took, TookJob}
+use Rattle.stream_model.specs.Marks.{Mark, Opens, Passed, Sent, Got, Pushed, Took, TookJob}
 use Rattle.stream_model.specs.Streams.{turn, turn_after, live, on, goes_on, is_admitted}
 use Rattle.stream_model.specs.Fair.{Fair, Fits, FitsTurn, FairWords}
 
@@ -23,8 +23,10 @@ fits_here most seen q s is word f = let same : q ≡ s = grind (arith, nat_tests
 fair_after : (most : ℕ) (seen : List Mark) (m : Mark) (s : ℕ) (room : Bool) → on s m ≡ true → FairTurn (turn most seen s) → Fits most seen m → FairTurn (turn_after room m (turn most seen s))
 unfolding FairWords
 fair_after most seen (Opens q o) s room is h f = elim (is_admitted room o) as (λ v. FairTurn (cond v (Some (record { opening = o; words = [] })) (turn most seen s))) [ true ↦ tt | false ↦ h ]
+fair_after most seen (Passed q) s room is h f = h
 fair_after most seen (Sent q step) s room is h f = fair_on (turn most seen s) (λ role. Said role step) h (fits_here most seen q s is (λ role. Said role step) f)
 fair_after most seen (Got q step) s room is h f = fair_on (turn most seen s) (λ role. Said (other role) step) h (fits_here most seen q s is (λ role. Said (other role) step) f)
+fair_after most seen (Pushed metadata) s room is h f = h
 fair_after most seen (Took q d) s room is h f = fair_on (turn most seen s) (λ role. Taken d) h (fits_here most seen q s is (λ role. Taken d) f)
 fair_after most seen TookJob s room is h f = h
 

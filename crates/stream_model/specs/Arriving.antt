@@ -15,7 +15,7 @@ use Rattle.stream_model.specs.declared.arrival.Effect.{Effect}
 use Rattle.stream_model.specs.declared.arrival.Effect.TheVariants as effect
 use Rattle.stream_model.specs.declared.stream.Limits.{Limits}
 use Rattle.stream_model.specs.declared.stream.Stream.{Stream as Kept}
-use Rattle.stream_model.specs.Marks.{Opening, Payload, RequestN, Cancel, Fail, Mark, Opens, Sent, Got, Took, TookJob}
+use Rattle.stream_model.specs.Marks.{Opening, Payload, RequestN, Cancel, Fail, Mark, Opens, Passed, Sent, Got, Pushed, Took, TookJob}
 use Rattle.stream_model.specs.Turns.{is_fnf, carries, needs_credit, inbound, other}
 use Rattle.stream_model.specs.Known.{Known, is_peers_next, over_at, credit_at}
 
@@ -53,6 +53,8 @@ heard (arrival.Whole s message complete next) = Got s (Payload message complete 
 heard (arrival.Granted s n) = Got s (RequestN n)
 heard (arrival.Canceled s) = Got s Cancel
 heard (arrival.Failed s code content) = Got s (Fail code content)
+heard (arrival.PassedOver s) = Passed s
+heard (arrival.Pushed metadata) = Pushed metadata
 
 abbrev pub took : ℕ → Option Delivery → List Mark
 took s None = []
@@ -62,13 +64,15 @@ abbrev pub took_job : Option Job → List Mark
 took_job None = []
 took_job (Some j) = TookJob ∷ []
 
--- the stream of an arrival
+-- the stream of an arrival; 0 is the connection
 abbrev pub stream_in : Arrival → ℕ
 stream_in (arrival.Asked s kind initial whole) = s
 stream_in (arrival.Whole s message complete next) = s
 stream_in (arrival.Granted s n) = s
 stream_in (arrival.Canceled s) = s
 stream_in (arrival.Failed s code content) = s
+stream_in (arrival.PassedOver s) = s
+stream_in (arrival.Pushed metadata) = 0
 
 -- ---- the effect
 
@@ -106,12 +110,18 @@ asked_effect is_next room fnf whole s =
     else if fnf then effect.Ignored
     else effect.TooMany
 
+-- one that is passed over is counted
+abbrev pub passed_effect : Bool → ℕ → Effect
+passed_effect is_next s = if is_next then effect.Ignored else effect.Broken (rule.StreamId s)
+
 abbrev pub effect_by : Limits → Known → Arrival → Effect
 effect_by l t (arrival.Asked s kind initial whole) = asked_effect (is_peers_next l.side t s) (nat_lt t.live l.max_streams) (is_fnf kind) (is_some whole) s
 effect_by l t (arrival.Whole s message complete next) = message_effect (t.kept s) next
 effect_by l t (arrival.Granted s n) = step_effect (t.kept s)
 effect_by l t (arrival.Canceled s) = step_effect (t.kept s)
 effect_by l t (arrival.Failed s code content) = step_effect (t.kept s)
+effect_by l t (arrival.PassedOver s) = passed_effect (is_peers_next l.side t s) s
+effect_by l t (arrival.Pushed metadata) = effect.Used
 
 -- ---- conditions
 
@@ -123,12 +133,15 @@ MayGrant (Some f) = (f.request.granted < 2 ^ 100) × (f.reply.granted < 2 ^ 100)
 -- an arrival that can come: an id has 31 bits, and a request has an initial n exactly where it is of a stream or a channel
 abbrev pub CanArrive : Known → Arrival → Type 0
 CanArrive t (arrival.Asked s kind initial whole) = (s < 2 ^ 31) × (is_some initial ≡ is_streamed kind)
+CanArrive t (arrival.PassedOver s) = s < 2 ^ 31
 CanArrive t (arrival.Granted s n) = MayGrant (t.kept s)
 CanArrive t _ = Unit {0}
 
 -- a call that acts on a stream, and whose grant leaves room for more
 abbrev pub CanAct : Known → Call → Type 0
 CanAct t (call.Grant s n) = MayGrant (t.kept s)
+CanAct t (call.Push metadata) = ⊥
+CanAct t (call.Lease ttl count metadata) = ⊥
 CanAct t (call.Take s) = ⊥
 CanAct t call.TakeJob = ⊥
 CanAct t call.Close = ⊥

@@ -4,7 +4,7 @@ use Rattle.rs_wire.specs.declared.words.Way.{Way}
 use Rattle.rs_wire.specs.declared.words.Role.{Role}
 use Rattle.rs_wire.specs.declared.words.Role.TheVariants.{Requester, Responder}
 use Rattle.rs_wire.specs.declared.delivery.Delivery.{Delivery}
-use Rattle.stream_model.specs.Marks.{Opening, RequestN, Mark, Opens, Sent, Got, Took, TookJob}
+use Rattle.stream_model.specs.Marks.{Opening, RequestN, Mark, Opens, Passed, Sent, Got, Pushed, Took, TookJob}
 use Rattle.stream_model.specs.Turns.{Word, Said, Taken, Turn, item_next, used, granted, waiting, needs_credit, other, is_fnf}
 use Rattle.stream_model.specs.Streams.{turn, live, highest, jobs_waiting}
 
@@ -50,8 +50,10 @@ pub record FitsOpening (most : ℕ) (seen : List Mark) (s : ℕ) (o : Opening) :
 -- a mark may follow those before it
 abbrev pub Fits : ℕ → List Mark → Mark → Type 0
 Fits most seen (Opens s opening) = FitsOpening most seen s opening
+Fits most seen (Passed s) = highest (s % 2) seen < s
 Fits most seen (Sent s step) = FitsTurn (turn most seen s) (λ role. Said role step)
 Fits most seen (Got s step) = FitsTurn (turn most seen s) (λ role. Said (other role) step)
+Fits most seen (Pushed metadata) = Unit {0}
 Fits most seen (Took s d) = FitsTurn (turn most seen s) (λ role. Taken d)
 Fits most seen TookJob = 0 < length (jobs_waiting most seen)
 

@@ -21,10 +21,14 @@ pub data Step : Type 0 where
   Cancel : Step
   Fail : (code : ℕ) (content : List ℕ) → Step
 
--- a request, of either end; a step that this end made, or one of the peer's that it handled; what its callers took
+-- a request, of either end; one of the peer's that its lease doesn't cover, which opens no stream (RSocket 1.0, "Lease Semantics"); a
+-- step that this end made, or one of the peer's that it handled; metadata that the peer pushed (RSocket 1.0, "METADATA_PUSH Frame");
+-- what callers of this end took
 pub data Mark : Type 0 where
   Opens : (stream : ℕ) (opening : Opening) → Mark
+  Passed : (stream : ℕ) → Mark
   Sent : (stream : ℕ) (step : Step) → Mark
   Got : (stream : ℕ) (step : Step) → Mark
+  Pushed : (metadata : List ℕ) → Mark
   Took : (stream : ℕ) (delivery : Delivery) → Mark
   TookJob : Mark

@@ -6,7 +6,7 @@ use Rattle.rs_wire.specs.declared.words.Way.TheVariants as way
 use Rattle.rs_wire.specs.declared.message.Message.{Message}
 use Rattle.rs_wire.specs.declared.delivery.Job.{Job}
 use Rattle.rs_wire.specs.declared.delivery.Job.TheVariants as job
-use Rattle.stream_model.specs.Marks.{Opening, Step, Payload, Mark, Opens, Sent, Got, Took, TookJob}
+use Rattle.stream_model.specs.Marks.{Opening, Step, Payload, Mark, Opens, Passed, Sent, Got, Pushed, Took, TookJob}
 use Rattle.stream_model.specs.Turns.{Word, Said, Taken, Turn, is_whole, is_over, over, is_fnf, is_role, other}
 
 -- ---- the ids that were used (RSocket 1.0, "Stream Identifiers")
@@ -17,9 +17,10 @@ higher parity id before = if id % 2 == parity then max id before else before
 
 abbrev pub higher_in : ℕ → Mark → ℕ → ℕ
 higher_in parity (Opens s opening) before = higher parity s before
+higher_in parity (Passed s) before = higher parity s before
 higher_in parity _ before = before
 
--- the highest id of a parity that a request was made on, admitted or not; 0 for none
+-- the highest id of a parity that a request was made on, admitted or not, or passed over; 0 for none
 unfoldable pub highest : ℕ → List Mark → ℕ
 highest parity [] = 0
 highest parity (m ∷ seen) = higher_in parity m (highest parity seen)
@@ -37,16 +38,20 @@ is_admitted room o = is_role o.role Requester || room || (is_fnf o.kind && is_so
 -- a stream after a mark on it, where room says whether one stream more may be open
 abbrev pub turn_after : Bool → Mark → Option Turn → Option Turn
 turn_after room (Opens s opening) before = if is_admitted room opening then Some (record { opening = opening; words = [] }) else before
+turn_after room (Passed s) before = before
 turn_after room (Sent s step) before = goes_on before (λ role. Said role step)
 turn_after room (Got s step) before = goes_on before (λ role. Said (other role) step)
+turn_after room (Pushed metadata) before = before
 turn_after room (Took s d) before = goes_on before (λ role. Taken d)
 turn_after room TookJob before = before
 
--- a mark is on the stream of that id
+-- a mark is on the stream of that id; a request that is passed over has none
 abbrev pub on : ℕ → Mark → Bool
 on s (Opens stream opening) = stream == s
+on s (Passed stream) = false
 on s (Sent stream step) = stream == s
 on s (Got stream step) = stream == s
+on s (Pushed metadata) = false
 on s (Took stream d) = stream == s
 on s TookJob = false
 
@@ -105,9 +110,10 @@ late_job s step t = []
 abbrev pub brings_job : ℕ → List Mark → Mark → List Job
 brings_job most seen (Opens s o) = if is_role o.role Responder && is_admitted (has_room most seen) o then opening_job s o o.whole else []
 brings_job most seen (Got s step) = late_job s step (turn most seen s)
+brings_job most seen (Pushed metadata) = job.Pushed metadata ∷ []
 brings_job most seen m = []
 
--- the jobs, in the order in which their messages became whole
+-- the jobs, in the order in which requests became whole and metadata was pushed
 unfoldable pub jobs : ℕ → List Mark → List Job
 jobs most [] = []
 jobs most (m ∷ seen) = jobs most seen ++ brings_job most seen m

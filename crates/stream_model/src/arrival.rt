@@ -49,6 +49,17 @@ pub enum Arrival {
         /// What the error says.
         content: Blob,
     },
+    /// It makes a request that its lease does not cover: the id is used, and opens no stream (RSocket 1.0,
+    /// "Lease Semantics").
+    PassedOver {
+        /// The stream.
+        stream: u32,
+    },
+    /// It sends metadata for the whole connection (RSocket 1.0, "METADATA_PUSH Frame").
+    Pushed {
+        /// The metadata.
+        metadata: Blob,
+    },
 }
 
 /// What an arrival does.

@@ -25,6 +25,14 @@ pub enum Answer {
     /// The connection is parted, and what was queued on it is gone. Without resumption the session is
     /// closed.
     Parted,
+    /// The moment is taken, and nothing else is done.
+    Quiet,
+    /// A KEEPALIVE is sent (RSocket 1.0, "KEEPALIVE Frame").
+    Sent,
+    /// The peer counts as dead: nothing came since this moment, in milliseconds, and that is the lifetime
+    /// ago or more. The connection is parted, and what was queued on it is gone. Without resumption the
+    /// session is closed (RSocket 1.0, "KEEPALIVE Frame").
+    Dead(u64),
     /// The frame is handled.
     Handled,
     /// The peer closed the session by an ERROR of this code.
@@ -95,6 +103,9 @@ impl Answer {
             Answer::GotJob(job) => Answer::GotJob(job.copy(alloc)?),
             Answer::Drawn(count) => Answer::Drawn(*count),
             Answer::Parted => Answer::Parted,
+            Answer::Quiet => Answer::Quiet,
+            Answer::Sent => Answer::Sent,
+            Answer::Dead(last) => Answer::Dead(*last),
             Answer::Handled => Answer::Handled,
             Answer::PeerError(code) => Answer::PeerError(*code),
             Answer::Violation(rule) => Answer::Violation(*rule),

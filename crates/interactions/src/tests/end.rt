@@ -57,7 +57,8 @@ fn is_act(call: &Call) -> bool
         } => fits(*kind, initial.is_some()) && may_complete(*kind, *complete),
         Call::Fail { code, .. } => is_stream_code(*code),
         Call::Next { .. } | Call::Done { .. } | Call::Grant { .. } | Call::Cancel { .. } => true,
-        Call::Take { .. } | Call::TakeJob | Call::Close => false,
+        Call::Push { .. } | Call::Lease { .. } | Call::Take { .. } | Call::TakeJob | Call::Close =>
+            false,
     }
 }
 
@@ -73,6 +74,7 @@ fn can_arrive(what: &Arrival) -> bool
             initial,
             ..
         } => *stream < 1 << 31 && fits(*kind, initial.is_some()),
+        Arrival::PassedOver { stream } => *stream < 1 << 31,
         _ => true,
     }
 }
@@ -85,7 +87,9 @@ fn stream_of(what: &Arrival) -> u32
         | Arrival::Whole { stream, .. }
         | Arrival::Granted { stream, .. }
         | Arrival::Canceled { stream }
-        | Arrival::Failed { stream, .. } => *stream,
+        | Arrival::Failed { stream, .. }
+        | Arrival::PassedOver { stream } => *stream,
+        Arrival::Pushed { .. } => 0,
     }
 }
 

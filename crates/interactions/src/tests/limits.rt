@@ -7,7 +7,7 @@ use rs_wire::Side::{Client, Server};
 use rs_wire::{Kind, Refusal, Rule, Way};
 use std::alloc::Global;
 use std::process::Abort;
-use stream_model::Effect;
+use stream_model::{Effect, State};
 
 const USED: Answer = Answer::Had(Effect::Used);
 
@@ -35,6 +35,59 @@ fn a_refused_request_uses_no_id(rt: HostRuntime) {
             (Server, stream, Answer::Did(4)),
             (Server, Step::Does(Act::Cancel(4)), Answer::Did(4)),
             (Server, stream, Answer::Refused(Refusal::IdsGone)),
+        ],
+    );
+}
+
+#[test]
+fn a_request_that_is_passed_over_uses_its_id_alone(rt: HostRuntime) {
+    let request = Step::Comes(Said::Request(3, Kind::Response, 0, Some(false)));
+    let refused = |stream| Answer::Had(Effect::Broken(Rule::StreamId(stream)));
+    play_within(
+        &rt,
+        rt.alloc(),
+        1,
+        9,
+        &[
+            (
+                Server,
+                Step::Comes(Said::Over(3)),
+                Answer::Had(Effect::Ignored),
+            ),
+            (Server, request, refused(3)),
+            (Server, Step::Comes(Said::Over(2)), refused(2)),
+            (Server, Step::TellsState(3), Answer::State(State::Over)),
+            (
+                Server,
+                Step::Comes(Said::Message(3, false, true)),
+                Answer::Had(Effect::Ignored),
+            ),
+            (Server, Step::TakesJob, Answer::Nothing),
+            (
+                Server,
+                Step::Comes(Said::Request(5, Kind::Response, 0, Some(false))),
+                USED,
+            ),
+        ],
+    );
+}
+
+#[test]
+fn pushed_metadata_waits_among_the_jobs(rt: HostRuntime) {
+    let request = Said::Request(1, Kind::Fnf, 0, Some(false));
+    play_within(
+        &rt,
+        rt.alloc(),
+        1,
+        9,
+        &[
+            (Server, Step::Comes(Said::Push), USED),
+            (Server, Step::Comes(request), USED),
+            (Server, Step::Comes(Said::Push), USED),
+            (Server, Step::TakesJob, Answer::Pushed(1)),
+            (Server, Step::TakesJob, Answer::Job(1, Kind::Fnf, 0, false)),
+            (Server, Step::TakesJob, Answer::Pushed(1)),
+            (Server, Step::TakesJob, Answer::Nothing),
         ],
     );
 }

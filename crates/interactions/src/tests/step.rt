@@ -36,6 +36,10 @@ pub enum Said {
     Cancel(u32),
     /// A stream ends by error 513 with two bytes.
     Fail(u32),
+    /// A request on a stream, which its lease does not cover.
+    Over(u32),
+    /// One byte of metadata for the connection.
+    Push,
 }
 
 /// What is done at an end.
@@ -76,6 +80,8 @@ pub enum Answer {
     Canceled,
     /// A job: its stream, its kind, its initial n, 0 for none, and whether nothing more follows.
     Job(u32, Kind, u32, bool),
+    /// A job of so many bytes of metadata.
+    Pushed(usize),
     /// Nothing waits.
     Nothing,
     /// The state of a stream.
@@ -173,6 +179,10 @@ impl Said {
                 code: 513,
                 content: bytes(rt, alloc, "oo"),
             },
+            Said::Over(stream) => Arrival::PassedOver { stream },
+            Said::Push => Arrival::Pushed {
+                metadata: bytes(rt, alloc, "m"),
+            },
         }
     }
 }
@@ -202,6 +212,7 @@ impl Answer {
                     ..
                 },
             ) => Answer::Job(*stream, *kind, number(*initial), *complete),
+            Some(Job::Pushed { metadata }) => Answer::Pushed(metadata.len()),
         }
     }
 }

@@ -14,6 +14,7 @@ pub const CLIENT: Limits = Limits {
     mtu: 0,
     resume: false,
     hold: 0,
+    lease: false,
 };
 
 /// A client without narrow limits.
@@ -26,6 +27,7 @@ pub const WIDE_CLIENT: Limits = Limits {
     mtu: 0,
     resume: false,
     hold: 0,
+    lease: false,
 };
 
 /// A server whose messages have 4 bytes at most, up to position 14.
@@ -38,6 +40,7 @@ pub const SERVER: Limits = Limits {
     mtu: 0,
     resume: false,
     hold: 0,
+    lease: false,
 };
 
 /// A server without narrow limits.
@@ -57,6 +60,30 @@ pub const RESUMING_CLIENT: Limits = Limits {
 pub const RESUMING_SERVER: Limits = Limits {
     side: Side::Server,
     ..RESUMING_CLIENT
+};
+
+/// A client that takes part in leases.
+pub const LEASING_CLIENT: Limits = Limits {
+    lease: true,
+    ..WIDE_CLIENT
+};
+
+/// A server that takes part in leases.
+pub const LEASING_SERVER: Limits = Limits {
+    side: Side::Server,
+    ..LEASING_CLIENT
+};
+
+/// A client that takes part in leases, and resumes by the token `tok1`.
+pub const RESUMING_LEASING_CLIENT: Limits = Limits {
+    lease: true,
+    ..RESUMING_CLIENT
+};
+
+/// A server that takes part in leases, and agrees to resumption.
+pub const RESUMING_LEASING_SERVER: Limits = Limits {
+    side: Side::Server,
+    ..RESUMING_LEASING_CLIENT
 };
 
 /// No frame was made or handled.

@@ -33,6 +33,8 @@ pub struct Limits {
     pub resume: bool,
     /// How many bytes of frames it holds.
     pub hold: u64,
+    /// Whether it takes part in leases.
+    pub lease: bool,
 }
 
 /// What a session shows of itself.
@@ -127,6 +129,7 @@ pub fn session(rt: &impl Abort, alloc: Global, limits: Limits) -> Session<Kept> 
     if limits.resume && limits.side == Side::Client {
         settings.token = Blob::from_slice(alloc, b"tok1").expect(rt, "there is memory");
     }
+    settings.lease = limits.lease;
     settings.slack = 0;
     settings.max_payload = limits.max_payload;
     settings.max_streams = limits.max_streams;
@@ -172,7 +175,7 @@ fn is_act(settings: &Settings, event: &Event) -> bool
             first: Some(first),
             ..
         } => settings.side == Side::Server && spellable(first),
-        Event::Cut { .. } => true,
+        Event::Cut { .. } | Event::Tick { .. } => true,
         Event::Draw { .. } => false,
         Event::Came { frame, .. } => spellable(frame),
         Event::Bad { rule, .. } => 0 < *rule && *rule <= 10,

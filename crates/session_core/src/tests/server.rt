@@ -186,6 +186,9 @@ fn an_error_of_the_connection_closes(rt: HostRuntime) {
 fn a_refused_first_frame_has_its_error(rt: HostRuntime) {
     let alloc = rt.alloc();
     for (fault, code, word) in [
+        (SetupFault::NotFirst, 0x001, "not-first"),
+        (SetupFault::BadVersion(2, 0), 0x001, "bad-version"),
+        (SetupFault::NoResume, 0x002, "no-resume"),
         (SetupFault::NoLease, 0x002, "no-lease"),
         (SetupFault::TokenTaken, 0x003, "token-taken"),
     ] {

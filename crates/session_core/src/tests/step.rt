@@ -13,12 +13,16 @@ pub enum First {
     Good,
     /// A SETUP of version 2.0.
     Newer,
+    /// A SETUP with 10 ms between KEEPALIVEs, and a lifetime of 30 ms.
+    Brisk,
     /// A SETUP that asks for resumption.
     Resuming,
     /// A SETUP that asks for leases.
     Leasing,
     /// A SETUP that asks for resumption by the token `tok1`.
     Tok1,
+    /// The same, which asks for leases too.
+    LeasingTok1,
     /// A RESUME.
     Resume(Again),
     /// No SETUP, but CANCEL.
@@ -90,6 +94,12 @@ pub enum Strange {
     First(u32, Piece),
     /// PAYLOAD with N on a stream, with this piece of a message.
     Part(u32, Piece),
+    /// A KEEPALIVE that asks for an answer or not, with this position and content of this many bytes.
+    Keepalive(bool, u64, usize),
+    /// A LEASE of this time to live, in milliseconds, and this count.
+    Lease(u32, u32),
+    /// METADATA_PUSH of this many bytes.
+    Push(usize),
 }
 
 /// An event in short. A message is given by how many bytes it has: each is 0x68.
@@ -125,6 +135,12 @@ pub enum Step {
     TakeJob,
     /// The session is to be closed.
     Close,
+    /// This moment has come, in milliseconds.
+    Tick(u64),
+    /// Metadata of this many bytes is to be pushed.
+    Push(usize),
+    /// The peer is to be let make this many requests, for this many milliseconds.
+    Lease(u32, u32),
 }
 
 fn empty(alloc: Global) -> Blob {
@@ -187,6 +203,21 @@ fn setup(rt: &impl Abort, alloc: Global, major: u16, resume: Option<Blob>, lease
     })
 }
 
+// A SETUP with these spans between KEEPALIVEs and without an arrival, in milliseconds.
+fn setup_each(rt: &impl Abort, alloc: Global, keepalive: u32, lifetime: u32) -> Frame {
+    Frame::Setup(Setup {
+        resume: None,
+        lease: false,
+        major: 1,
+        minor: 0,
+        keepalive: Amount::of(keepalive).expect(rt, "an amount"),
+        lifetime: Amount::of(lifetime).expect(rt, "an amount"),
+        metadata_mime: empty(alloc),
+        content_mime: empty(alloc),
+        message: message(rt, alloc, 0),
+    })
+}
+
 fn token_bytes(rt: &impl Abort, alloc: Global, token: Token) -> Blob {
     match token {
         Token::Own => blob(rt, alloc, "tok1"),
@@ -198,9 +229,11 @@ fn first_frame(rt: &impl Abort, alloc: Global, first: First) -> Frame {
     match first {
         First::Good => setup(rt, alloc, 1, None, false),
         First::Newer => setup(rt, alloc, 2, None, false),
+        First::Brisk => setup_each(rt, alloc, 10, 30),
         First::Resuming => setup(rt, alloc, 1, Some(empty(alloc)), false),
         First::Leasing => setup(rt, alloc, 1, None, true),
         First::Tok1 => setup(rt, alloc, 1, Some(blob(rt, alloc, "tok1")), false),
+        First::LeasingTok1 => setup(rt, alloc, 1, Some(blob(rt, alloc, "tok1")), true),
         First::Resume(again) => Frame::Resume(Resume {
             major: again.major,
             minor: 0,
@@ -276,6 +309,19 @@ fn strange_frame(rt: &impl Abort, alloc: Global, strange: Strange) -> Frame {
             next: true,
             message: piece_message(rt, alloc, piece),
         },
+        Strange::Keepalive(respond, position, len) => Frame::Keepalive {
+            respond,
+            position,
+            content: repeated(rt, alloc, len),
+        },
+        Strange::Lease(ttl, count) => Frame::Lease {
+            ttl,
+            count,
+            metadata: None,
+        },
+        Strange::Push(len) => Frame::MetadataPush {
+            metadata: repeated(rt, alloc, len),
+        },
     }
 }
 
@@ -319,6 +365,15 @@ impl Step {
             Step::AskStream(n) => ask(Kind::Stream, n, message(rt, alloc, 0)),
             Step::TakeJob => Event::Asked(Call::TakeJob),
             Step::Close => Event::Asked(Call::Close),
+            Step::Tick(now) => Event::Tick { now },
+            Step::Push(len) => Event::Asked(Call::Push {
+                metadata: repeated(rt, alloc, len),
+            }),
+            Step::Lease(ttl, count) => Event::Asked(Call::Lease {
+                ttl: Amount::of(ttl).expect(rt, "an amount"),
+                count: Amount::of(count).expect(rt, "an amount"),
+                metadata: None,
+            }),
         }
     }
 }

@@ -3,7 +3,7 @@ use Rattle.session_laws.proofs.Spelled.{due_spelled, came_spelled}
 use Rattle.session_laws.proofs.one_end.frames_are_spellable.Goals as goal
 
 pub returns-clause-made : goal.returns-clause-made
-returns-clause-made c = λ g past plain. made_spellable g past plain.checked
+returns-clause-made c = made_spellable
 
 pub returns-clause-due : goal.returns-clause-due
 returns-clause-due c = due_spelled
