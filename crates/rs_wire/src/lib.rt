@@ -24,6 +24,3 @@ pub use memory::OutOfMemory;
 pub use message::Message;
 pub use settings::{Checked, Limit, SettingFault, Settings, check};
 pub use words::{Kind, Role, Side, Way};
-
-#[cfg(test)]
-mod tests;

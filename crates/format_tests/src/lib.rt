@@ -1,0 +1,6 @@
+//! Tests of plain values, of frames as bytes and as lines, and of captures. They stand above the
+//! crates that they test, since a crate with tests is proved once more with them.
+#![tactic(auto)]
+
+#[cfg(test)]
+mod values;
