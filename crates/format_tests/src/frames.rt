@@ -1,0 +1,216 @@
+//! Bytes counted by hand.
+
+use rs_frame::{
+    Frame, FrameFault, Request, decode, encode, grammar_laws, length, resumable, rule_number,
+    spellable, stream,
+};
+use rs_wire::{Blob, Kind, Message, OutOfMemory};
+use std::alloc::Global;
+use std::test::Fail;
+
+/// For each rule its number, and bytes of which it is the least that they break.
+const BROKEN: [(u8, &[u8]); 9] = [
+    (1, b"\0\0\0\x01\x20"),
+    (2, b"\x80\0\0\x01\x24\0"),
+    (3, b"\0\0\0\0\x24\0"),
+    (4, b"\0\0\0\x01\x20\0\0\0"),
+    (5, b"\0\0\0\x01\x24\0\0"),
+    (6, b"\0\0\0\x01\x20\0\0\0\0\0"),
+    (7, b"\0\0\0\0\x04\0\0\x01\0\0\0\0\x4e\x20\0\x01\x5f\x90"),
+    (8, b"\0\0\0\x01\x29\x20\0\0\x05\x61"),
+    (9, b"\0\0\0\0\x38\0\x80\0\0\0\0\0\0\0"),
+];
+
+fn number(alloc: Global, bytes: &[u8]) -> Option<u8> {
+    if bytes.len() > 0xff_ffff {
+        return None;
+    }
+    match decode(alloc, bytes) {
+        Err(fault) => rule_number(fault),
+        Ok(_) => None,
+    }
+}
+
+#[test]
+fn each_rule_is_named(rt: HostRuntime) {
+    for (rule, bytes) in BROKEN {
+        assert_eq!(rt; number(rt.alloc(), bytes), Some(rule));
+    }
+    assert!(rt;
+        rule_number(FrameFault::OutOfMemory).is_none(),
+        "want of memory is no rule"
+    );
+}
+
+/// The canonical bytes of each type, the usual SETUP first.
+const CANONICAL: [&[u8]; 18] = [
+    b"\0\0\0\0\x04\0\0\x01\0\0\0\0\x4e\x20\0\x01\x5f\x90\
+        \x18application/octet-stream\x18application/octet-stream",
+    b"\0\0\0\0\x05\xc0\0\x01\0\0\0\0\0\x01\0\0\0\x02\0\x01\x74\0\x01\x61\0\0\x01\x6d\x63",
+    b"\0\0\0\0\x09\0\0\0\0\x01\0\0\0\x02\x6d",
+    b"\0\0\0\0\x0c\x80\0\0\0\0\0\0\0\x07\x63",
+    b"\0\0\0\x01\x11\x80\0\0\x01\x6d\x63",
+    b"\0\0\0\x03\x14\x80\x63",
+    b"\0\0\0\x01\x14\0\x68\x69",
+    b"\0\0\0\x01\x18\0\0\0\0\x05\x63",
+    b"\0\0\0\x01\x1c\x40\x7f\xff\xff\xff",
+    b"\0\0\0\x01\x20\0\0\0\0\x01",
+    b"\x7f\xff\xff\xff\x24\0",
+    b"\0\0\0\x02\x29\xe0\0\0\0",
+    b"\0\0\0\0\x2c\0\xff\xff\xff\xff\x6f",
+    b"\0\0\0\0\x31\0",
+    b"\0\0\0\0\x34\0\0\x01\0\0\0\x01\x74\0\0\0\0\0\0\0\x08\0\0\0\0\0\0\0\x09",
+    b"\0\0\0\0\x38\0\0\0\0\0\0\0\0\x10",
+    b"\0\0\0\0\xff\xff\0\0\0\x09\x72",
+    b"\0\0\0\x05\x82\x01\x72",
+];
+
+/// Bytes with flags that their type does not name, or without the one that it has, and the
+/// canonical bytes of the same frame.
+const OTHER_FLAGS: [(&[u8], &[u8]); 2] = [
+    (
+        b"\0\0\0\x01\x2f\xff\0\0\0\x2a",
+        b"\0\0\0\x01\x2c\0\0\0\0\x2a",
+    ),
+    (b"\0\0\0\0\x30\0\x61", b"\0\0\0\0\x31\0\x61"),
+];
+
+fn written(alloc: Global, frame: &Frame) -> Result<Vec<u8>, OutOfMemory> {
+    let mut out = Vec::new(alloc);
+    if spellable(frame) {
+        encode(frame, &mut out)?;
+    }
+    Ok(out)
+}
+
+fn has_length(frame: &Frame, count: usize) -> bool {
+    spellable(frame) && length(frame) as usize == count
+}
+
+// Whether a copy of the frame is the same, and is written as these bytes.
+fn is_written_as(alloc: Global, frame: &Frame, bytes: &[u8]) -> Result<bool, OutOfMemory> {
+    let copy = frame.copy(alloc)?;
+    let is_same = copy == *frame && has_length(&copy, bytes.len());
+    let out = written(alloc, &copy)?;
+    Ok(is_same && out.as_slice() == bytes)
+}
+
+// Whether the bytes spell a frame whose canonical bytes are these.
+fn comes_back(alloc: Global, bytes: &[u8], canonical: &[u8]) -> Result<bool, FrameFault> {
+    if bytes.len() > 0xff_ffff {
+        return Ok(false);
+    }
+    let frame = decode(alloc, bytes)?;
+    Ok(is_written_as(alloc, &frame, canonical)?)
+}
+
+#[test]
+fn each_type_comes_back(rt: HostRuntime) {
+    for bytes in CANONICAL {
+        assert_eq!(rt; comes_back(rt.alloc(), bytes, bytes), Ok(true), "{bytes:?}");
+    }
+    grammar_laws();
+}
+
+#[test]
+fn flags_that_are_not_named_are_not_read(rt: HostRuntime) {
+    for (bytes, canonical) in OTHER_FLAGS {
+        assert_eq!(rt;
+            comes_back(rt.alloc(), bytes, canonical),
+            Ok(true),
+            "{bytes:?}"
+        );
+    }
+}
+
+/// Bytes, and what they say.
+#[derive(Clone, Copy)]
+struct Row {
+    bytes: &'static [u8],
+    says: &'static str,
+    stream: u32,
+    resumable: bool,
+}
+
+const READ: [Row; 5] = [
+    Row {
+        bytes: b"\0\0\0\0\x04\0\0\x01\0\0\0\0\x4e\x20\0\x01\x5f\x90\
+            \x18application/octet-stream\x18application/octet-stream",
+        says: "Setup(Setup { resume: None, lease: false, major: 1, minor: 0, \
+            keepalive: Amount { number: 20000 }, lifetime: Amount { number: 90000 }, \
+            metadata_mime: Blob { bytes: [97, 112, 112, 108, 105, 99, 97, 116, 105, 111, 110, 47, \
+            111, 99, 116, 101, 116, 45, 115, 116, 114, 101, 97, 109] }, \
+            content_mime: Blob { bytes: [97, 112, 112, 108, 105, 99, 97, 116, 105, 111, 110, 47, \
+            111, 99, 116, 101, 116, 45, 115, 116, 114, 101, 97, 109] }, \
+            message: Message { metadata: None, content: Blob { bytes: [] } } })",
+        stream: 0,
+        resumable: false,
+    },
+    Row {
+        bytes: b"\0\0\0\0\x08\0\0\0\0\0\0\0\0\0",
+        says: "Lease { ttl: 0, count: 0, metadata: None }",
+        stream: 0,
+        resumable: false,
+    },
+    Row {
+        bytes: b"\0\0\0\x01\x14\0\x68\x69",
+        says: "Request(Request { stream: 1, kind: Fnf, follows: false, complete: false, \
+            initial: None, message: Message { metadata: None, content: Blob { bytes: [104, 105] } } })",
+        stream: 1,
+        resumable: true,
+    },
+    Row {
+        bytes: b"\0\0\0\x01\x2f\xff\0\0\0\x2a",
+        says: "Error { stream: 1, code: 42, content: Blob { bytes: [] } }",
+        stream: 1,
+        resumable: true,
+    },
+    Row {
+        bytes: b"\0\0\0\0\x34\0\0\x01\0\0\0\x01\x74\0\0\0\0\0\0\0\x08\0\0\0\0\0\0\0\x09",
+        says: "Resume(Resume { major: 1, minor: 0, token: Blob { bytes: [116] }, \
+            server_position: 8, client_position: 9 })",
+        stream: 0,
+        resumable: false,
+    },
+];
+
+fn says(alloc: Global, frame: &Frame, row: &Row) -> Result<bool, Fail> {
+    let text = format!(in alloc; "{frame:?}")?;
+    Ok(
+        text.as_str() == row.says
+            && stream(frame) == row.stream
+            && resumable(frame) == row.resumable,
+    )
+}
+
+fn is_read_so(alloc: Global, row: &Row) -> Result<bool, Fail> {
+    if row.bytes.len() > 0xff_ffff {
+        return Ok(false);
+    }
+    let frame = decode(alloc, row.bytes)?;
+    says(alloc, &frame, row)
+}
+
+#[test]
+fn bytes_are_read_by_field(rt: HostRuntime) -> Result<(), Fail> {
+    for row in READ {
+        assert!(rt; is_read_so(rt.alloc(), &row)?, "{}", row.says);
+    }
+    Ok(())
+}
+
+#[test]
+fn a_channel_has_an_initial_number(rt: HostRuntime) {
+    let frame = Frame::Request(Request {
+        stream: 1,
+        kind: Kind::Channel,
+        follows: false,
+        complete: true,
+        initial: None,
+        message: Message {
+            metadata: None,
+            content: Blob::from_vec(Vec::new(rt.alloc())),
+        },
+    });
+    assert!(rt; !spellable(&frame));
+}
