@@ -22,6 +22,3 @@ pub use front::{Front, split_frame};
 pub use laws::stream_laws;
 pub use reader::Reader;
 pub use writing::{frame_bytes, frames_bytes};
-
-#[cfg(test)]
-mod tests;

@@ -1,4 +1,6 @@
-use super::*;
+//! Frames out of a stream that comes in pieces.
+
+use rs_chunk::{Front, Reader, frame_bytes};
 use rs_frame::Frame;
 use std::test::Fail;
 
