@@ -8,3 +8,5 @@ mod chunks;
 mod frames;
 #[cfg(test)]
 mod values;
+#[cfg(test)]
+mod words;

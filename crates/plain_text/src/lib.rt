@@ -18,6 +18,3 @@ pub use decimal::read_number;
 pub use hexadecimal::{hex_size, is_hex_word, is_mark, read_hex};
 pub use lines::{cut_line, first_line};
 pub use writing::{write_hex, write_number, write_number_word, write_text, write_word};
-
-#[cfg(test)]
-mod tests;

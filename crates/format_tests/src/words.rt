@@ -1,35 +1,49 @@
-use super::*;
+//! Numbers, bytes and lines as text.
+
+use plain_text::{
+    cut_line, first_line, hex_size, is_hex_word, read_hex, read_number, write_hex, write_number,
+    write_number_word, write_text, write_word,
+};
 use std::test::Fail;
 
-// Whether the word reads as this number from 1 to 99.
-fn reads(word: &[u8], wanted: Option<u64>) -> bool {
-    read_number(word, 1, 99) == wanted
-}
+/// Words, and the number from 1 to 99 that they say.
+const NUMBERS: [(&[u8], Option<u64>); 9] = [
+    (b"1", Some(1)),
+    (b"99", Some(99)),
+    (b"0", None),
+    (b"100", None),
+    (b"07", None),
+    (b"+7", None),
+    (b"", None),
+    (b"7 ", None),
+    (b"\xff", None),
+];
 
 #[test]
 fn a_number_has_one_word(rt: HostRuntime) {
-    assert!(rt; reads(b"1", Some(1)));
-    assert!(rt; reads(b"99", Some(99)));
-    assert!(rt; reads(b"0", None));
-    assert!(rt; reads(b"100", None));
-    assert!(rt; reads(b"07", None));
-    assert!(rt; reads(b"+7", None));
-    assert!(rt; reads(b"", None));
-    assert!(rt; reads(b"7 ", None));
-    assert!(rt; reads(b"\xff", None));
+    for (word, number) in NUMBERS {
+        assert_eq!(rt; read_number(word, 1, 99), number, "{word:?}");
+    }
     assert!(rt; read_number(b"18446744073709551615", 0, u64::MAX) == Some(u64::MAX));
     assert!(rt; read_number(b"18446744073709551616", 0, u64::MAX).is_none());
 }
 
+/// Words, and whether they say bytes, where `-` says none.
+const BYTES: [(&[u8], bool); 7] = [
+    (b"0aff", true),
+    (b"-", true),
+    (b".", false),
+    (b"0AFF", false),
+    (b"0af", false),
+    (b"", false),
+    (b"0g", false),
+];
+
 #[test]
 fn bytes_have_one_word(rt: HostRuntime) {
-    assert!(rt; is_hex_word(b"0aff", b'-'));
-    assert!(rt; is_hex_word(b"-", b'-'));
-    assert!(rt; !is_hex_word(b".", b'-'));
-    assert!(rt; !is_hex_word(b"0AFF", b'-'));
-    assert!(rt; !is_hex_word(b"0af", b'-'));
-    assert!(rt; !is_hex_word(b"", b'-'));
-    assert!(rt; !is_hex_word(b"0g", b'-'));
+    for (word, is_word) in BYTES {
+        assert_eq!(rt; is_hex_word(word, b'-'), is_word, "{word:?}");
+    }
 }
 
 #[test]
