@@ -7,6 +7,8 @@ mod chunks;
 #[cfg(test)]
 mod frames;
 #[cfg(test)]
+mod lines;
+#[cfg(test)]
 mod values;
 #[cfg(test)]
 mod words;

@@ -29,6 +29,3 @@ pub use laws::line_laws;
 pub use lines::line_of;
 pub use names::{frame_name, kind_name};
 pub use reading::read_line;
-
-#[cfg(test)]
-mod tests;
