@@ -24,8 +24,3 @@ pub use back::{LineFault, from_lines};
 pub use back_laws::text_laws;
 pub use laws::capture_laws;
 pub use lines::{BadFrame, CaptureFault, to_lines};
-
-#[cfg(test)]
-mod back_tests;
-#[cfg(test)]
-mod tests;

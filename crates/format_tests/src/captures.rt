@@ -1,0 +1,91 @@
+//! Captures as bytes and as lines.
+
+use capture::{BadFrame, CaptureFault, LineFault, from_lines, to_lines};
+use rs_frame::FrameFault;
+use std::test::Fail;
+
+/// Bytes, where the first bad frame in them begins and what is wrong with it, and their lines.
+const READ: [(&[u8], Option<(u32, BadFrame)>, &[u8]); 9] = [
+    (b"", None, b""),
+    // REQUEST_N of stream 1 with 2,147,483,647.
+    (
+        b"\0\0\x0a\0\0\0\x01\x20\0\x7f\xff\xff\xff",
+        None,
+        b"REQUEST_N 1 2147483647\n",
+    ),
+    // CANCEL of stream 2, with a flag that no row names.
+    (b"\0\0\x06\0\0\0\x02\x24\x01", None, b"CANCEL 2\n"),
+    // The least broken rule is named.
+    (
+        b"\0\0\x05\0\0\0\x01\x20",
+        Some((0, BadFrame::Breaks(FrameFault::ShortHeader))),
+        b"",
+    ),
+    (
+        b"\0\0\x0a\0\0\0\x01\x20\0\0\0\0\0",
+        Some((0, BadFrame::Breaks(FrameFault::ZeroNumber))),
+        b"",
+    ),
+    // A capture may end within a frame.
+    (b"\0\0\x08\0\0", Some((0, BadFrame::NotWhole)), b""),
+    (b"\0\0", Some((0, BadFrame::NotWhole)), b""),
+    // The lines before a wrong frame, here one of no bytes, are appended.
+    (
+        b"\0\0\x0a\0\0\0\x01\x20\0\0\0\0\x05\0\0\x06\0\0\0\x02\x24\0",
+        None,
+        b"REQUEST_N 1 5\nCANCEL 2\n",
+    ),
+    (
+        b"\0\0\x0a\0\0\0\x01\x20\0\0\0\0\x05\0\0\x06\0\0\0\x02\x24\0\
+            \0\0\0\0\0\x06\0\0\0\x02\x24\0",
+        Some((22, BadFrame::Breaks(FrameFault::ShortHeader))),
+        b"REQUEST_N 1 5\nCANCEL 2\n",
+    ),
+];
+
+/// A text, its first wrong line, and the bytes of its frames.
+const WRITTEN: [(&[u8], Option<LineFault>, &[u8]); 5] = [
+    // A line gives its frame after its length.
+    (
+        b"REQUEST_FNF 1 - - 6869\n",
+        None,
+        b"\0\0\x08\0\0\0\x01\x14\0\x68\x69",
+    ),
+    // The last line feed may be missing.
+    (b"CANCEL 1", None, b"\0\0\x06\0\0\0\x01\x24\0"),
+    (b"", None, b""),
+    // An empty line is wrong, and a wrong line leaves what stood there.
+    (b"CANCEL 1\n\nCANCEL 1\n", Some(LineFault::Line(2)), b""),
+    (b"CANCEL 1\nCANCEL 01\n", Some(LineFault::Line(2)), b""),
+];
+
+// Whether the bytes after the first are these.
+fn is_rest(whole: &[u8], wanted: &[u8]) -> bool {
+    match whole {
+        [b'#', rest @ ..] => rest == wanted,
+        _ => false,
+    }
+}
+
+#[test]
+fn each_frame_has_a_line(rt: HostRuntime) -> Result<(), Fail> {
+    for (bytes, bad, lines) in READ {
+        let mut out = Vec::from_slice(rt.alloc(), b"#")?;
+        let fault = to_lines(rt.alloc(), bytes, &mut out).err();
+        let wanted = bad.map(|(place, bad)| CaptureFault::Frame { place, bad });
+        assert_eq!(rt; fault, wanted, "{bytes:?}");
+        assert!(rt; is_rest(out.as_slice(), lines), "{bytes:?}");
+    }
+    Ok(())
+}
+
+#[test]
+fn each_line_gives_its_frame(rt: HostRuntime) -> Result<(), Fail> {
+    for (text, wanted, bytes) in WRITTEN {
+        let mut out = Vec::from_slice(rt.alloc(), b"#")?;
+        let fault = from_lines(rt.alloc(), text, &mut out).err();
+        assert_eq!(rt; fault, wanted, "{text:?}");
+        assert!(rt; is_rest(out.as_slice(), bytes), "{text:?}");
+    }
+    Ok(())
+}
