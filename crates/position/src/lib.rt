@@ -14,6 +14,3 @@ mod laws;
 
 pub use counter::{Counter, Spent};
 pub use laws::boundary_laws;
-
-#[cfg(test)]
-mod tests;

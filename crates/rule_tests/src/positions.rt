@@ -1,4 +1,6 @@
-use super::*;
+//! Positions.
+
+use position::{Counter, Spent};
 use std::test::Fail;
 
 #[test]

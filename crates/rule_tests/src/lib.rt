@@ -1,0 +1,6 @@
+//! Tests of the crates of rules between the frames and the session. They stand above the crates that
+//! they test, since a crate with tests is proved once more with them.
+#![tactic(auto)]
+
+#[cfg(test)]
+mod positions;
