@@ -29,6 +29,3 @@ pub use glue::{Glue, GlueFault, Glued};
 pub use laws::fragment_laws;
 pub use size::{SplitSize, split_size};
 pub use splitting::split;
-
-#[cfg(test)]
-mod tests;

@@ -3,4 +3,6 @@
 #![tactic(auto)]
 
 #[cfg(test)]
+mod fragments;
+#[cfg(test)]
 mod positions;

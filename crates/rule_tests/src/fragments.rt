@@ -1,0 +1,379 @@
+//! Messages in fragments, and fragments joined.
+
+ghost use Rattle.fragment.specs.Splitting.{IsSplittable, IsMtu};
+
+use fragment::{Frames, Glue, GlueFault, Glued, SplitSize, split, split_size};
+use rs_frame::{Frame, Request, encode, spellable};
+use rs_wire::{Amount, Blob, Kind, Message, OutOfMemory};
+use std::alloc::Global;
+use std::process::Abort;
+use std::test::Fail;
+
+/// A frame of stream 1.
+#[derive(Clone, Copy)]
+enum What {
+    Fnf,
+    // Complete, with initial n 5.
+    Channel,
+    Payload { complete: bool, next: bool },
+}
+
+/// A frame whose message has this many bytes of metadata, where there is any, and of content, and
+/// the word of type and flags and the length of each frame that it is split into.
+#[derive(Clone, Copy)]
+struct Row {
+    shows: &'static str,
+    what: What,
+    metadata: Option<usize>,
+    content: usize,
+    mtu: u32,
+    frames: &'static [(u16, usize)],
+}
+
+const SPLIT: [Row; 11] = [
+    Row {
+        shows: "a request of a hundred bytes is split",
+        what: What::Fnf,
+        metadata: None,
+        content: 100,
+        mtu: 64,
+        frames: &[(0x1480, 64), (0x2820, 48)],
+    },
+    Row {
+        shows: "a frame at exactly the mtu is whole",
+        what: What::Fnf,
+        metadata: None,
+        content: 58,
+        mtu: 64,
+        frames: &[(0x1400, 64)],
+    },
+    Row {
+        shows: "a frame of one byte more is not",
+        what: What::Fnf,
+        metadata: None,
+        content: 59,
+        mtu: 64,
+        frames: &[(0x1480, 64), (0x2820, 7)],
+    },
+    Row {
+        shows: "an empty message is one frame",
+        what: What::Fnf,
+        metadata: None,
+        content: 0,
+        mtu: 64,
+        frames: &[(0x1400, 6)],
+    },
+    Row {
+        shows: "an mtu of 0 sets no limit",
+        what: What::Fnf,
+        metadata: None,
+        content: 100,
+        mtu: 0,
+        frames: &[(0x1400, 106)],
+    },
+    Row {
+        shows: "metadata that ends at an edge is over",
+        what: What::Fnf,
+        metadata: Some(55),
+        content: 1,
+        mtu: 64,
+        frames: &[(0x1580, 64), (0x2820, 7)],
+    },
+    Row {
+        shows: "metadata past an edge goes on",
+        what: What::Fnf,
+        metadata: Some(56),
+        content: 1,
+        mtu: 64,
+        frames: &[(0x1580, 64), (0x2920, 11)],
+    },
+    Row {
+        shows: "empty metadata stands on the first alone",
+        what: What::Fnf,
+        metadata: Some(0),
+        content: 60,
+        mtu: 64,
+        frames: &[(0x1580, 64), (0x2820, 11)],
+    },
+    Row {
+        shows: "complete without next stands on the last",
+        what: What::Payload {
+            complete: true,
+            next: false,
+        },
+        metadata: None,
+        content: 100,
+        mtu: 64,
+        frames: &[(0x2880, 64), (0x2840, 48)],
+    },
+    Row {
+        shows: "next stands on every fragment",
+        what: What::Payload {
+            complete: true,
+            next: true,
+        },
+        metadata: None,
+        content: 100,
+        mtu: 64,
+        frames: &[(0x28a0, 64), (0x2860, 48)],
+    },
+    Row {
+        shows: "a channel is complete with its last fragment",
+        what: What::Channel,
+        metadata: None,
+        content: 100,
+        mtu: 64,
+        frames: &[(0x1c80, 64), (0x2860, 52)],
+    },
+];
+
+// A message with this many bytes of metadata, where there is any, and of content.
+fn sized(alloc: Global, metadata: Option<usize>, content: usize) -> Result<Message, OutOfMemory> {
+    let metadata = match metadata {
+        Some(len) => Some(Blob::from_vec(vec![in alloc; 0xcd; len]?)),
+        None => None,
+    };
+    Ok(Message {
+        metadata,
+        content: Blob::from_vec(vec![in alloc; 0xab; content]?),
+    })
+}
+
+fn frame(what: What, message: Message) -> Frame
+    ensures { IsSplittable result }
+{
+    match what {
+        What::Fnf => Frame::Request(Request {
+            stream: 1,
+            kind: Kind::Fnf,
+            follows: false,
+            complete: false,
+            initial: None,
+            message,
+        }),
+        What::Channel => Frame::Request(Request {
+            stream: 1,
+            kind: Kind::Channel,
+            follows: false,
+            complete: true,
+            initial: Amount::of(5),
+            message,
+        }),
+        What::Payload { complete, next } => Frame::Payload {
+            stream: 1,
+            follows: false,
+            complete,
+            next,
+            message,
+        },
+    }
+}
+
+// The word of type and flags, and the length.
+fn shape(alloc: Global, fragment: &Frame) -> Result<(u16, usize), OutOfMemory> {
+    let mut bytes = Vec::new(alloc);
+    if spellable(fragment) {
+        encode(fragment, &mut bytes)?;
+    }
+    match bytes.as_slice() {
+        [_, _, _, _, high, low, ..] => Ok((u16::from_be_bytes([*high, *low]), bytes.len())),
+        _ => Ok((0, 0)),
+    }
+}
+
+// Whether the frame is split into frames of these shapes.
+fn is_split(
+    alloc: Global,
+    frame: &Frame,
+    mtu: u32,
+    shapes: &[(u16, usize)],
+) -> Result<bool, OutOfMemory>
+    requires whole { IsSplittable frame.now }
+    requires limit { IsMtu mtu }
+{
+    if !spellable(frame) {
+        return Ok(false);
+    }
+    let frames = split(alloc, frame, mtu)?;
+    let mut found = Vec::new(alloc);
+    for fragment in frames.as_slice() {
+        found.push(shape(alloc, fragment)?)?;
+    }
+    Ok(found.as_slice() == shapes)
+}
+
+fn is_split_so(alloc: Global, row: &Row) -> Result<bool, OutOfMemory> {
+    let message = sized(alloc, row.metadata, row.content)?;
+    let mtu = if row.mtu == 64 { 64 } else { 0 };
+    is_split(alloc, &frame(row.what, message), mtu, row.frames)
+}
+
+#[test]
+fn frames_are_split_at_the_mtu(rt: HostRuntime) -> Result<(), Fail> {
+    for row in SPLIT {
+        assert!(rt; is_split_so(rt.alloc(), &row)?, "{}", row.shows);
+    }
+    Ok(())
+}
+
+#[test]
+fn the_size_of_a_split_is_known_before_it_is_made(rt: HostRuntime) -> Result<(), Fail> {
+    // Metadata, content, head, mtu; then how many frames and bytes.
+    let rows = [
+        (None, 100, 6, 0, 1, 106),
+        (None, 58, 6, 64, 1, 64),
+        (None, 59, 6, 64, 2, 71),
+        (None, 100, 10, 64, 2, 116),
+        (Some(55), 1, 6, 64, 2, 71),
+        (Some(56), 1, 6, 64, 2, 75),
+        (Some(0), 60, 6, 64, 2, 75),
+        (None, 0, 6, 64, 1, 6),
+        (Some(130), 70, 6, 64, 4, 233),
+    ];
+    for (metadata, content, head, mtu, frames, bytes) in rows {
+        let message = sized(rt.alloc(), metadata, content)?;
+        assert!(rt; message.size() < 1000 && head <= 10 && (mtu == 0 || mtu == 64));
+        assert_eq!(rt;
+            split_size(&message, head, mtu),
+            SplitSize { frames, bytes }
+        );
+    }
+    Ok(())
+}
+
+/// A part of a message without metadata, with its F, C and N, what a glue that takes at most 4 bytes
+/// answers, and how many it holds then.
+#[derive(Clone, Copy)]
+struct Part {
+    content: &'static [u8],
+    flags: (bool, bool, bool),
+    answer: &'static str,
+    held: u64,
+}
+
+/// A part is too large exactly above the limit, and changes nothing.
+const TOO_LARGE: [Part; 3] = [
+    Part {
+        content: b"abc",
+        flags: (true, false, false),
+        answer: "Ok(Part)",
+        held: 3,
+    },
+    Part {
+        content: b"de",
+        flags: (false, false, false),
+        answer: "Err(TooLarge(5))",
+        held: 3,
+    },
+    Part {
+        content: b"d",
+        flags: (false, false, false),
+        answer: "Ok(Whole { message: Message { metadata: None, \
+            content: Blob { bytes: [97, 98, 99, 100] } }, complete: false, next: false })",
+        held: 0,
+    },
+];
+
+/// C and N are taken from any part.
+const FLAGS: [Part; 2] = [
+    Part {
+        content: b"ab",
+        flags: (true, true, false),
+        answer: "Ok(Part)",
+        held: 2,
+    },
+    Part {
+        content: b"c",
+        flags: (false, false, true),
+        answer: "Ok(Whole { message: Message { metadata: None, \
+            content: Blob { bytes: [97, 98, 99] } }, complete: true, next: true })",
+        held: 0,
+    },
+];
+
+// What the glue answers, in words.
+fn answer<R: Abort>(rt: &R, alloc: Global, glue: &mut Glue, part: &Part) -> Result<String, Fail> {
+    let message = Message {
+        metadata: None,
+        content: Blob::from_slice(alloc, part.content)?,
+    };
+    assert!(rt; message.size() < 1000);
+    let (follows, complete, next) = part.flags;
+    let answer = glue.push(follows, &message, complete, next);
+    Ok(format!(in alloc; "{answer:?}")?)
+}
+
+// That a glue answers so to the parts, in turn.
+fn comes<R: Abort>(rt: &R, alloc: Global, parts: &[Part]) -> Result<(), Fail> {
+    let mut glue = Glue::new(alloc, 4);
+    for part in parts {
+        let answer = answer(rt, alloc, &mut glue, part)?;
+        assert_eq!(rt; answer.as_str(), part.answer);
+        assert_eq!(rt; glue.size(), part.held);
+    }
+    Ok(())
+}
+
+#[test]
+fn parts_are_joined_up_to_the_limit(rt: HostRuntime) -> Result<(), Fail> {
+    comes(&rt, rt.alloc(), &TOO_LARGE)?;
+    comes(&rt, rt.alloc(), &FLAGS)
+}
+
+// The last answer to the payloads of a split, pushed in turn.
+fn joined<R: Abort>(rt: &R, alloc: Global, frames: &Frames) -> Result<Glued, GlueFault> {
+    let mut glue = Glue::new(alloc, 200);
+    let mut last = Glued::Part;
+    for frame in frames.as_slice() {
+        if let Frame::Payload {
+            follows,
+            complete,
+            next,
+            message,
+            ..
+        } = frame
+        {
+            assert!(rt; last == Glued::Part && message.size() < 100);
+            last = glue.push(*follows, message, *complete, *next)?;
+        }
+    }
+    Ok(last)
+}
+
+#[test]
+fn a_split_is_joined_again(rt: HostRuntime) -> Result<(), Fail> {
+    let what = What::Payload {
+        complete: true,
+        next: true,
+    };
+    let item = frame(what, sized(rt.alloc(), Some(130), 70)?);
+    assert!(rt; spellable(&item));
+    let frames = split(rt.alloc(), &item, 64)?;
+    let expected = Glued::Whole {
+        message: sized(rt.alloc(), Some(130), 70)?,
+        complete: true,
+        next: true,
+    };
+    assert!(rt; joined(&rt, rt.alloc(), &frames) == Ok(expected));
+    Ok(())
+}
+
+#[test]
+fn frames_are_the_vector_that_they_were_made_of(rt: HostRuntime) -> Result<(), Fail> {
+    let mut frames = Vec::new(rt.alloc());
+    frames.push(frame(What::Fnf, sized(rt.alloc(), None, 1)?))?;
+    let frames = Frames::from_vec(frames);
+    assert!(rt; frames.as_slice().len() == 1);
+    assert!(rt; frames.into_vec().len() == 1);
+    Ok(())
+}
+
+#[test]
+fn a_fault_says_why_in_a_sentence(rt: HostRuntime) -> Result<(), Fail> {
+    let sentence = format!(in rt.alloc(); "{}", GlueFault::TooLarge(5))?;
+    assert_eq!(rt;
+        sentence.as_str(),
+        "the joined message would have 5 bytes, more than is taken"
+    );
+    Ok(())
+}
