@@ -14,6 +14,3 @@
 mod table;
 
 pub use table::Reassembly;
-
-#[cfg(test)]
-mod tests;

@@ -5,4 +5,6 @@
 #[cfg(test)]
 mod fragments;
 #[cfg(test)]
+mod parts;
+#[cfg(test)]
 mod positions;

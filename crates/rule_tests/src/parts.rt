@@ -1,5 +1,7 @@
-use super::*;
+//! Messages that are not whole yet.
+
 use fragment::Glued;
+use reassembly::Reassembly;
 use rs_wire::{Blob, Message, OutOfMemory};
 use std::alloc::Global;
 use std::process::Abort;
