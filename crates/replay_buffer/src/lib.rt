@@ -23,6 +23,3 @@ mod replay;
 
 pub use laws::held_of_made;
 pub use replay::Replay;
-
-#[cfg(test)]
-mod tests;

@@ -8,3 +8,5 @@ mod fragments;
 mod parts;
 #[cfg(test)]
 mod positions;
+#[cfg(test)]
+mod replays;

@@ -1,4 +1,6 @@
-use crate::Replay;
+//! Frames that are held for a resumption.
+
+use replay_buffer::Replay;
 use std::test::Fail;
 
 const EIGHT: [u8; 8] = [1, 2, 3, 4, 5, 6, 7, 8];
