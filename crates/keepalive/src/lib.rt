@@ -9,6 +9,3 @@
 mod timer;
 
 pub use timer::{Due, Timer};
-
-#[cfg(test)]
-mod tests;

@@ -10,3 +10,5 @@ mod parts;
 mod positions;
 #[cfg(test)]
 mod replays;
+#[cfg(test)]
+mod timers;

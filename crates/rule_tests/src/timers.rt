@@ -1,4 +1,6 @@
-use super::*;
+//! When a KEEPALIVE is due, and when a peer is dead.
+
+use keepalive::{Due, Timer};
 use rs_wire::Amount;
 use std::test::Fail;
 
