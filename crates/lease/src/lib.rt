@@ -11,6 +11,3 @@ mod responder;
 
 pub use requester::{Lease, LeaseFault};
 pub use responder::Granted;
-
-#[cfg(test)]
-mod tests;

@@ -5,6 +5,8 @@
 #[cfg(test)]
 mod fragments;
 #[cfg(test)]
+mod leases;
+#[cfg(test)]
 mod parts;
 #[cfg(test)]
 mod positions;

@@ -1,4 +1,6 @@
-use super::*;
+//! Leases.
+
+use lease::{Granted, Lease, LeaseFault};
 use rs_wire::Amount;
 use std::test::Fail;
 
