@@ -60,6 +60,3 @@ impl Credit {
         self.used += 1;
     }
 }
-
-#[cfg(test)]
-mod tests;

@@ -3,6 +3,8 @@
 #![tactic(auto)]
 
 #[cfg(test)]
+mod credits;
+#[cfg(test)]
 mod fragments;
 #[cfg(test)]
 mod leases;

@@ -1,4 +1,7 @@
-use super::*;
+//! Credit.
+
+use credit::Credit;
+use rs_wire::Amount;
 use std::test::Fail;
 
 #[test]
