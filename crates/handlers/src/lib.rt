@@ -48,6 +48,3 @@ pub use law::{Law, Produced};
 pub use laws::{a_finish_is_final, routes_are_found_by_name_and_kind};
 pub use routes::Routes;
 pub use stored::Stored;
-
-#[cfg(test)]
-mod tests;

@@ -7,6 +7,8 @@ mod credits;
 #[cfg(test)]
 mod fragments;
 #[cfg(test)]
+mod handling;
+#[cfg(test)]
 mod leases;
 #[cfg(test)]
 mod parts;

@@ -1,4 +1,6 @@
-use super::*;
+//! Stored handlers and their routes.
+
+use handlers::{Handler, Law, Produced, RouteFault, Routes, Stored};
 use rs_wire::{Blob, Kind};
 use std::alloc::Global;
 use std::sync::Arc;
