@@ -17,4 +17,6 @@ mod positions;
 #[cfg(test)]
 mod replays;
 #[cfg(test)]
+mod tables;
+#[cfg(test)]
 mod timers;

@@ -17,6 +17,3 @@ mod table;
 
 pub use fault::TableFault;
 pub use table::Table;
-
-#[cfg(test)]
-mod tests;

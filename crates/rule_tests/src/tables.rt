@@ -1,8 +1,10 @@
-use super::*;
+//! The streams that are open.
+
 use rs_wire::{Kind, Side, Way};
 use std::alloc::Global;
 use std::test::Fail;
 use stream_model::State;
+use stream_table::{Table, TableFault};
 
 // An open stream of the client's.
 fn open(kind: Kind, request_over: bool, reply_over: bool) -> State {
