@@ -11,6 +11,3 @@ mod resume_ok;
 
 pub use resume::judge_resume;
 pub use resume_ok::judge_ok;
-
-#[cfg(test)]
-mod tests;

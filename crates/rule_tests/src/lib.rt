@@ -17,6 +17,8 @@ mod positions;
 #[cfg(test)]
 mod replays;
 #[cfg(test)]
+mod resumptions;
+#[cfg(test)]
 mod tables;
 #[cfg(test)]
 mod timers;

@@ -1,4 +1,6 @@
-use super::*;
+//! What an end says to RESUME and RESUME_OK.
+
+use resume_core::{judge_ok, judge_resume};
 use rs_frame::Resume;
 use rs_wire::{Blob, Gone};
 use std::test::Fail;
