@@ -19,6 +19,8 @@ mod replays;
 #[cfg(test)]
 mod resumptions;
 #[cfg(test)]
+mod setups;
+#[cfg(test)]
 mod tables;
 #[cfg(test)]
 mod timers;

@@ -12,6 +12,3 @@ mod verdict;
 
 pub use code::code_of;
 pub use verdict::judge;
-
-#[cfg(test)]
-mod tests;

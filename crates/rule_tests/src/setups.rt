@@ -1,6 +1,8 @@
-use super::*;
+//! What a server says to a first frame.
+
 use rs_frame::{Frame, Setup};
 use rs_wire::{Amount, Blob, Checked, Message, Settings, SetupFault, Side, check};
+use setup_core::{code_of, judge};
 use std::alloc::Global;
 use std::test::Fail;
 
