@@ -23,4 +23,6 @@ mod setups;
 #[cfg(test)]
 mod tables;
 #[cfg(test)]
+mod tapes;
+#[cfg(test)]
 mod timers;
