@@ -39,8 +39,3 @@ pub use net::{Ask, Net, NetFault};
 pub use sink::{Sink, Wrote};
 pub use source::{Read, Source};
 pub use std_streams::{StdSink, StdSource};
-
-#[cfg(test)]
-mod link_tests;
-#[cfg(test)]
-mod tests;

@@ -11,6 +11,8 @@ mod handling;
 #[cfg(test)]
 mod leases;
 #[cfg(test)]
+mod links;
+#[cfg(test)]
 mod parts;
 #[cfg(test)]
 mod positions;
@@ -20,6 +22,8 @@ mod replays;
 mod resumptions;
 #[cfg(test)]
 mod setups;
+#[cfg(test)]
+mod sources;
 #[cfg(test)]
 mod tables;
 #[cfg(test)]

@@ -1,4 +1,6 @@
-use super::*;
+//! Sources and sinks.
+
+use outside::{MemSink, MemSource, Read, Sink, Source, StdSink, StdSource, Wrote};
 use rs_wire::Blob;
 use std::test::Fail;
 

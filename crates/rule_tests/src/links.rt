@@ -1,8 +1,10 @@
+//! Links, nets and clocks in memory.
+
 ghost use Rattle.std.specs.Prelude.{IfOk};
 ghost use Rattle.outside.specs.Links.{IsNew};
 ghost use Rattle.outside.specs.MemoryLink.{shown_of};
 
-use super::*;
+use outside::{After, Clock, Given, Link, MemClock, MemLink, MemNet, Net, NetFault, Taken};
 use rs_wire::Blob;
 use std::test::Fail;
 
