@@ -6,3 +6,7 @@ pub mod Counts
 pub mod Tally
 pub mod Marks
 pub mod Entries
+pub mod Made
+pub mod Ids
+pub mod NextId
+pub mod Honest

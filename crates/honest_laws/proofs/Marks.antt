@@ -119,10 +119,10 @@ got_step side most s M H W q step hs h false is e zero parts adds k =
 
 -- ---- requests
 
-higher_keeps : (p q h : ℕ) → h ≤ higher p q h
+pub higher_keeps : (p q h : ℕ) → h ≤ higher p q h
 higher_keeps p q h = elim (q % 2 == p) as (λ v. h ≤ cond v (max q h) h) [ true ↦ omega arith | false ↦ omega arith ]
 
-higher_reaches : (s h : ℕ) → s ≤ higher (s % 2) s h
+pub higher_reaches : (s h : ℕ) → s ≤ higher (s % 2) s h
 higher_reaches s h = rw (same_id (s % 2)) (omega arith)
 
 bare_at : (side : Side) (most s : ℕ) (M H : Counts) (W : List Mark) → highest (s % 2) W < s → At side most s M H W → Bare s M H (highest (s % 2) W)
