@@ -26,6 +26,7 @@ use Rattle.session_laws.proofs.Growth.{stays_closed}
 use Rattle.session_laws.proofs.Lawful.{before_lawful}
 use Rattle.honest_laws.specs.Accusing.{AccusesNobody, accuses}
 use Rattle.honest_laws.proofs.Arrives.{Arrives, ComesNow, client_arrives, server_arrives}
+use Rattle.honest_laws.proofs.Credit.{finds_credit}
 use Rattle.honest_laws.proofs.Judged.{KeepsTo, carried_judged, event_judged, frame_judged, waiting_judged}
 use Rattle.honest_laws.proofs.NextId.{next_peers_id}
 
@@ -34,6 +35,8 @@ use Rattle.honest_laws.proofs.NextId.{next_peers_id}
 keeps_to : (g h : Settings) (before peer : List Entry) (f : Frame) → Arrives g h before peer f → KeepsTo g (facts g before) f
 unfolding facts
 keeps_to g h before peer (frame.Request r) a = next_peers_id g h before peer r a
+keeps_to g h before peer (frame.Payload s true complete next message) a = λ whole. absurd (cc)
+keeps_to g h before peer (frame.Payload s false complete next message) a = λ whole. finds_credit g h before peer s complete next message a
 keeps_to g h before peer f a = tt
 
 arrival_judged : (g : Settings) (before : List Entry) (f : Frame) (carries : Bool) → carrying g before ≡ carries → ComesNow carries (pos (made g before)) f → KeepsTo g (facts g before) f

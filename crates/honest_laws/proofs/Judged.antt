@@ -37,6 +37,8 @@ HangsOnLimits broken = accuses (handled_unless broken) ≡ false
 -- what an honest peer's frame keeps to, beside being plain
 abbrev pub KeepsTo : Settings → Facts → Frame → Type 0
 KeepsTo g t (frame.Request r) = is_peers_next g.side t.streams r.stream ≡ true
+KeepsTo g t (frame.Payload s follows complete next message) =
+    follows ≡ false → over_credit_on (t.streams.kept s) (with_part (t.unfinished s) message complete next).next ≡ None
 KeepsTo g t f = Unit {0}
 
 limits_only : (large spent : Bool) (size : ℕ) (more : Option Rule) → HangsOnLimits more → HangsOnLimits (cond large (Some (rule.TooLarge size)) (cond spent (Some rule.PositionSpent) more))
@@ -52,14 +54,14 @@ request_judged : (g : Settings) (t : Facts) (r : Request) → is_peers_next g.si
 unfolding broken_rule
 request_judged g t r next = rw next (limits_only (is_too_large g true r.message) (spends g t (frame.Request r) || answer_spends g t r) (size_of r.message) None refl)
 
-credit_judged : (credit : Option ℕ) (more : Option Rule) → HangsOnLimits more → HangsOnLimits (option_or (option_map rule.OverCredit credit) more)
-credit_judged None more last = last
-credit_judged (Some n) more last = refl
+no_credit_broken : (t : Facts) (s : ℕ) (follows next : Bool) → (follows ≡ false → over_credit_on (t.streams.kept s) next ≡ None) → breaks_credit t s follows next ≡ None
+no_credit_broken t s true next kept = refl
+no_credit_broken t s false next kept = rw (kept refl) refl
 
-payload_judged : (g : Settings) (t : Facts) (s : ℕ) (follows : Bool) (sum : Gathered) (f : Frame) → HangsOnLimits (payload_rule g t s follows sum f)
-payload_judged g t s true sum f = limits_only (is_too_large g (hears_on (t.streams.kept s)) sum.message) (spends g t f) (size_of sum.message) None refl
-payload_judged g t s false sum f =
-    credit_judged (over_credit_on (t.streams.kept s) sum.next) _ (limits_only (is_too_large g (hears_on (t.streams.kept s)) sum.message) (spends g t f) (size_of sum.message) None refl)
+payload_judged : (g : Settings) (t : Facts) (s : ℕ) (follows : Bool) (sum : Gathered) (f : Frame) → (follows ≡ false → over_credit_on (t.streams.kept s) sum.next ≡ None)
+    → HangsOnLimits (payload_rule g t s follows sum f)
+payload_judged g t s follows sum f kept =
+    rw (no_credit_broken t s follows sum.next kept) (limits_only (is_too_large g (hears_on (t.streams.kept s)) sum.message) (spends g t f) (size_of sum.message) None refl)
 
 not_ahead : (agreed : Bool) (made position : ℕ) → position ≤ made → (agreed && nat_lt made position) ≡ false
 not_ahead true made position le = grind (arith, nat_tests)
@@ -78,7 +80,7 @@ plain_judged g t (frame.Ext stream flags extended rest) plain keeps = absurd pla
 plain_judged g t (frame.Unknown stream number flags rest) plain keeps = absurd plain
 plain_judged g t (frame.Request r) plain keeps = request_judged g t r keeps
 plain_judged g t (frame.Payload s follows complete next message) plain keeps =
-    payload_judged g t s follows (with_part (t.unfinished s) message complete next) (frame.Payload s follows complete next message)
+    payload_judged g t s follows (with_part (t.unfinished s) message complete next) (frame.Payload s follows complete next message) keeps
 plain_judged g t (frame.RequestN s n) plain keeps = spent_only (spends g t (frame.RequestN s n))
 plain_judged g t (frame.Cancel s) plain keeps = spent_only (spends g t (frame.Cancel s))
 plain_judged g t (frame.Error s code content) plain keeps = spent_only (spends g t (frame.Error s code content))

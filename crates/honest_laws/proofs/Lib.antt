@@ -9,4 +9,7 @@ pub mod Entries
 pub mod Made
 pub mod Ids
 pub mod NextId
+pub mod Unfinished
+pub mod Maker
+pub mod Credit
 pub mod Honest

@@ -125,7 +125,7 @@ higher_keeps p q h = elim (q % 2 == p) as (λ v. h ≤ cond v (max q h) h) [ tru
 pub higher_reaches : (s h : ℕ) → s ≤ higher (s % 2) s h
 higher_reaches s h = rw (same_id (s % 2)) (omega arith)
 
-bare_at : (side : Side) (most s : ℕ) (M H : Counts) (W : List Mark) → highest (s % 2) W < s → At side most s M H W → Bare s M H (highest (s % 2) W)
+pub bare_at : (side : Side) (most s : ℕ) (M H : Counts) (W : List Mark) → highest (s % 2) W < s → At side most s M H W → Bare s M H (highest (s % 2) W)
 bare_at side most s M H W above k = subst (Keeps side s M H (highest (s % 2) W)) (fresh most W s above) k
 
 own_here : (side : Side) (most s mtu : ℕ) (M H : Counts) (W : List Mark) (kind : Kind) (initial : Option ℕ) (message : Message) (complete : Bool) → highest (s % 2) W < s → is_own_parity side s ≡ true → At side most s M H W

@@ -77,7 +77,7 @@ parities_apart : (side : Side) (s r : ℕ) → is_own_parity side s ≡ true →
 parities_apart Client s r own other = grind (arith, nat_tests)
 parities_apart Server s r own other = grind (arith, nat_tests)
 
-peers_own : (side : Side) (s : ℕ) → is_own_parity (other_side side) s ≡ true → is_own_parity side s ≡ false
+pub peers_own : (side : Side) (s : ℕ) → is_own_parity (other_side side) s ≡ true → is_own_parity side s ≡ false
 peers_own side s theirs =
     elim (is_own_parity side s) as (λ v. is_own_parity (other_side side) s ≡ not v → v ≡ false) [ true ↦ λ is. absurd (cc) | false ↦ λ is. refl ] (other_parity side s)
 

@@ -12,6 +12,7 @@ abbrev pub hangs_on_no_limit : Rule → Bool
 hangs_on_no_limit (rule.UnknownType number) = true
 hangs_on_no_limit rule.NotNow = true
 hangs_on_no_limit (rule.StreamId stream) = true
+hangs_on_no_limit (rule.OverCredit granted) = true
 hangs_on_no_limit (rule.Ahead made) = true
 hangs_on_no_limit _ = false
 
