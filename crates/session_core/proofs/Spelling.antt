@@ -1,5 +1,5 @@
 -- The frames that are made can be spelled.
-use Rattle.std.proofs.Common.{◌<◌, ◌^◌, Option, Some, None, IfSome, ℕ, true, false, cond, List, [], ◌∷◌, arith}
+use Rattle.std.proofs.Common.{◌<◌, ◌^◌, Option, Some, None, IfSome, ℕ, Bool, true, false, cond, List, [], ◌∷◌, arith}
 use Rattle.std.specs.List.{AllByRecursion}
 use Rattle.rs_wire.specs.Settings.{IsChecked}
 use Rattle.rs_wire.specs.Words.{gone_word, rule_word}

@@ -15,4 +15,3 @@ pub mod Kept
 pub mod Leasing
 pub mod Line
 pub mod Timing
-pub mod Leasing

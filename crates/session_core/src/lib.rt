@@ -73,6 +73,3 @@ mod turned_away;
 pub use counts::Counts;
 pub use refusal::refusal_frame;
 pub use session::Session;
-
-#[cfg(test)]
-mod tests;

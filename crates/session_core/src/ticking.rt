@@ -1,7 +1,7 @@
 //! The answer to a tick (RSocket 1.0, "KEEPALIVE Frame").
 
-ghost use Rattle.std.specs.Prelude.{◌≡◌};
-ghost use Rattle.session_model.specs.Answers.{to_due, to_tick};
+ghost use Rattle.std.specs.Prelude.{◌≡◌, [], ◌∷◌, not};
+ghost use Rattle.session_model.specs.Answers.{asks_alive, find_full, to_due, to_tick};
 ghost use Rattle.session_core.specs.Fits.{facts_of};
 
 use crate::asked::find_full;
@@ -12,6 +12,14 @@ use keepalive::Due;
 use rs_wire::Checked;
 use tape::Answer;
 
+// The queue has room for a KEEPALIVE that asks for an answer.
+fn finds_place(settings: &Checked, state: &State) -> bool
+    ensures { result ≡ not (find_full settings.now (facts_of state.now)
+        (asks_alive settings.now (facts_of state.now) ∷ [])) }
+{
+    !find_full(settings, state, keepalive_size())
+}
+
 // The answer where this is due. A KEEPALIVE is sent where the connection carries and the queue has room
 // for it.
 fn to_due(settings: &Checked, state: &State, due: Due) -> Answer
@@ -19,9 +27,7 @@ fn to_due(settings: &Checked, state: &State, due: Due) -> Answer
 {
     match due {
         Due::Dead(last) => Answer::Dead(last),
-        Due::Send if state.carrying && !find_full(settings, state, keepalive_size()) => {
-            Answer::Sent
-        }
+        Due::Send if state.carrying && finds_place(settings, state) => Answer::Sent,
         Due::Send | Due::Nothing => Answer::Quiet,
     }
 }

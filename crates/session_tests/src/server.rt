@@ -4,9 +4,9 @@
 use super::ends::{NOT_BEGUN, OPENED, SERVER};
 use super::play::{play, text};
 use super::step::{First, Step, Strange};
-use crate::refusal_frame;
 use rs_frame::Frame;
 use rs_wire::{Blob, Cause, Refusal, Rule, SetupFault};
+use session_core::refusal_frame;
 use std::alloc::Global;
 use std::process::Abort;
 use tape::Answer;

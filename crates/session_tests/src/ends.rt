@@ -1,8 +1,8 @@
 //! The ends that the lists are played on, and what they show.
 
 use super::play::{Limits, Shown};
-use crate::Counts;
 use rs_wire::Side;
+use session_core::Counts;
 
 /// A client whose messages have 100 bytes at most, up to stream 3 and position 16.
 pub const CLIENT: Limits = Limits {

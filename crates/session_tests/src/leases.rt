@@ -96,9 +96,11 @@ fn a_lease_of_no_time_or_no_request_lets_none_through(rt: HostRuntime) {
             (Step::Ask(0), "Refused(LeaseOver(0))"),
             (Step::Odd(1, Strange::Lease(1000, 0)), "Handled"),
             (Step::Ask(0), "Refused(NoLease(0))"),
+            (Step::Odd(1, Strange::Lease(0, 0)), "Handled"),
+            (Step::Ask(0), "Refused(NoLease(0))"),
         ],
         &[],
-        BEGUN.after(5, 71),
+        BEGUN.after(7, 71),
     );
 }
 

@@ -7,9 +7,9 @@ ghost use Rattle.session_model.specs.Legal.{CanBring};
 ghost use Rattle.session_core.specs.Seen.{IsNoDrawEvent};
 
 use super::step::Step;
-use crate::{Counts, Session};
 use rs_frame::spellable;
 use rs_wire::{Blob, Call, Cause, Kind, Settings, Side, check, is_stream_code};
+use session_core::{Counts, Session};
 use std::alloc::Global;
 use std::process::Abort;
 use tape::{Answer, Event, Kept, Tape};

@@ -7,9 +7,9 @@ use super::ends::{
 };
 use super::play::{Limits, Shown, answer, play, session, text};
 use super::step::{Again, First, Step, Strange, Token};
-use crate::refusal_frame;
 use rs_frame::Frame;
 use rs_wire::{Blob, Cause, Gone, Rule};
+use session_core::refusal_frame;
 use std::alloc::Global;
 use std::process::Abort;
 use tape::Answer;

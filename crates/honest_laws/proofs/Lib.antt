@@ -1,0 +1,15 @@
+pub mod Crossed
+pub mod Plain
+pub mod Arrives
+pub mod Judged
+pub mod Counts
+pub mod Tally
+pub mod Marks
+pub mod Entries
+pub mod Made
+pub mod Ids
+pub mod NextId
+pub mod Unfinished
+pub mod Maker
+pub mod Credit
+pub mod Honest
