@@ -1,5 +1,5 @@
 -- A frame that comes on the live connection of an end whose session is not closed: what it is, from what its peer made and owed.
-use Rattle.std.proofs.Common.{◌≡◌, ◌≢◌, ◌≤◌, ◌<◌, ◌+◌, ◌==◌, ◌⊎◌, inl, inr, ℕ, Bool, true, false, cond, List, [], ◌∷◌, ◌++◌, Option, Some, None, is_some, refl, ap, sym, subst, ◌∙◌, append_assoc, append-nil, arith}
+use Rattle.std.proofs.Common.{◌≡◌, ◌≤◌, ◌<◌, ◌+◌, ◌==◌, inl, inr, ℕ, Bool, true, false, cond, List, [], ◌∷◌, ◌++◌, Option, Some, None, is_some, refl, ap, sym, subst, ◌∙◌, append_assoc, arith}
 use Rattle.std.proofs.lemmas.Grind.{common_steps}
 use Rattle.std.proofs.lemmas.Bool.Decides.{nat_tests}
 use Rattle.std.proofs.lemmas.List.Elements.{filter-append}
@@ -14,33 +14,32 @@ use Rattle.rs_frame.specs.declared.frame.Frame.TheVariants as frame
 use Rattle.rs_frame.specs.declared.frame.Setup.{Setup}
 use Rattle.rs_frame.specs.declared.frame.Resume.{Resume}
 use Rattle.rs_frame.specs.Spelling.{is_resumable, length_of}
-use Rattle.position.specs.Boundaries.{pos, pos_by}
+use Rattle.position.specs.Boundaries.{pos}
 use Rattle.position.proofs.Boundaries.{pos-append}
 use Rattle.tape.specs.declared.event.Event.{Event}
 use Rattle.tape.specs.declared.event.Event.TheVariants as event
 use Rattle.tape.specs.declared.answer.Answer.{Answer}
-use Rattle.tape.specs.declared.answer.Answer.TheVariants as answer
 use Rattle.tape.specs.declared.entry.Entry.{Entry}
 use Rattle.stream_model.specs.Known.{other_side}
-use Rattle.session_model.specs.Lists.{IsPrefix, first_of}
+use Rattle.session_model.specs.Lists.{IsPrefix}
 use Rattle.session_model.specs.Life.{carrying, closed, is_live, live, openings}
 use Rattle.session_model.specs.Frames.{brings, came, due, first_bad, handled, made, owes, refusal}
 use Rattle.session_model.specs.Joined.{IsOpening, frames_offered, only, refused, refuses, unless_refused}
-use Rattle.session_model.specs.Legal.{Fair, Legal}
+use Rattle.session_model.specs.Legal.{Legal}
 use Rattle.session_model.specs.Answers.{peer_error}
 use Rattle.session_model.proofs.Openings.{live_le}
-use Rattle.session_laws.specs.Ends.{AreEnds, AreJoined}
+use Rattle.session_laws.specs.Ends.{AreJoined}
 use Rattle.session_laws.specs.Streams.{IsLawful}
 use Rattle.session_laws.proofs.Counting.{counting}
 use Rattle.session_laws.proofs.Crossing.{handled_down, handled_up}
-use Rattle.session_laws.proofs.Follows.{Answered, Asked, Begins, First, Follows, FollowsAt, Greeted, Joins, Kept, kept}
+use Rattle.session_laws.proofs.Follows.{Answered, Asked, Begins, First, FollowsAt, Greeted, Joins, kept}
 use Rattle.session_laws.proofs.FromClient.{Begun, Flow, Nothing, Resumed, Waiting, flows}
 use Rattle.session_laws.proofs.FromServer.{Begun as Opened, Flow as ServerFlow, Nothing as Unopened, Resumed as Reopened, flows as server_flows}
 use Rattle.session_laws.proofs.Lawful.{before_lawful}
 use Rattle.session_laws.proofs.Life.{came_some}
-use Rattle.session_laws.proofs.Prefixes.{prefix_cons, prefix_more, prefix_of_none, prefix_refl, prefix_trans}
-use Rattle.honest_laws.proofs.Crossed.{client_joins, crossed_down, crossed_up, no_client, no_server, search, server_joins}
-use Rattle.honest_laws.proofs.Plain.{ArePlain, Begun as Set, FirstFits, Greeted as Headed, IsPlain, Line, Silent, all_both, all_last, line_rest, lines}
+use Rattle.session_laws.proofs.Prefixes.{prefix_cons, prefix_more, prefix_refl, prefix_trans}
+use Rattle.honest_laws.proofs.Crossed.{client_joins, crossed_down, crossed_up, no_client, search, server_joins}
+use Rattle.honest_laws.proofs.Plain.{Begun as Set, Greeted as Headed, IsPlain, Line, Silent, all_both, all_last, line_rest, lines}
 
 -- ---- what an arrival is
 

@@ -1,13 +1,12 @@
 -- Sums over frames of what each says on one stream.
-use Rattle.std.proofs.Common.{◌≡◌, ◌≤◌, ◌+◌, ◌-◌, ◌==◌, ◌&&◌, ℕ, zero, suc, Bool, true, false, not, cond, if◌then◌else◌, List, [], ◌∷◌, ◌++◌, Option, Some, None, refl, ap, sym, subst, ◌∙◌, arith}
+use Rattle.std.proofs.Common.{◌≡◌, ◌≤◌, ◌+◌, ◌-◌, ◌==◌, ◌&&◌, ℕ, zero, suc, Bool, true, false, not, cond, if◌then◌else◌, List, [], ◌∷◌, ◌++◌, refl, ap, ◌∙◌, arith}
 use Rattle.std.specs.Prelude.{nat_le}
-use Rattle.std.proofs.lemmas.Grind.{common_steps}
 use Rattle.rs_wire.specs.declared.message.Message.{Message}
 use Rattle.rs_frame.specs.declared.frame.Frame.{Frame}
 use Rattle.rs_frame.specs.declared.frame.Frame.TheVariants as frame
 use Rattle.rs_frame.specs.declared.frame.Request.{Request}
 use Rattle.rs_frame.specs.Spelling.{length_of}
-use Rattle.fragment.specs.Splitting.{first_fragment, first_part, fragments, left_part, rest_after, room_of, split_of}
+use Rattle.fragment.specs.Splitting.{first_fragment, first_part, fragments, left_part, rest_after, room_of}
 use Rattle.stream_model.specs.Arriving.{or_zero}
 use Rattle.stream_model.specs.Streams.{one_if}
 use Rattle.stream_model.specs.Turns.{needs_credit}

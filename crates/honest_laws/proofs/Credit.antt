@@ -1,5 +1,5 @@
 -- An item that comes finds credit.
-use Rattle.std.proofs.Common.{◌≡◌, ◌≤◌, ◌<◌, ◌%◌, ◌+◌, ◌-◌, ◌==◌, ◌&&◌, ◌||◌, ℕ, Bool, true, false, not, cond, List, [], ◌∷◌, ◌++◌, Option, Some, None, is_some, refl, ap, sym, subst, ◌∙◌, append-nil, arith}
+use Rattle.std.proofs.Common.{◌≡◌, ◌≤◌, ◌<◌, ◌%◌, ◌+◌, ◌-◌, ◌==◌, ◌&&◌, ◌||◌, ℕ, Bool, true, false, not, cond, List, [], ◌++◌, Option, Some, None, is_some, refl, ap, sym, subst, ◌∙◌, append-nil, arith}
 use Rattle.std.proofs.lemmas.Bool.Decides.{nat_tests}
 use Rattle.rs_wire.specs.declared.words.Kind.{Kind}
 use Rattle.rs_wire.specs.declared.words.Kind.TheVariants.{Response, Fnf, Stream as Streamed, Channel}
@@ -16,7 +16,7 @@ use Rattle.rs_frame.specs.declared.frame.Frame.TheVariants as frame
 use Rattle.tape.specs.declared.entry.Entry.{Entry}
 use Rattle.fragment.specs.Joining.{with_part}
 use Rattle.stream_model.specs.declared.stream.Stream.{Stream}
-use Rattle.stream_model.specs.Turns.{Turn, carries, inbound, is_role, needs_credit, other}
+use Rattle.stream_model.specs.Turns.{carries, inbound, is_role, needs_credit, other}
 use Rattle.stream_model.specs.Streams.{highest, one_if, turn}
 use Rattle.stream_model.specs.Kept.{kept, stream_of}
 use Rattle.stream_model.specs.Known.{credit_at, is_own_parity, known as known_after, other_side, over_at}
@@ -36,7 +36,9 @@ use Rattle.honest_laws.proofs.Made.{MadeAt, before_it, handled_before, lawful_at
 use Rattle.honest_laws.proofs.Maker.{ByEnd, ByItem, ByRequest, MadeSo, made_so}
 use Rattle.honest_laws.proofs.Marks.{bare_at}
 use Rattle.honest_laws.proofs.NextId.{peers_own}
-use Rattle.honest_laws.proofs.Tally.{Bare, Keeps, Tally, late, own_parts}
+use Rattle.honest_laws.proofs.Keeps.{Keeps}
+use Rattle.honest_laws.proofs.Roles.{late, own_parts}
+use Rattle.honest_laws.proofs.Tally.{Tally}
 use Rattle.honest_laws.proofs.Unfinished.{made_next, nexts, unfinished_next}
 
 -- ---- an item that finds none

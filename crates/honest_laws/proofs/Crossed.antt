@@ -1,9 +1,8 @@
 -- What came at an end on a connection follows what it handled before, as the other end made it: the steps to the law that what an end handled begins
 -- what the other made, for any front of its entries. The same as in `session_laws`, where they are its own.
-use Rattle.std.proofs.Common.{◌≡◌, ◌≢◌, ◌≤◌, ◌<◌, ◌==◌, ◌⊎◌, inl, inr, ℕ, Bool, true, false, zero, suc, List, [], ◌∷◌, ◌++◌, length, take, Option, refl, ap, subst, sym, ◌∙◌, append_assoc, append-nil, arith}
+use Rattle.std.proofs.Common.{◌≡◌, ◌≢◌, ◌≤◌, ◌<◌, ◌==◌, ◌⊎◌, inl, inr, ℕ, Bool, true, false, zero, suc, List, [], ◌∷◌, ◌++◌, Option, refl, ap, subst, sym, ◌∙◌, append_assoc, append-nil, arith}
 use Rattle.std.proofs.lemmas.Bool.{cases_lt}
 use Rattle.std.proofs.lemmas.Bool.Decides.{nat_tests}
-use Rattle.std.proofs.lemmas.List.{take_at}
 use Rattle.rs_wire.specs.declared.words.Side.TheVariants.{Client, Server}
 use Rattle.rs_wire.specs.declared.fault.Cause.{Cause}
 use Rattle.rs_wire.specs.declared.settings.Settings.{Settings}
@@ -11,20 +10,20 @@ use Rattle.rs_frame.specs.declared.frame.Frame.{Frame}
 use Rattle.rs_frame.specs.declared.frame.Frame.TheVariants as frame
 use Rattle.rs_frame.specs.Spelling.{length_of}
 use Rattle.tape.specs.declared.entry.Entry.{Entry}
-use Rattle.position.specs.Boundaries.{pos, IsBoundary}
+use Rattle.position.specs.Boundaries.{pos}
 use Rattle.position.proofs.Held.{same_front}
 use Rattle.session_model.specs.Lists.{IsPrefix}
 use Rattle.session_model.specs.Life.{carrying, closed, is_live, live, openings}
-use Rattle.session_model.specs.Frames.{came, drawn, due, first_bad, handled, made}
+use Rattle.session_model.specs.Frames.{came, drawn, due, first_bad, made}
 use Rattle.session_model.specs.Joined.{IsOpening, bytes_offered, frames_offered, refused, unless_refused}
-use Rattle.session_laws.specs.Ends.{AreDrained, AreJoined}
+use Rattle.session_laws.specs.Ends.{AreJoined}
 use Rattle.session_laws.proofs.Counting.{counting, prefix_counting}
-use Rattle.session_laws.proofs.Follows.{Answered, Asked, Begins, First, Greeted, Joins, Kept, kept}
+use Rattle.session_laws.proofs.Follows.{Answered, Asked, Begins, First, Greeted, Joins}
 use Rattle.session_laws.proofs.Framing.{frames_given}
 use Rattle.session_laws.proofs.FromClient.{Begun, Flow, Nothing, Resumed, Waiting, flows}
 use Rattle.session_laws.proofs.FromServer.{Begun as Opened, Flow as ServerFlow, Nothing as Unopened, Resumed as Reopened, flows as server_flows}
 use Rattle.session_laws.proofs.Life.{came_some}
-use Rattle.session_laws.proofs.Prefixes.{prefix_cons, prefix_of_none, prefix_refl, prefix_trans, prefix_under}
+use Rattle.session_laws.proofs.Prefixes.{prefix_cons, prefix_of_none, prefix_trans, prefix_under}
 use Rattle.session_laws.proofs.Refused.{counted_offer, due_unrefused, offered_spelled, refused_spelled}
 use Rattle.session_laws.proofs.Runs.{Runs}
 use Rattle.session_laws.proofs.Spelled.{due_spelled, came_spelled}

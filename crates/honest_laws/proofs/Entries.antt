@@ -1,11 +1,9 @@
 -- What is kept of each stream of an end, against the sums over the frames that it made and handled, after each of its entries.
-use Rattle.std.proofs.Common.{inl, inr, ◌≡◌, ◌≤◌, ◌<◌, ◌%◌, ◌+◌, ◌&&◌, ◌||◌, ◌==◌, ℕ, Bool, true, false, not, cond, ltb, List, [], ◌∷◌, ◌++◌, Option, Some, None, is_some, option_to_list, refl, ap, sym, subst, ◌∙◌, arith}
+use Rattle.std.proofs.Common.{inl, inr, ◌≡◌, ◌<◌, ◌%◌, ◌+◌, ◌&&◌, ◌==◌, ℕ, Bool, true, false, not, cond, List, [], ◌∷◌, Some, None, is_some, option_to_list, refl, ap, sym, subst, ◌∙◌, arith}
 use Rattle.std.specs.Prelude.{nat_lt}
 use Rattle.std.specs.Option.{option_map}
-use Rattle.std.proofs.lemmas.Grind.{common_steps}
 use Rattle.std.proofs.lemmas.Bool.Decides.{nat_tests}
-use Rattle.rs_wire.specs.declared.words.Kind.{Kind}
-use Rattle.rs_wire.specs.declared.words.Role.TheVariants.{Requester, Responder}
+use Rattle.rs_wire.specs.declared.words.Role.TheVariants.{Requester}
 use Rattle.rs_wire.specs.declared.words.Side.{Side}
 use Rattle.rs_wire.specs.declared.words.Side.TheVariants.{Client, Server}
 use Rattle.rs_wire.specs.declared.message.Message.{Message}
@@ -15,7 +13,6 @@ use Rattle.rs_wire.specs.declared.call.Call.TheVariants as call
 use Rattle.rs_frame.specs.declared.frame.Frame.{Frame}
 use Rattle.rs_frame.specs.declared.frame.Frame.TheVariants as frame
 use Rattle.rs_frame.specs.declared.frame.Request.{Request}
-use Rattle.rs_frame.specs.Spelling.{is_resumable}
 use Rattle.tape.specs.declared.event.Event.{Event}
 use Rattle.tape.specs.declared.event.Event.TheVariants as event
 use Rattle.tape.specs.declared.answer.Answer.{Answer}
@@ -25,26 +22,25 @@ use Rattle.stream_model.specs.declared.arrival.Arrival.TheVariants as arrival
 use Rattle.stream_model.specs.declared.stream.Stream.{Stream}
 use Rattle.fragment.specs.Joining.{with_part}
 use Rattle.stream_model.specs.Marks.{Step, Payload, RequestN, Cancel, Fail, Mark, Sent}
-use Rattle.stream_model.specs.Turns.{Said, Turn, other}
+use Rattle.stream_model.specs.Turns.{Said, other}
 use Rattle.stream_model.specs.Streams.{highest, one_if, turn}
 use Rattle.stream_model.specs.Kept.{kept, stream_of}
-use Rattle.stream_model.specs.Known.{Known, highest_at, id_after, is_open_response, is_own_parity, is_peers_next, known as known_after, next_id, other_side}
+use Rattle.stream_model.specs.Known.{highest_at, id_after, is_own_parity, is_peers_next, known as known_after, next_id, other_side}
 use Rattle.stream_model.specs.Refused.{inbound_over, on_way, outbound_over}
 use Rattle.stream_model.specs.Arriving.{heard, no_message, said}
-use Rattle.stream_model.specs.Fair.{Fair as FairMarks}
 use Rattle.stream_model.proofs.Fitting.{own_fresh, parity_or_zero, peer_fresh}
 use Rattle.stream_model.proofs.Keeping.{live_turn}
 use Rattle.session_model.specs.Leases.{is_covered}
-use Rattle.session_model.specs.Streams.{arrival_in, heard_in, known, marks_in, turned_away_for, unfinished, words}
-use Rattle.session_model.specs.Frames.{handled, handles, in_fragments, made, makes, request_frame, sent_as, spoken, turned_away_with}
-use Rattle.session_model.specs.Answers.{facts, peer_error}
+use Rattle.session_model.specs.Streams.{heard_in, known, marks_in, turned_away_for, unfinished, words}
+use Rattle.session_model.specs.Frames.{handled, handles, made, makes, sent_as, spoken, turned_away_with}
+use Rattle.session_model.specs.Answers.{facts}
 use Rattle.session_model.specs.Legal.{Legal}
 use Rattle.session_model.specs.Means.{Does, Handling, Means}
 use Rattle.session_model.proofs.Breaking.{unbroken}
 use Rattle.session_model.proofs.Meaning.{last_means}
 use Rattle.session_model.proofs.Refusals.{names, unrefused}
-use Rattle.honest_laws.proofs.Counts.{Counts, asks_in_parts, counts, counts_more, counts_none, counts_one, none, payload_count, plus, total}
-use Rattle.honest_laws.proofs.Tally.{Adds, Keeps, any_end, own_end, own_grant, own_item, peers_grant, peers_payload}
+use Rattle.honest_laws.proofs.Counts.{Counts, asks_in_parts, counts, counts_more, counts_none, counts_one, none, payload_count}
+use Rattle.honest_laws.proofs.Tally.{Adds, any_end, own_end, own_grant, own_item, peers_grant, peers_payload}
 use Rattle.honest_laws.proofs.Marks.{At, Went, asked_request, away_none, got_step, job_step, nothing, own_request, pushed_step, said_step, took_step, unheard}
 
 -- ---- parities

@@ -1,12 +1,8 @@
 -- The ids of the requests that an end made, and of those that it handled.
-use Rattle.std.proofs.Common.{◌≡◌, ◌≤◌, ◌<◌, ◌%◌, ◌+◌, ◌&&◌, ◌==◌, ◌⊎◌, inl, inr, ℕ, Bool, true, false, not, cond, max, List, [], ◌∷◌, ◌++◌, Option, Some, None, option_to_list, refl, ap, sym, subst, ◌∙◌, arith}
-use Rattle.std.specs.Prelude.{nat_lt}
+use Rattle.std.proofs.Common.{◌≡◌, ◌≤◌, ◌%◌, ◌+◌, ◌==◌, ◌⊎◌, inl, inr, ℕ, Bool, true, false, cond, max, List, [], ◌∷◌, ◌++◌, Some, None, option_to_list, refl, ap, sym, subst, ◌∙◌, arith}
 use Rattle.std.specs.Option.{option_map}
-use Rattle.std.proofs.lemmas.Grind.{common_steps}
 use Rattle.std.proofs.lemmas.Bool.{cases_lt, eqb-true}
-use Rattle.std.proofs.lemmas.Bool.Decides.{nat_tests}
 use Rattle.rs_wire.specs.declared.words.Side.{Side}
-use Rattle.rs_wire.specs.declared.words.Side.TheVariants.{Client, Server}
 use Rattle.rs_wire.specs.declared.settings.Settings.{Settings}
 use Rattle.rs_wire.specs.declared.call.Call.{Call}
 use Rattle.rs_wire.specs.declared.call.Call.TheVariants as call
@@ -22,20 +18,18 @@ use Rattle.fragment.specs.Joining.{Gathered}
 use Rattle.stream_model.specs.declared.arrival.Arrival.TheVariants as arrival
 use Rattle.stream_model.specs.Marks.{Mark, Opens, Passed}
 use Rattle.stream_model.specs.Streams.{higher, highest, one_if}
-use Rattle.stream_model.specs.Known.{highest_at, is_own_parity, is_peers_next, known as known_after, next_id, other_side}
+use Rattle.stream_model.specs.Known.{is_own_parity, next_id}
 use Rattle.stream_model.specs.Arriving.{heard, said}
-use Rattle.stream_model.proofs.Fitting.{highest_is, own_fresh}
 use Rattle.stream_model.proofs.Ids.{same_id}
 use Rattle.session_model.specs.Leases.{is_covered}
 use Rattle.session_model.specs.Streams.{arrival_in, heard_in, known, marks_in, request_in, turned_away_for, unfinished, words}
-use Rattle.session_model.specs.Frames.{handled, handles, in_fragments, made, makes, request_frame, sent_as, spoken, turned_away_with}
+use Rattle.session_model.specs.Frames.{handled, handles, in_fragments, made, makes, sent_as, spoken}
 use Rattle.session_model.specs.Answers.{Facts, facts}
 use Rattle.session_model.specs.Legal.{Legal}
 use Rattle.session_model.specs.Means.{Does, Means}
-use Rattle.session_model.proofs.Breaking.{unbroken}
 use Rattle.session_model.proofs.Meaning.{last_means}
-use Rattle.honest_laws.proofs.Counts.{Counts, asks, counts, counts_more, counts_none, counts_one, payload_count, plus, request_counted, total}
-use Rattle.honest_laws.proofs.Entries.{next_own, other_parity, peers_id}
+use Rattle.honest_laws.proofs.Counts.{Counts, asks, counts, counts_more, counts_none, counts_one, payload_count, request_counted, total}
+use Rattle.honest_laws.proofs.Entries.{next_own}
 use Rattle.honest_laws.proofs.Marks.{away_none, higher_keeps, higher_reaches}
 
 -- how often these frames ask for the stream s

@@ -1,7 +1,6 @@
 -- Which answers accuse the peer: where what comes is as an honest peer sends it, none does.
-use Rattle.std.proofs.Common.{◌≡◌, ◌≤◌, ◌+◌, ◌==◌, ◌&&◌, ◌||◌, ℕ, Bool, true, false, not, cond, List, [], ◌∷◌, Option, Some, None, is_some, refl, sym, subst, arith}
+use Rattle.std.proofs.Common.{◌≡◌, ◌≤◌, ◌+◌, ◌&&◌, ◌||◌, ℕ, Bool, true, false, cond, List, Option, Some, None, refl, arith}
 use Rattle.std.specs.Prelude.{nat_lt}
-use Rattle.std.specs.Option.{option_map, option_or}
 use Rattle.std.proofs.lemmas.Grind.{common_steps}
 use Rattle.std.proofs.lemmas.Bool.Decides.{nat_tests}
 use Rattle.rs_wire.specs.Message.{size_of}
@@ -24,15 +23,15 @@ use Rattle.stream_model.specs.Known.{hears_on, is_peers_next}
 use Rattle.stream_model.specs.Arriving.{over_credit_on}
 use Rattle.session_model.specs.declared.numbers.TheConstants.{ANSWER_ROOM}
 use Rattle.session_model.specs.Life.{is_live}
-use Rattle.session_model.specs.Answers.{Facts, answer_by, answer_spends, breaks_credit, broken_rule, handled_unless, handled_unless_gone, is_ahead, is_too_large, ok_gone, payload_rule, peer_error, spends, to_frame, to_known, unless_busy, unless_closed, unless_error, waiting_rule}
-use Rattle.honest_laws.specs.Accusing.{accuses, hangs_on_no_limit}
+use Rattle.session_model.specs.Answers.{Facts, answer_by, answer_spends, breaks_credit, broken_rule, handled_unless, handled_unless_gone, is_too_large, ok_gone, payload_rule, peer_error, spends, to_frame, to_known, unless_closed, unless_error, waiting_rule}
+use Rattle.honest_laws.specs.Accusing.{accuses}
 use Rattle.honest_laws.proofs.Plain.{IsPlain}
 
 -- ---- the rules
 
--- a rule, where one is broken, is one that hangs on limits
-abbrev HangsOnLimits : Option Rule → Type 0
-HangsOnLimits broken = accuses (handled_unless broken) ≡ false
+-- a rule, where one is broken, is one that depends on limits
+abbrev DependsOnLimits : Option Rule → Type 0
+DependsOnLimits broken = accuses (handled_unless broken) ≡ false
 
 -- what an honest peer's frame keeps to, beside being plain
 abbrev pub KeepsTo : Settings → Facts → Frame → Type 0
@@ -41,16 +40,16 @@ KeepsTo g t (frame.Payload s follows complete next message) =
     follows ≡ false → over_credit_on (t.streams.kept s) (with_part (t.unfinished s) message complete next).next ≡ None
 KeepsTo g t f = Unit {0}
 
-limits_only : (large spent : Bool) (size : ℕ) (more : Option Rule) → HangsOnLimits more → HangsOnLimits (cond large (Some (rule.TooLarge size)) (cond spent (Some rule.PositionSpent) more))
+limits_only : (large spent : Bool) (size : ℕ) (more : Option Rule) → DependsOnLimits more → DependsOnLimits (cond large (Some (rule.TooLarge size)) (cond spent (Some rule.PositionSpent) more))
 limits_only true spent size more last = refl
 limits_only false true size more last = refl
 limits_only false false size more last = last
 
-spent_only : (spent : Bool) → HangsOnLimits (cond spent (Some rule.PositionSpent) None)
+spent_only : (spent : Bool) → DependsOnLimits (cond spent (Some rule.PositionSpent) None)
 spent_only true = refl
 spent_only false = refl
 
-request_judged : (g : Settings) (t : Facts) (r : Request) → is_peers_next g.side t.streams r.stream ≡ true → HangsOnLimits (broken_rule g t (frame.Request r))
+request_judged : (g : Settings) (t : Facts) (r : Request) → is_peers_next g.side t.streams r.stream ≡ true → DependsOnLimits (broken_rule g t (frame.Request r))
 unfolding broken_rule
 request_judged g t r next = rw next (limits_only (is_too_large g true r.message) (spends g t (frame.Request r) || answer_spends g t r) (size_of r.message) None refl)
 
@@ -59,7 +58,7 @@ no_credit_broken t s true next kept = refl
 no_credit_broken t s false next kept = rw (kept refl) refl
 
 payload_judged : (g : Settings) (t : Facts) (s : ℕ) (follows : Bool) (sum : Gathered) (f : Frame) → (follows ≡ false → over_credit_on (t.streams.kept s) sum.next ≡ None)
-    → HangsOnLimits (payload_rule g t s follows sum f)
+    → DependsOnLimits (payload_rule g t s follows sum f)
 payload_judged g t s follows sum f kept =
     rw (no_credit_broken t s follows sum.next kept) (limits_only (is_too_large g (hears_on (t.streams.kept s)) sum.message) (spends g t f) (size_of sum.message) None refl)
 
@@ -67,11 +66,11 @@ not_ahead : (agreed : Bool) (made position : ℕ) → position ≤ made → (agr
 not_ahead true made position le = grind (arith, nat_tests)
 not_ahead false made position le = refl
 
-keepalive_judged : (g : Settings) (t : Facts) (respond : Bool) (position : ℕ) (content : List ℕ) → position ≤ t.made.position → HangsOnLimits (broken_rule g t (frame.Keepalive respond position content))
+keepalive_judged : (g : Settings) (t : Facts) (respond : Bool) (position : ℕ) (content : List ℕ) → position ≤ t.made.position → DependsOnLimits (broken_rule g t (frame.Keepalive respond position content))
 unfolding broken_rule
 keepalive_judged g t respond position content le = rw (not_ahead _ t.made.position position le) refl
 
-plain_judged : (g : Settings) (t : Facts) (f : Frame) → IsPlain t.made.position f → KeepsTo g t f → HangsOnLimits (broken_rule g t f)
+plain_judged : (g : Settings) (t : Facts) (f : Frame) → IsPlain t.made.position f → KeepsTo g t f → DependsOnLimits (broken_rule g t f)
 unfolding broken_rule
 plain_judged g t (frame.Setup s) plain keeps = absurd plain
 plain_judged g t (frame.Resume r) plain keeps = absurd plain

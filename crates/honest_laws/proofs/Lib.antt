@@ -3,7 +3,9 @@ pub mod Plain
 pub mod Arrives
 pub mod Judged
 pub mod Counts
+pub mod Roles
 pub mod Tally
+pub mod Keeps
 pub mod Marks
 pub mod Entries
 pub mod Made
@@ -13,3 +15,4 @@ pub mod Unfinished
 pub mod Maker
 pub mod Credit
 pub mod Honest
+pub mod Rows

@@ -1,5 +1,5 @@
 -- How an end made a frame that ends a message of payloads.
-use Rattle.std.proofs.Common.{◌≡◌, ◌≤◌, ◌<◌, ◌%◌, ◌+◌, ◌==◌, ℕ, Bool, true, false, cond, List, [], ◌∷◌, ◌++◌, Option, Some, None, refl, ap, sym, subst, ◌∙◌, arith}
+use Rattle.std.proofs.Common.{◌≡◌, ◌≤◌, ◌<◌, ◌%◌, ◌+◌, ◌==◌, ℕ, Bool, true, false, List, [], ◌∷◌, ◌++◌, Option, Some, None, refl, ap, sym, subst, ◌∙◌, arith}
 use Rattle.std.proofs.lemmas.Bool.{eqb-true}
 use Rattle.std.proofs.lemmas.Bool.Decides.{nat_tests}
 use Rattle.rs_wire.specs.Settings.{IsChecked}
@@ -10,7 +10,6 @@ use Rattle.rs_wire.specs.declared.call.Call.TheVariants as call
 use Rattle.rs_frame.specs.declared.frame.Frame.{Frame}
 use Rattle.rs_frame.specs.declared.frame.Frame.TheVariants as frame
 use Rattle.rs_frame.specs.declared.frame.Request.{Request}
-use Rattle.rs_frame.specs.Spelling.{length_of}
 use Rattle.fragment.specs.Splitting.{fragments, split_of}
 use Rattle.fragment.proofs.Splits.{split_fits}
 use Rattle.tape.specs.declared.event.Event.{Event}
@@ -27,12 +26,12 @@ use Rattle.stream_model.specs.Arriving.{no_message}
 use Rattle.stream_model.proofs.Fitting.{own_fresh}
 use Rattle.session_model.specs.Leases.{is_covered}
 use Rattle.session_model.specs.Streams.{known, turned_away_for, words}
-use Rattle.session_model.specs.Frames.{in_fragments, makes, request_frame, sent_as, spoken}
+use Rattle.session_model.specs.Frames.{in_fragments, makes, sent_as, spoken}
 use Rattle.session_model.specs.Answers.{facts}
 use Rattle.session_model.specs.Means.{Does, Means}
 use Rattle.session_model.proofs.Refusals.{names, unrefused}
 use Rattle.session_model.proofs.Spelled.{is_mtu}
-use Rattle.honest_laws.proofs.Counts.{Asking, Counts, Cut, Whole, asking, counts, counts_more, counts_none, counts_one, fragments_count, none, payload_count, plus}
+use Rattle.honest_laws.proofs.Counts.{Asking, Counts, Cut, Whole, asking, counts, counts_more, counts_none, counts_one, fragments_count, none, payload_count}
 use Rattle.honest_laws.proofs.Entries.{next_own}
 use Rattle.honest_laws.proofs.Marks.{away_none}
 

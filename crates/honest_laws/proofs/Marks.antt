@@ -1,52 +1,25 @@
 -- What is kept of each stream of an end, against the sums over the frames that it made and handled, after each of its entries.
-use Rattle.std.proofs.Common.{◌≡◌, ◌≤◌, ◌<◌, ◌%◌, ◌+◌, ◌&&◌, ◌||◌, ◌==◌, ℕ, Bool, true, false, not, cond, ltb, max, List, [], ◌∷◌, ◌++◌, Option, Some, None, is_some, option_to_list, refl, ap, sym, subst, ◌∙◌, arith}
-use Rattle.std.specs.Option.{option_map}
-use Rattle.std.proofs.lemmas.Grind.{common_steps}
+use Rattle.std.proofs.Common.{◌≡◌, ◌≤◌, ◌<◌, ◌%◌, ◌==◌, ℕ, Bool, true, false, not, cond, ltb, max, List, [], ◌∷◌, ◌++◌, Option, Some, None, is_some, refl, ap, sym, subst, ◌∙◌, arith}
 use Rattle.std.proofs.lemmas.Bool.{eqb-true}
-use Rattle.std.proofs.lemmas.Bool.Decides.{nat_tests}
 use Rattle.rs_wire.specs.declared.words.Kind.{Kind}
-use Rattle.rs_wire.specs.declared.words.Role.{Role}
-use Rattle.rs_wire.specs.declared.words.Role.TheVariants.{Requester, Responder}
 use Rattle.rs_wire.specs.declared.words.Side.{Side}
-use Rattle.rs_wire.specs.declared.words.Side.TheVariants.{Client, Server}
 use Rattle.rs_wire.specs.declared.message.Message.{Message}
 use Rattle.rs_wire.specs.declared.delivery.Delivery.{Delivery}
-use Rattle.rs_wire.specs.declared.settings.Settings.{Settings}
-use Rattle.rs_wire.specs.declared.call.Call.{Call}
-use Rattle.rs_wire.specs.declared.call.Call.TheVariants as call
 use Rattle.rs_frame.specs.declared.frame.Frame.{Frame}
 use Rattle.rs_frame.specs.declared.frame.Frame.TheVariants as frame
 use Rattle.rs_frame.specs.declared.frame.Request.{Request}
-use Rattle.rs_frame.specs.Spelling.{is_resumable}
-use Rattle.tape.specs.declared.event.Event.{Event}
-use Rattle.tape.specs.declared.event.Event.TheVariants as event
-use Rattle.tape.specs.declared.answer.Answer.{Answer}
-use Rattle.tape.specs.declared.answer.Answer.TheVariants as answer
-use Rattle.tape.specs.declared.entry.Entry.{Entry}
-use Rattle.stream_model.specs.declared.stream.Stream.{Stream}
-use Rattle.stream_model.specs.Marks.{Opening, Step, Payload, RequestN, Cancel, Fail, Mark, Opens, Passed, Sent, Got, Pushed, Took, TookJob}
-use Rattle.stream_model.specs.Turns.{Said, Taken, Turn, is_role, other}
-use Rattle.stream_model.specs.Streams.{goes_on, higher, highest, is_admitted, live, one_if, turn}
-use Rattle.stream_model.specs.Kept.{kept, stream_of}
-use Rattle.stream_model.specs.Known.{Known, highest_at, is_open_response, is_own_parity, is_peers_next, known as known_after, next_id, other_side}
-use Rattle.stream_model.specs.Refused.{by_state, inbound_over, on_way, outbound_over}
-use Rattle.stream_model.specs.Arriving.{heard, no_message, or_zero, ours, said, theirs}
-use Rattle.stream_model.specs.Fair.{Fair as FairMarks}
+use Rattle.stream_model.specs.Marks.{Step, Mark, Opens, Passed, Sent, Got, Pushed, Took, TookJob}
+use Rattle.stream_model.specs.Turns.{Said, Taken, Turn, other}
+use Rattle.stream_model.specs.Streams.{higher, highest, is_admitted, live, turn}
+use Rattle.stream_model.specs.Kept.{stream_of}
+use Rattle.stream_model.specs.Known.{is_own_parity}
+use Rattle.stream_model.specs.Arriving.{heard, or_zero, ours, theirs}
 use Rattle.stream_model.proofs.Ids.{fresh, highest_opens, highest_passed, highest_said, others_stay, same_id, turn_got, turn_job, turn_opened, turn_passed, turn_pushed, turn_sent, turn_took}
-use Rattle.stream_model.proofs.Fitting.{highest_is, own_fresh, parity_or_zero, peer_fresh}
-use Rattle.stream_model.proofs.Keeping.{live_turn}
-use Rattle.session_model.specs.Leases.{is_covered}
-use Rattle.session_model.specs.Streams.{arrival_in, heard_in, known, marks_in, request_in, turned_away_for, unfinished, whole_in, words}
-use Rattle.session_model.specs.Frames.{handled, handles, in_fragments, made, makes, request_frame, sent_as, spoken, turned_away, turned_away_with}
-use Rattle.session_model.specs.Answers.{facts, peer_error}
-use Rattle.session_model.specs.Legal.{Fair, Legal}
-use Rattle.session_model.specs.Means.{Does, Handling, Means}
-use Rattle.session_model.proofs.Breaking.{unbroken}
-use Rattle.session_model.proofs.Meaning.{last_means}
-use Rattle.session_model.proofs.Refusals.{names, unrefused}
-use Rattle.session_laws.specs.Streams.{IsLawful}
-use Rattle.honest_laws.proofs.Counts.{Counts, asks_in_parts, counts, counts_more, counts_none, counts_one, ends_one, elsewhere_none, none, payload_count, plus, plus_none, request_counted}
-use Rattle.honest_laws.proofs.Tally.{Adds, Bare, Keeps, OwnRequest, PeersRequest, Tally, any_end, ends_stream, keeps_any, keeps_first, keeps_idle, keeps_own, keeps_used, nothing_said, own_end, own_grant, own_item, own_opens, peer_opens, peers_grant, peers_payload}
+use Rattle.session_model.specs.Streams.{request_in, whole_in}
+use Rattle.session_model.specs.Frames.{in_fragments, request_frame, turned_away, turned_away_with}
+use Rattle.honest_laws.proofs.Counts.{Counts, counts, counts_none, counts_one, elsewhere_none, none, plus, plus_none, request_counted}
+use Rattle.honest_laws.proofs.Keeps.{Keeps, OwnRequest, PeersRequest, keeps_any, keeps_first, keeps_idle, keeps_own, keeps_used, own_opens, peer_opens}
+use Rattle.honest_laws.proofs.Tally.{Adds, Bare, Tally, nothing_said}
 
 -- ---- one stream, before and after some marks
 

@@ -1,5 +1,5 @@
 -- A request that comes is on the next id of the peer's.
-use Rattle.std.proofs.Common.{◌≡◌, ◌≤◌, ◌<◌, ◌%◌, ◌+◌, ◌&&◌, ◌==◌, ◌⊎◌, inl, inr, ℕ, Bool, true, false, not, cond, List, [], ◌∷◌, ◌++◌, refl, ap, sym, subst, ◌∙◌, arith}
+use Rattle.std.proofs.Common.{◌≡◌, ◌≤◌, ◌<◌, ◌%◌, ◌+◌, ◌&&◌, ◌==◌, ◌⊎◌, inl, inr, ℕ, Bool, true, false, not, List, [], ◌∷◌, ◌++◌, refl, ap, sym, subst, ◌∙◌, arith}
 use Rattle.std.specs.Prelude.{nat_lt}
 use Rattle.std.proofs.lemmas.Bool.{cases_lt, eqb-true}
 use Rattle.std.proofs.lemmas.Bool.Decides.{nat_tests}
@@ -15,10 +15,10 @@ use Rattle.stream_model.specs.Known.{highest_at, is_own_parity, is_peers_next, n
 use Rattle.stream_model.proofs.Fitting.{highest_is, own_fresh, parity_or_zero}
 use Rattle.stream_model.proofs.Ids.{same_id}
 use Rattle.session_model.specs.Streams.{known, words}
-use Rattle.session_model.specs.Frames.{handled, in_fragments, made, makes}
+use Rattle.session_model.specs.Frames.{handled, in_fragments, made}
 use Rattle.session_model.specs.Legal.{Legal}
 use Rattle.honest_laws.proofs.Arrives.{Arrives}
-use Rattle.honest_laws.proofs.Counts.{Counts, asks, counts, counts_one, request_counted}
+use Rattle.honest_laws.proofs.Counts.{Counts, counts_one, request_counted}
 use Rattle.honest_laws.proofs.Entries.{next_own, other_parity}
 use Rattle.honest_laws.proofs.Ids.{Another, AsksFor, Nobody, One, WasAsked, asked_below, asked_in, asked_more, asks_for, frames_of, highest_handled}
 use Rattle.honest_laws.proofs.Made.{MadeAt, before_it, lawful_at, made_at, means_at}

@@ -1,11 +1,10 @@
 -- The frames due on a connection: one that begins it may stand first, and none after that.
-use Rattle.std.proofs.Common.{◌≡◌, ◌≤◌, ◌<◌, ◌+◌, ◌==◌, ◌&&◌, ℕ, Bool, true, false, cond, if◌then◌else◌, List, [], ◌∷◌, ◌++◌, Option, Some, None, refl, ap, sym, subst, append-nil, arith}
-use Rattle.std.proofs.lemmas.Grind.{common_steps}
+use Rattle.std.proofs.Common.{◌≡◌, ◌≤◌, ◌<◌, ◌+◌, ◌==◌, ℕ, Bool, true, false, cond, if◌then◌else◌, List, [], ◌∷◌, ◌++◌, Option, Some, None, refl, ap, sym, subst, append-nil, arith}
 use Rattle.std.proofs.lemmas.Bool.Decides.{nat_tests}
 use Rattle.std.specs.List.{AllByRecursion}
 use Rattle.rs_wire.specs.Settings.{IsChecked}
 use Rattle.rs_wire.specs.declared.words.Side.{Side}
-use Rattle.rs_wire.specs.declared.words.Side.TheVariants.{Client, Server}
+use Rattle.rs_wire.specs.declared.words.Side.TheVariants.{Client}
 use Rattle.rs_wire.specs.declared.settings.Settings.{Settings}
 use Rattle.rs_wire.specs.declared.call.Call.TheVariants as call
 use Rattle.rs_frame.specs.declared.frame.Frame.{Frame}

@@ -1,9 +1,6 @@
 -- What is kept of a stream, against the sums over the frames that its end made and handled.
-use Rattle.std.proofs.Common.{◌≡◌, ◌≤◌, ◌<◌, ◌+◌, ◌&&◌, ◌||◌, ◌==◌, ℕ, Bool, true, false, not, cond, List, [], ◌∷◌, Option, Some, None, is_some, refl, ap, sym, subst, ◌∙◌, arith}
-use Rattle.std.proofs.lemmas.Grind.{common_steps}
-use Rattle.std.proofs.lemmas.Bool.Decides.{nat_tests}
+use Rattle.std.proofs.Common.{◌≡◌, ◌≤◌, ◌<◌, ◌+◌, ◌&&◌, ◌||◌, ℕ, Bool, true, false, not, cond, None, refl, sym, ◌∙◌, arith}
 use Rattle.rs_wire.specs.declared.words.Kind.{Kind}
-use Rattle.rs_wire.specs.declared.words.Kind.TheVariants.{Response, Fnf, Stream as Streamed, Channel}
 use Rattle.rs_wire.specs.declared.words.Role.{Role}
 use Rattle.rs_wire.specs.declared.words.Role.TheVariants.{Requester, Responder}
 use Rattle.rs_wire.specs.declared.words.Side.{Side}
@@ -12,27 +9,16 @@ use Rattle.rs_wire.specs.declared.words.Way.TheVariants as way
 use Rattle.rs_wire.specs.declared.message.Message.{Message}
 use Rattle.rs_wire.specs.declared.delivery.Delivery.{Delivery}
 use Rattle.stream_model.specs.declared.stream.Stream.{Stream}
-use Rattle.stream_model.specs.Marks.{Opening, Step, Payload, RequestN, Cancel, Fail}
-use Rattle.stream_model.specs.Turns.{Word, Said, Taken, Turn, carries, ends, grants, inbound, is_of_requester, is_role, may_grant, message_ends, needs_credit, other}
-use Rattle.stream_model.specs.Streams.{goes_on, one_if}
-use Rattle.stream_model.specs.Kept.{after, first, items_in, stream_of}
+use Rattle.stream_model.specs.Marks.{Step, Payload, RequestN, Cancel, Fail}
+use Rattle.stream_model.specs.Turns.{Word, Said, Taken, ends, grants, inbound, is_of_requester, is_role, may_grant, needs_credit, other}
+use Rattle.stream_model.specs.Streams.{one_if}
+use Rattle.stream_model.specs.Kept.{after, items_in}
 use Rattle.stream_model.specs.Known.{credit_at, is_own_parity, over_at}
 use Rattle.stream_model.specs.Refused.{inbound_over, on_way, outbound_over}
-use Rattle.stream_model.specs.Arriving.{or_zero, ours, theirs}
-use Rattle.stream_model.proofs.Keeping.{stream_first, stream_more}
 use Rattle.honest_laws.proofs.Counts.{Counts, none, plus}
+use Rattle.honest_laws.proofs.Roles.{late, own_ends, own_grants, own_items, own_late, own_no_grant, own_no_item, own_parts, peers_late, same_late}
 
 -- ---- the sums
-
--- a message of the requester's payloads that was no item, since it made the request's own message whole
-abbrev pub late : Role → Bool → Bool → ℕ
-late Requester parts whole = 0
-late Responder parts whole = one_if (parts && whole)
-
--- and the same of this end's own request
-abbrev pub own_parts : Role → ℕ → ℕ
-own_parts Requester n = n
-own_parts Responder n = 0
 
 -- the stream s of an end on that side, of which this is kept; parts says whether its request came or went in fragments, made and handled are the sums
 pub record Tally (side : Side) (s : ℕ) (made handled : Counts) (f : Stream) (parts : Bool) : Type 0 where
@@ -127,88 +113,6 @@ tally_idle side s M H h f parts zero t = record {
   without_own = t.without_own;
   without_peer = λ theirs. let before = t.without_peer theirs in omega (arith, before);
 }
-
--- ---- tables, by the part of this end and the kind
-
-own_no_item : (kind : Kind) (whole : Bool) (role : Role) → carries kind whole (inbound role) role ≡ false
-own_no_item Channel whole Requester = refl
-own_no_item Channel whole Responder = refl
-own_no_item Streamed whole Requester = refl
-own_no_item Streamed whole Responder = refl
-own_no_item Response whole Requester = refl
-own_no_item Response whole Responder = refl
-own_no_item Fnf whole Requester = refl
-own_no_item Fnf whole Responder = refl
-
-own_no_grant : (kind : Kind) (role : Role) → may_grant kind (inbound (other role)) role ≡ false
-own_no_grant Channel Requester = refl
-own_no_grant Channel Responder = refl
-own_no_grant Streamed Requester = refl
-own_no_grant Streamed Responder = refl
-own_no_grant Response Requester = refl
-own_no_grant Response Responder = refl
-own_no_grant Fnf Requester = refl
-own_no_grant Fnf Responder = refl
-
--- who may grant grants what comes
-own_grants : (kind : Kind) (role : Role) (f : Stream) → on_way (inbound_over role kind f) ≡ None → may_grant kind (inbound role) role ≡ true
-own_grants Channel Requester f none = refl
-own_grants Channel Responder f none = refl
-own_grants Streamed Requester f none = refl
-own_grants Streamed Responder f none = absurd (cc)
-own_grants Response Requester f none = absurd (cc)
-own_grants Response Responder f none = absurd (cc)
-own_grants Fnf Requester f none = absurd (cc)
-own_grants Fnf Responder f none = absurd (cc)
-
--- who may send sends items, where they need credit
-own_items : (kind : Kind) (role : Role) (f : Stream) (whole : Bool) → on_way (outbound_over role kind f) ≡ None → needs_credit kind ≡ true → (role ≡ Requester → whole ≡ true) → carries kind whole (inbound (other role)) role ≡ true
-own_items Channel Requester f whole none needs mine = mine refl
-own_items Channel Responder f whole none needs mine = refl
-own_items Streamed Requester f whole none needs mine = absurd (cc)
-own_items Streamed Responder f whole none needs mine = refl
-own_items Response role f whole none needs mine = absurd (cc)
-own_items Fnf role f whole none needs mine = absurd (cc)
-
--- and ends its way where it is complete
-own_ends : (kind : Kind) (role : Role) (f : Stream) → on_way (outbound_over role kind f) ≡ None → needs_credit kind ≡ true → message_ends role kind true (inbound (other role)) ≡ true
-own_ends Channel Requester f none needs = refl
-own_ends Channel Responder f none needs = refl
-own_ends Streamed Requester f none needs = absurd (cc)
-own_ends Streamed Responder f none needs = refl
-own_ends Response role f none needs = absurd (cc)
-own_ends Fnf role f none needs = absurd (cc)
-
--- ---- how much later a message is whole
-
-same_late : (role : Role) (parts whole : Bool) → late role parts (whole || false) ≤ late role parts whole
-same_late Requester parts whole = omega arith
-same_late Responder parts true = omega arith
-same_late Responder parts false = omega arith
-
-own_late : (role : Role) (parts whole over : Bool) (m : Message) (c n : Bool) → late role parts (whole || (is_of_requester (Said role (Payload m c n)) && not over)) ≤ late role parts whole
-own_late Requester parts whole over m c n = omega arith
-own_late Responder parts true over m c n = omega arith
-own_late Responder parts false over m c n = omega arith
-
-one_most : (b : Bool) → one_if b ≤ 1
-one_most true = omega arith
-one_most false = omega arith
-
--- a payload of the peer's is an item, or makes the request's own message whole
-peers_late : (kind : Kind) (role : Role) (parts whole over request_over : Bool) (m : Message) (c n : Bool)
-    → items_in over kind whole (inbound role) (Said (other role) (Payload m c n)) + late role parts (whole || (is_of_requester (Said (other role) (Payload m c n)) && not request_over)) ≤ late role parts whole + 1
-peers_late kind Requester parts whole true r m c n = omega arith
-peers_late kind Requester parts whole false r m c n = let most = one_most (needs_credit kind && (n && carries kind whole way.Reply Responder)) in omega (arith, most)
-peers_late kind Responder parts true true r m c n = omega arith
-peers_late kind Responder parts true false r m c n = let most = one_most (needs_credit kind && (n && carries kind true way.Request Requester)) in omega (arith, most)
-peers_late kind Responder parts false true r m c n = let most = one_most (parts && not r) in omega (arith, most)
-peers_late Channel Responder parts false false r m c true = let most = one_most (parts && not r) in omega (arith, most)
-peers_late Channel Responder parts false false r m c false = let most = one_most (parts && not r) in omega (arith, most)
-peers_late Streamed Responder parts false false r m c true = let most = one_most (parts && not r) in omega (arith, most)
-peers_late Streamed Responder parts false false r m c false = let most = one_most (parts && not r) in omega (arith, most)
-peers_late Response Responder parts false false r m c n = let most = one_most (parts && not r) in omega (arith, most)
-peers_late Fnf Responder parts false false r m c n = let most = one_most (parts && not r) in omega (arith, most)
 
 -- ---- each word
 
@@ -341,90 +245,3 @@ nothing_said f d parts = record {
   handled_parts = refl;
   made_without = refl;
 }
-
--- ---- the request
-
--- what a request adds where this end makes it
-pub record OwnRequest (kind : Kind) (initial : ℕ) (m : Counts) : Type 0 where
-  pub given : m.given ≡ initial
-  pub without : m.without ≡ one_if (not (needs_credit kind))
-  pub ended : m.ended ≤ m.parts
-
-pub own_opens : (side : Side) (s high : ℕ) (M H m : Counts) (kind : Kind) (initial : Option ℕ) (message : Message) (complete : Bool) → Bare s M H high → OwnRequest kind (or_zero initial) m → is_own_parity side s ≡ true
-    → Tally side s (plus M m) (plus H none) (first (ours kind initial message complete)) false
-own_opens side s high M H m kind initial message complete b a own = record {
-  part = sym own;
-  own_whole = λ mine. refl;
-  granted_in = λ needs. rw needs (let x = b.given in let y = a.given in omega (arith, x, y));
-  granted_out = λ needs. omega arith;
-  used_in = λ needs. omega arith;
-  used_out = λ needs still. let x = b.ended in let y = a.ended in omega (arith, x, y);
-  parts_in = λ theirs. absurd (cc);
-  without_own = λ mine. let x = b.without in let y = a.without in omega (arith, x, y);
-  without_peer = λ theirs. absurd (cc);
-}
-
--- and where its peer does
-pub record PeersRequest (kind : Kind) (initial : ℕ) (parts : Bool) (h : Counts) : Type 0 where
-  pub given : h.given ≡ initial
-  pub without : h.without ≡ one_if (not (needs_credit kind))
-  pub parts_are : h.parts ≡ one_if parts
-
-pub peer_opens : (side : Side) (s high : ℕ) (M H h : Counts) (kind : Kind) (initial : Option ℕ) (whole : Option (Message × Bool)) → Bare s M H high → high < s → PeersRequest kind (or_zero initial) (not (is_some whole)) h
-    → is_own_parity side s ≡ false → Tally side s (plus M none) (plus H h) (first (theirs kind initial whole)) (not (is_some whole))
-peer_opens side s high M H h kind initial whole b fresh a own = record {
-  part = sym own;
-  own_whole = λ mine. absurd (cc);
-  granted_in = λ needs. let x = b.given in omega (arith, x);
-  granted_out = λ needs. rw needs (let y = a.given in omega (arith, y));
-  used_in = λ needs. elim (is_some whole) as (λ v. 0 + one_if (not v && v) ≤ H.ended + h.ended) [ true ↦ omega arith | false ↦ omega arith ];
-  used_out = λ needs still. let x = b.ended in omega (arith, x);
-  parts_in = λ theirs. let x = b.fresh fresh in let y = a.parts_are in omega (arith, x, y);
-  without_own = λ mine. absurd (cc);
-  without_peer = λ theirs. let y = a.without in omega (arith, y);
-}
-
--- ---- a stream, or none
-
-abbrev pub Keeps : Side → ℕ → Counts → Counts → ℕ → Option Turn → Type 0
-Keeps side s made handled high None = Bare s made handled high
-Keeps side s made handled high (Some t) = Tally side s made handled (stream_of t.opening t.words) (not (is_some t.opening.whole))
-
-pub keeps_idle : (side : Side) (s : ℕ) (M H h : Counts) (high high' : ℕ) (t : Option Turn) → high ≤ high' → h.parts ≡ 0 → Keeps side s M H high t → Keeps side s M (plus H h) high' t
-keeps_idle side s M H h high high' None le zero k = record {
-  given = k.given;
-  ended = k.ended;
-  without = k.without;
-  fresh = λ below. let x = k.fresh (omega arith) in omega (arith, x, zero);
-}
-keeps_idle side s M H h high high' (Some t) le zero k = tally_idle side s M H h (stream_of t.opening t.words) (not (is_some t.opening.whole)) zero k
-
--- a request that opens no stream leaves the id used
-pub keeps_used : (side : Side) (s : ℕ) (M H h : Counts) (high high' : ℕ) → s ≤ high' → Bare s M H high → Keeps side s M (plus H h) high' None
-keeps_used side s M H h high high' used k = record { given = k.given; ended = k.ended; without = k.without; fresh = λ below. absurd (omega arith) }
-
-pub keeps_first : (side : Side) (s : ℕ) (M H : Counts) (high : ℕ) (o : Opening) → Tally side s M H (first o) (not (is_some o.whole)) → Keeps side s M H high (Some (record { opening = o; words = [] }))
-keeps_first side s M H high o t = subst (λ f. Tally side s M H f (not (is_some o.whole))) (sym (stream_first o)) t
-
-said_more : (side : Side) (s : ℕ) (M H m h : Counts) (u : Turn) (x : Word) → Tally side s M H (stream_of u.opening u.words) (not (is_some u.opening.whole)) → Adds (stream_of u.opening u.words) x (not (is_some u.opening.whole)) m h
-    → Tally side s (plus M m) (plus H h) (stream_of u.opening (x ∷ u.words)) (not (is_some u.opening.whole))
-said_more side s M H m h u x t a =
-    subst (λ f. Tally side s (plus M m) (plus H h) f (not (is_some u.opening.whole))) (sym (stream_more u.opening u.words x))
-    (tally_more side s M H m h (stream_of u.opening u.words) x (not (is_some u.opening.whole)) t a)
-
--- a word of this end's, or of its callers'
-pub keeps_own : (side : Side) (s : ℕ) (M H m h : Counts) (high : ℕ) (t : Option Turn) (u : Turn) (word : Role → Word) → t ≡ Some u → Keeps side s M H high t
-    → Adds (stream_of u.opening u.words) (word u.opening.role) (not (is_some u.opening.whole)) m h → Keeps side s (plus M m) (plus H h) high (goes_on t word)
-keeps_own side s M H m h high t u word is k a =
-    subst (λ o. Keeps side s (plus M m) (plus H h) high (goes_on o word)) (sym is) (said_more side s M H m h u (word u.opening.role) (subst (Keeps side s M H high) is k) a)
-
--- a word that adds nothing to what was made, on a stream or on none
-pub keeps_any : (side : Side) (s : ℕ) (M H h : Counts) (high : ℕ) (t : Option Turn) (word : Role → Word) → h.parts ≡ 0 → Keeps side s M H high t
-    → ((u : Turn) → Adds (stream_of u.opening u.words) (word u.opening.role) (not (is_some u.opening.whole)) none h) → Keeps side s (plus M none) (plus H h) high (goes_on t word)
-keeps_any side s M H h high None word zero k a = record {
-  given = let x = k.given in omega (arith, x);
-  ended = let x = k.ended in omega (arith, x);
-  without = let x = k.without in omega (arith, x);
-  fresh = λ below. let x = k.fresh below in omega (arith, x, zero);
-}
-keeps_any side s M H h high (Some u) word zero k a = said_more side s M H none h u (word u.opening.role) k (a u)

@@ -7,18 +7,18 @@ use Rattle.tape.specs.declared.answer.Answer.{Answer}
 use Rattle.tape.specs.declared.answer.Answer.TheVariants as answer
 use Rattle.tape.specs.declared.entry.Entry.{Entry}
 
--- a rule that hangs on no limit of either end, so that no peer breaks it that keeps to the definitions
-abbrev pub hangs_on_no_limit : Rule → Bool
-hangs_on_no_limit (rule.UnknownType number) = true
-hangs_on_no_limit rule.NotNow = true
-hangs_on_no_limit (rule.StreamId stream) = true
-hangs_on_no_limit (rule.OverCredit granted) = true
-hangs_on_no_limit (rule.Ahead made) = true
-hangs_on_no_limit _ = false
+-- a rule that depends on no limit of either end, so that no peer breaks it that keeps to the definitions
+abbrev pub depends_on_no_limit : Rule → Bool
+depends_on_no_limit (rule.UnknownType number) = true
+depends_on_no_limit rule.NotNow = true
+depends_on_no_limit (rule.StreamId stream) = true
+depends_on_no_limit (rule.OverCredit granted) = true
+depends_on_no_limit (rule.Ahead made) = true
+depends_on_no_limit _ = false
 
 -- an answer that says that the peer broke such a rule
 abbrev pub accuses : Answer → Bool
-accuses (answer.Violation rule) = hangs_on_no_limit rule
+accuses (answer.Violation rule) = depends_on_no_limit rule
 accuses _ = false
 
 -- no entry has such an answer

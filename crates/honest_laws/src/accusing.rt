@@ -6,7 +6,7 @@ ghost use Rattle.tape.specs.declared.entry.Entry.{Entry};
 ghost use Rattle.session_laws.specs.Ends.{AreJoined};
 ghost use Rattle.honest_laws.specs.Accusing.{AccusesNobody};
 
-/// Neither end accuses the other: no entry is answered by a Violation of a rule that hangs on no
+/// Neither end accuses the other: no entry is answered by a Violation of a rule that depends on no
 /// limits (RSocket 1.0, "Frame Header Format", "Setup", "Stream Identifiers", "REQUEST_N Frame" and
 /// "KEEPALIVE Frame"). Nothing is asked of the settings of the two ends but that each passed its
 /// own check, nor of the order of what happens at one end and at the other.
