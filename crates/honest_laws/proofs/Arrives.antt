@@ -31,14 +31,13 @@ use Rattle.session_model.proofs.Openings.{live_le}
 use Rattle.session_laws.specs.Ends.{AreJoined}
 use Rattle.session_laws.specs.Streams.{IsLawful}
 use Rattle.session_laws.proofs.Counting.{counting}
-use Rattle.session_laws.proofs.Crossing.{handled_down, handled_up}
-use Rattle.session_laws.proofs.Follows.{Answered, Asked, Begins, First, FollowsAt, Greeted, Joins, kept}
+use Rattle.session_laws.proofs.Crossing.{client_joins, crossed_down, crossed_up, handled_down, handled_up, no_client, search, server_joins}
+use Rattle.session_laws.proofs.Follows.{begins_more, Answered, Asked, Begins, First, FollowsAt, Greeted, Joins, kept}
 use Rattle.session_laws.proofs.FromClient.{Begun, Flow, Nothing, Resumed, Waiting, flows}
 use Rattle.session_laws.proofs.FromServer.{Begun as Opened, Flow as ServerFlow, Nothing as Unopened, Resumed as Reopened, flows as server_flows}
 use Rattle.session_laws.proofs.Lawful.{before_lawful}
 use Rattle.session_laws.proofs.Life.{came_some}
 use Rattle.session_laws.proofs.Prefixes.{prefix_cons, prefix_more, prefix_refl, prefix_trans}
-use Rattle.honest_laws.proofs.Crossed.{client_joins, crossed_down, crossed_up, no_client, search, server_joins}
 use Rattle.honest_laws.proofs.Plain.{Begun as Set, Greeted as Headed, IsPlain, Line, Silent, all_both, all_last, line_rest, lines}
 
 -- ---- what an arrival is
@@ -62,12 +61,6 @@ pub record Arrives (g h : Settings) (before peer : List Entry) (f : Frame) : Typ
   pub now : ComesNow (carrying g before) (pos (made g before)) f
 
 -- ---- the entries before it
-
-begins_more : (side : Side) (came owed base brought out : List Frame) → Begins side came owed base → Begins side (came ++ brought) (owed ++ out) base
-begins_more side came owed base brought out (First s rest at c b) = First s (rest ++ brought) at (ap (λ l. l ++ brought) c) b
-begins_more side came owed base brought out (Answered r rest more at c o) = Answered r (rest ++ brought) (more ++ out) at (ap (λ l. l ++ brought) c) (ap (λ l. l ++ out) o)
-begins_more side came owed base brought out (Greeted s more at o b) = Greeted s (more ++ out) at (ap (λ l. l ++ out) o) b
-begins_more side came owed base brought out (Asked r more at o b) = Asked r (more ++ out) at (ap (λ l. l ++ out) o) b
 
 earlier_joins : (g : Settings) (made : List Frame) (newer past : List Entry) → Joins g made (newer ++ past) → Joins g made past
 unfolding came due

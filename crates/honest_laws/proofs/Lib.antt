@@ -1,4 +1,3 @@
-pub mod Crossed
 pub mod Plain
 pub mod Arrives
 pub mod Judged

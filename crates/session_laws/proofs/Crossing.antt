@@ -143,7 +143,7 @@ whole_down owed made back flowing first more base (Reopened r told front sent re
 -- ---- the two ends
 
 -- what came at the server on an opening is a prefix of what was due there at the client
-crossed_up : (g h : Settings) (C S : List Entry) (pair : ℕ → ℕ) (d : ℕ) → AreJoined g h C S pair → IsOpening S d
+pub crossed_up : (g h : Settings) (C S : List Entry) (pair : ℕ → ℕ) (d : ℕ) → AreJoined g h C S pair → IsOpening S d
     → IsPrefix (came S d) (due g C (pair d))
 crossed_up g h C S pair d j is =
     let e = j.ends in
@@ -151,7 +151,7 @@ crossed_up g h C S pair d j is =
     frames_given (drawn C (pair d)) (came S d) (due g C (pair d)) (came_spelled h S d e.server_fair) owed (j.joined.up d is).begins
 
 -- what came at the client is a prefix of what the server offered there
-crossed_down : (g h : Settings) (C S : List Entry) (pair : ℕ → ℕ) (d : ℕ) → AreJoined g h C S pair → IsOpening S d
+pub crossed_down : (g h : Settings) (C S : List Entry) (pair : ℕ → ℕ) (d : ℕ) → AreJoined g h C S pair → IsOpening S d
     → IsPrefix (came C (pair d)) (frames_offered h S d)
 crossed_down g h C S pair d j is =
     let e = j.ends in
@@ -176,7 +176,7 @@ record Opening (g h : Settings) (C S : List Entry) (pair : ℕ → ℕ) (d : ℕ
   fits : FitsBack first base (came C (pair d))
   uncounted : counting (first ∷ rest) ≡ counting rest
 
-no_client : (h : Settings) → h.side ≡ Server → h.side ≡ Client → ⊥
+pub no_client : (h : Settings) → h.side ≡ Server → h.side ≡ Client → ⊥
 no_client h is not = let same : Server ≡ Client = sym is ∙ not in absurd (cc)
 
 begun_at : (g h : Settings) (C S : List Entry) (pair : ℕ → ℕ) (d : ℕ) (base : List Frame) → AreJoined g h C S pair
@@ -202,7 +202,7 @@ fewer : (base part all made : List Frame) → IsPrefix part all → IsPrefix (ba
 fewer base part all made p q =
     prefix_trans (base ++ counting part) (base ++ counting all) made (prefix_under base (counting part) (counting all) (prefix_counting part all p)) q
 
-server_joins : (g h : Settings) (C S : List Entry) (pair : ℕ → ℕ) → AreJoined g h C S pair → Joins h (made g C) S
+pub server_joins : (g h : Settings) (C S : List Entry) (pair : ℕ → ℕ) → AreJoined g h C S pair → Joins h (made g C) S
 server_joins g h C S pair j d base part p begins old =
     let e = j.ends in
     let o = begun_at g h C S pair d base j begins in
@@ -214,7 +214,7 @@ server_joins g h C S pair j d base part p begins old =
 
 -- ---- the opening that is paired with a connection of the client
 
-search : (n c : ℕ) (pair : ℕ → ℕ) → ((d : ℕ) × (0 < d) × (d ≤ n) × (pair d ≡ c)) ⊎ ((d : ℕ) → 0 < d → d ≤ n → pair d ≢ c)
+pub search : (n c : ℕ) (pair : ℕ → ℕ) → ((d : ℕ) × (0 < d) × (d ≤ n) × (pair d ≡ c)) ⊎ ((d : ℕ) → 0 < d → d ≤ n → pair d ≢ c)
 search zero c pair = inr (λ d above within. absurd (omega arith))
 search (suc n) c pair = elim (search n c pair) [
   | inl found ↦ inl (found.0, found.1, omega (arith, found.2), found.3)
@@ -235,7 +235,7 @@ record Greeting (g : Settings) (C : List Entry) (c : ℕ) (base : List Frame) : 
   owed : due g C c ≡ first ∷ more
   fits : FitsFirst first base
 
-no_server : (g : Settings) → g.side ≡ Client → g.side ≡ Server → ⊥
+pub no_server : (g : Settings) → g.side ≡ Client → g.side ≡ Server → ⊥
 no_server g is not = let same : Client ≡ Server = sym is ∙ not in absurd (cc)
 
 greeted_at : (g : Settings) (C : List Entry) (c : ℕ) (base : List Frame) → g.side ≡ Client → Begins g.side (came C c) (due g C c) base → Greeting g C c base
@@ -255,7 +255,7 @@ paired_joins g h C S pair d base j is begins old =
     (subst (λ l. IsPrefix (came S d) l) o.owed (crossed_up g h C S pair d j is)) o.fits
     (counted_offer S d (due h S d) (came C (pair d)) (crossed_down g h C S pair d j is)) old
 
-client_joins : (g h : Settings) (C S : List Entry) (pair : ℕ → ℕ) → AreJoined g h C S pair → Joins g (made h S) C
+pub client_joins : (g h : Settings) (C S : List Entry) (pair : ℕ → ℕ) → AreJoined g h C S pair → Joins g (made h S) C
 client_joins g h C S pair j c base part p begins old = elim (search (openings S) c pair) [
   | inl found ↦
       let is : IsOpening S found.0 = record { above = found.1; within = found.2 } in

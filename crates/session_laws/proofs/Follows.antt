@@ -42,7 +42,7 @@ pub data Begins (side : Side) (came owed base : List Frame) : Type 0 where
   Greeted : (s : Setup) (more : List Frame) → side ≡ Client → owed ≡ frame.Setup s ∷ more → base ≡ [] → Begins side came owed base
   Asked : (r : Resume) (more : List Frame) → side ≡ Client → owed ≡ frame.Resume r ∷ more → r.server_position ≡ pos base → Begins side came owed base
 
-begins_more : (side : Side) (came owed base brought out : List Frame) → Begins side came owed base → Begins side (came ++ brought) (owed ++ out) base
+pub begins_more : (side : Side) (came owed base brought out : List Frame) → Begins side came owed base → Begins side (came ++ brought) (owed ++ out) base
 begins_more side came owed base brought out (First s rest at c b) = First s (rest ++ brought) at (ap (λ l. l ++ brought) c) b
 begins_more side came owed base brought out (Answered r rest more at c o) = Answered r (rest ++ brought) (more ++ out) at (ap (λ l. l ++ brought) c)
     (ap (λ l. l ++ out) o)
