@@ -8,8 +8,6 @@ use super::ends::{
 use super::play::{Shown, play};
 use super::step::{First, Step, Strange};
 use rs_wire::{Cause, Rule};
-use std::alloc::Global;
-use std::process::Abort;
 
 /// A KEEPALIVE that asks for an answer before its position, after its length of 14: stream 0, type 3, R.
 const ASKS: &[u8] = b"\x00\x00\x0e\x00\x00\x00\x00\x0c\x80";
@@ -264,50 +262,46 @@ fn a_keepalive_tells_up_to_where_its_sender_handled(rt: HostRuntime) {
     );
 }
 
-// Plays a KEEPALIVE of a position up to what a server made, which is 0 or 8, and one above it.
-fn play_ahead(rt: &impl Abort, alloc: Global, made: u64) {
-    let ahead = Rule::Ahead(made);
-    let at_end = OPENED.closed(Cause::Broken(ahead));
-    let first = (Step::Opened(First::Tok1, false), "Opened(1)");
-    let within = (Step::Odd(1, Strange::Keepalive(false, made, 0)), "Handled");
-    let above = Step::Odd(1, Strange::Keepalive(false, made + 1, 0));
-    if made == 0 {
-        let steps = [
-            first,
-            within,
-            (above, "Violation(Ahead(0))"),
-            (Step::Draw(1, 99), "Drawn(18)"),
-        ];
-        play(
-            rt,
-            alloc,
-            RESUMING_SERVER,
-            &steps,
-            &[AHEAD],
-            at_end.after(4, 0),
-        );
-        return;
-    }
-    play(
-        rt,
-        alloc,
-        RESUMING_SERVER,
-        &[
-            first,
-            (Step::Ask(2), "Started(2)"),
-            within,
-            (above, "Violation(Ahead(8))"),
-        ],
-        &[],
-        at_end.after(4, 11 + 18).made(1, 8),
-    );
+// A server that resumes, after a KEEPALIVE of a position above the 0 or 8 that it made.
+fn closed_ahead(made: u64) -> Shown {
+    OPENED.closed(Cause::Broken(Rule::Ahead(made)))
 }
 
 #[test]
 fn a_keepalive_tells_no_position_above_what_was_made(rt: HostRuntime) {
     let alloc = rt.alloc();
-    play_ahead(&rt, alloc, 0);
-    play_ahead(&rt, alloc, 8);
+    play(
+        &rt,
+        alloc,
+        RESUMING_SERVER,
+        &[
+            (Step::Opened(First::Tok1, false), "Opened(1)"),
+            (Step::Odd(1, Strange::Keepalive(false, 0, 0)), "Handled"),
+            (
+                Step::Odd(1, Strange::Keepalive(false, 1, 0)),
+                "Violation(Ahead(0))",
+            ),
+            (Step::Draw(1, 99), "Drawn(18)"),
+        ],
+        &[AHEAD],
+        closed_ahead(0).after(4, 0),
+    );
+    play(
+        &rt,
+        alloc,
+        RESUMING_SERVER,
+        &[
+            (Step::Opened(First::Tok1, false), "Opened(1)"),
+            (Step::Ask(2), "Started(2)"),
+            (Step::Odd(1, Strange::Keepalive(false, 8, 0)), "Handled"),
+            (
+                Step::Odd(1, Strange::Keepalive(false, 9, 0)),
+                "Violation(Ahead(8))",
+            ),
+        ],
+        &[],
+        closed_ahead(8).after(4, 11 + 18).made(1, 8),
+    );
     // Without resumption a position says nothing.
     play(
         &rt,
