@@ -7,6 +7,7 @@ use Rattle.rs_wire.specs.declared.settings.Settings.{Settings}
 use Rattle.rs_wire.specs.declared.call.Call.{Call}
 use Rattle.rs_wire.specs.declared.call.Call.TheVariants as call
 use Rattle.rs_wire.specs.Calls.{CanBeAsked}
+use Rattle.rs_wire.specs.Settings.{IsChecked}
 use Rattle.rs_frame.specs.Framed.{framed_all}
 use Rattle.rs_chunk.specs.Rest.{Rest}
 use Rattle.tape.specs.declared.event.Event.TheVariants as event
@@ -14,7 +15,7 @@ use Rattle.tape.specs.declared.entry.Entry.{Entry}
 use Rattle.tape.specs.Answers.{leaves}
 use Rattle.session_model.specs.Life.{is_live, live, openings}
 use Rattle.session_model.specs.Frames.{drawn, due, given}
-use Rattle.session_model.specs.Legal.{Fair, IsPlain, Legal}
+use Rattle.session_model.specs.Legal.{Fair, Legal}
 use Rattle.session_model.specs.Joined.{refused}
 use Rattle.session_model.specs.Answers.{answer_to}
 use Rattle.session_core.specs.Seen.{Seen}
@@ -27,7 +28,7 @@ use Rattle.cable.specs.Played.{CarriesDown, CarriesUp, Downs, Draws, Ends, Link,
 use Rattle.cable.specs.Played.{Gives as GivesDown}
 use Rattle.cable.specs.Hearing.{Carried, CrossedTo, Crosses, IsHearer}
 use Rattle.cable_script.specs.Line.{IsSayable}
-use Rattle.cable.specs.Wires.{Arrives, At, ClientAt, Gave, IsLost, IsMoved, IsPlainEnd, LinkAt, Reaches, ServerAt, WireAt, Wires, sides_of}
+use Rattle.cable.specs.Wires.{Arrives, At, ClientAt, Gave, IsLost, IsMoved, IsCheckedEnd, LinkAt, Reaches, ServerAt, WireAt, Wires, sides_of}
 use Rattle.cable.proofs.Grows.{Goes, Quiet, added_quiet, drew_where, hears_on}
 use Rattle.cable.proofs.Lost.{arrives_dropped, lost_arrives, lost_as, lost_gave, lost_more}
 use Rattle.cable.proofs.Moving.{Gives, Keeps as KeepsDown, arrives_keeps, gives_crosses, grew_or, kept_on, moved_on_link, nothing_fed}
@@ -36,26 +37,26 @@ use Rattle.cable.proofs.Wiring.{Sent, fed, knows_quiet, server_more, settings_of
 
 -- ---- an end
 
-pub end_on : (side : Side) (v v' : Seen) → v' ≡ record v { entries = v'.entries; spare = v'.spare } → Legal v'.settings v'.entries → Fair v'.settings v'.entries → IsPlainEnd side v → IsPlainEnd side v'
+pub end_on : (side : Side) (v v' : Seen) → v' ≡ record v { entries = v'.entries; spare = v'.spare } → Legal v'.settings v'.entries → Fair v'.settings v'.entries → IsCheckedEnd side v → IsCheckedEnd side v'
 end_on side v v' same legal fair h = record {
   side_is = ap (λ (g : Settings). g.side) (settings_of v v' same) ∙ h.side_is;
-  plain = subst IsPlain (sym (settings_of v v' same)) h.plain;
+  checked = subst IsChecked (sym (settings_of v v' same)) h.checked;
   legal = legal;
   fair = fair;
 }
 
 -- under the settings from before
-pub legal_there : (side : Side) (v v' : Seen) → v' ≡ record v { entries = v'.entries; spare = v'.spare } → IsPlainEnd side v' → Legal v.settings v'.entries
+pub legal_there : (side : Side) (v v' : Seen) → v' ≡ record v { entries = v'.entries; spare = v'.spare } → IsCheckedEnd side v' → Legal v.settings v'.entries
 legal_there side v v' same h = subst (λ (g : Settings). Legal g v'.entries) (settings_of v v' same) h.legal
 
-pub fair_there : (side : Side) (v v' : Seen) → v' ≡ record v { entries = v'.entries; spare = v'.spare } → IsPlainEnd side v' → Fair v.settings v'.entries
+pub fair_there : (side : Side) (v v' : Seen) → v' ≡ record v { entries = v'.entries; spare = v'.spare } → IsCheckedEnd side v' → Fair v.settings v'.entries
 fair_there side v v' same h = subst (λ (g : Settings). Fair g v'.entries) (settings_of v v' same) h.fair
 
 -- what is due at the client went on, and it gave this piece
-sent_by : (v u' : Seen) (c : ℕ) (piece : List ℕ) → u' ≡ record v { entries = u'.entries; spare = u'.spare } → IsPlainEnd Client v → IsPlainEnd Client u' → Goes v.settings v.entries u'.entries → given v.settings u'.entries c ≡ given v.settings v.entries c ++ piece → Sent v.settings c v.entries u'.entries piece
+sent_by : (v u' : Seen) (c : ℕ) (piece : List ℕ) → u' ≡ record v { entries = u'.entries; spare = u'.spare } → IsCheckedEnd Client v → IsCheckedEnd Client u' → Goes v.settings v.entries u'.entries → given v.settings u'.entries c ≡ given v.settings v.entries c ++ piece → Sent v.settings c v.entries u'.entries piece
 sent_by v u' c piece same before after goes gave = record {
   sends = goes.sends c;
-  spelled = due_spelled v.settings u'.entries c before.plain (legal_there Client v u' same after) (fair_there Client v u' same after);
+  spelled = due_spelled v.settings u'.entries c before.checked (legal_there Client v u' same after) (fair_there Client v u' same after);
   gave = gave;
 }
 
@@ -66,7 +67,7 @@ pub record StandsBy (g : Settings) (past past' : List Entry) : Type 0 where
   pub goes : Goes g past past'
   pub drawn_are : (c : ℕ) → drawn past' c ≡ drawn past c
 
-client_link : (v : Wires) (r : Ends) (w : Wire) (u' : Seen) → u' ≡ record v.client { entries = u'.entries; spare = u'.spare } → r.client ≡ v.client.entries → IsPlainEnd Client v.client → IsPlainEnd Client u' → StandsBy v.client.settings v.client.entries u'.entries → LinkAt w v r → LinkAt w (record v { client = u' }) (with_client r u'.entries)
+client_link : (v : Wires) (r : Ends) (w : Wire) (u' : Seen) → u' ≡ record v.client { entries = u'.entries; spare = u'.spare } → r.client ≡ v.client.entries → IsCheckedEnd Client v.client → IsCheckedEnd Client u' → StandsBy v.client.settings v.client.entries u'.entries → LinkAt w v r → LinkAt w (record v { client = u' }) (with_client r u'.entries)
 client_link v r w u' same client before after q h =
     let g = v.client.settings in
     let gs : u'.settings ≡ g = settings_of v.client u' same in
@@ -79,11 +80,11 @@ client_link v r w u' same client before after q h =
           (crosses_quiet g w.client (bytes_down h.there v.server.entries) (frames_down v.server.settings h.there v.server.entries) v.client.entries u'.entries w.down.rest w.down.over q.quiet h.down);
     }
 
-client_wire : (o : Option Wire) (v : Wires) (r : Ends) (u' : Seen) → u' ≡ record v.client { entries = u'.entries; spare = u'.spare } → r.client ≡ v.client.entries → IsPlainEnd Client v.client → IsPlainEnd Client u' → StandsBy v.client.settings v.client.entries u'.entries → WireAt o v r → WireAt o (record v { client = u' }) (with_client r u'.entries)
+client_wire : (o : Option Wire) (v : Wires) (r : Ends) (u' : Seen) → u' ≡ record v.client { entries = u'.entries; spare = u'.spare } → r.client ≡ v.client.entries → IsCheckedEnd Client v.client → IsCheckedEnd Client u' → StandsBy v.client.settings v.client.entries u'.entries → WireAt o v r → WireAt o (record v { client = u' }) (with_client r u'.entries)
 client_wire None v r u' same client before after q h = h
 client_wire (Some w) v r u' same client before after q h = client_link v r w u' same client before after q h
 
-client_at : (v : Wires) (r : Ends) (u' : Seen) → At v r → IsPlainEnd Client u' → u' ≡ record v.client { entries = u'.entries; spare = u'.spare } → StandsBy v.client.settings v.client.entries u'.entries → At (record v { client = u' }) (with_client r u'.entries)
+pub client_at : (v : Wires) (r : Ends) (u' : Seen) → At v r → IsCheckedEnd Client u' → u' ≡ record v.client { entries = u'.entries; spare = u'.spare } → StandsBy v.client.settings v.client.entries u'.entries → At (record v { client = u' }) (with_client r u'.entries)
 client_at v r u' at after same q = record { client_is = after; server_is = at.server_is; client = refl; server = at.server; wire = client_wire v.wire v r u' same at.client at.client_is after q at.wire; dropped = at.dropped; lost = at.lost }
 
 -- nothing comes at the server, and it gives nothing on the connection that joins the ends
@@ -97,10 +98,10 @@ bytes_still There.Nowhere S S' same = refl
 bytes_still (There.Accepted d) S S' same = same d
 bytes_still (There.Refused d n) S S' same = refl
 
-stays_by : (r : Ends) (v s' : Seen) → StandsBy v.settings v.entries s'.entries → StaysBy r v s'
+pub stays_by : (r : Ends) (v s' : Seen) → StandsBy v.settings v.entries s'.entries → StaysBy r v s'
 stays_by r v s' q = record { quiet = q.quiet; goes = q.goes; still = λ c t is. bytes_still t v.entries s'.entries q.drawn_are }
 
-server_link : (v : Wires) (r : Ends) (w : Wire) (s' : Seen) → s' ≡ record v.server { entries = s'.entries; spare = s'.spare } → IsPlainEnd Server v.server → IsPlainEnd Server s' → StaysBy r v.server s' → LinkAt w v r → LinkAt w (record v { server = s' }) (with_server r s'.entries)
+server_link : (v : Wires) (r : Ends) (w : Wire) (s' : Seen) → s' ≡ record v.server { entries = s'.entries; spare = s'.spare } → IsCheckedEnd Server v.server → IsCheckedEnd Server s' → StaysBy r v.server s' → LinkAt w v r → LinkAt w (record v { server = s' }) (with_server r s'.entries)
 server_link v r w s' same before after q h =
     let k = v.server.settings in
     let ks : s'.settings ≡ k = settings_of v.server s' same in
@@ -109,14 +110,14 @@ server_link v r w s' same before after q h =
       there = h.there;
       up = record { server = refl; link = h.up.link; number = h.up.number; knows = knows_quiet h.there w.known (drawn r.client w.client) (due v.client.settings r.client w.client) v.server s' w.up ks q.quiet h.up.knows };
       down = subst (λ (g : Settings). CrossedTo v.client.settings w.client (bytes_down h.there s'.entries) (frames_down g h.there s'.entries) v.client.entries w.down.rest w.down.over) (sym ks)
-          (gives_crosses v.client.settings k w.client h.there h.there v.client.entries v.server.entries s'.entries w.down.rest w.down.rest w.down.over [] before.plain (legal_there Server v.server s' same after) (fair_there Server v.server s' same after) kept.gives (nothing_fed w.down.rest) h.down);
+          (gives_crosses v.client.settings k w.client h.there h.there v.client.entries v.server.entries s'.entries w.down.rest w.down.rest w.down.over [] before.checked (legal_there Server v.server s' same after) (fair_there Server v.server s' same after) kept.gives (nothing_fed w.down.rest) h.down);
     }
 
-server_wire : (o : Option Wire) (v : Wires) (r : Ends) (s' : Seen) → s' ≡ record v.server { entries = s'.entries; spare = s'.spare } → IsPlainEnd Server v.server → IsPlainEnd Server s' → StaysBy r v.server s' → WireAt o v r → WireAt o (record v { server = s' }) (with_server r s'.entries)
+server_wire : (o : Option Wire) (v : Wires) (r : Ends) (s' : Seen) → s' ≡ record v.server { entries = s'.entries; spare = s'.spare } → IsCheckedEnd Server v.server → IsCheckedEnd Server s' → StaysBy r v.server s' → WireAt o v r → WireAt o (record v { server = s' }) (with_server r s'.entries)
 server_wire None v r s' same before after q h = h
 server_wire (Some w) v r s' same before after q h = server_link v r w s' same before after q h
 
-pub server_at : (v : Wires) (r : Ends) (s' : Seen) → At v r → IsPlainEnd Server s' → s' ≡ record v.server { entries = s'.entries; spare = s'.spare } → StaysBy r v.server s' → At (record v { server = s' }) (with_server r s'.entries)
+pub server_at : (v : Wires) (r : Ends) (s' : Seen) → At v r → IsCheckedEnd Server s' → s' ≡ record v.server { entries = s'.entries; spare = s'.spare } → StaysBy r v.server s' → At (record v { server = s' }) (with_server r s'.entries)
 server_at v r s' at after same q =
     let most : openings r.server ≤ openings s'.entries = omega (arith, q.quiet.openings_are, ap openings at.server) in
     record {
@@ -149,6 +150,8 @@ askable (call.Done stream) h = tt
 askable (call.Grant stream n) h = tt
 askable (call.Cancel stream) h = tt
 askable (call.Fail stream code content) h = h.1
+askable (call.Push metadata) h = tt
+askable (call.Lease ttl count metadata) h = tt
 askable (call.Take stream) h = tt
 askable call.TakeJob h = tt
 askable call.Close h = tt
@@ -235,7 +238,7 @@ up_here v r m w w' u' s' rest a b is at legal fair slegal sfair same kept k h =
     let keeps : KeepsDown v.server.settings here.there h.there v.server.entries s'.entries = subst (λ (l : List Entry). KeepsDown v.server.settings here.there h.there l s'.entries) at.server (subst (λ (l : List Entry). KeepsDown v.server.settings here.there h.there r1.server l) h.at.server keeps0) in
     let drew = drew_where (is_live (live v.client.entries) c) v.client.settings c m v.client.entries u'.entries k.draws in
     let quiet_down = crosses_quiet v.client.settings c (bytes_down here.there v.server.entries) (frames_down v.server.settings here.there v.server.entries) v.client.entries u'.entries w.down.rest w.down.over drew.0 here.down in
-    let down0 = gives_crosses v.client.settings v.server.settings c here.there h.there u'.entries v.server.entries s'.entries w.down.rest w.down.rest w.down.over [] at.server_is.plain (legal_there Server v.server s' kept server_after) (fair_there Server v.server s' kept server_after) keeps.gives (nothing_fed w.down.rest) quiet_down in
+    let down0 = gives_crosses v.client.settings v.server.settings c here.there h.there u'.entries v.server.entries s'.entries w.down.rest w.down.rest w.down.over [] at.server_is.checked (legal_there Server v.server s' kept server_after) (fair_there Server v.server s' kept server_after) keeps.gives (nothing_fed w.down.rest) quiet_down in
     let down1 : CrossedTo v.client.settings c (bytes_down h.there s'.entries) (frames_down s'.settings h.there s'.entries) u'.entries w.down.rest w.down.over = subst (λ (g : Settings). CrossedTo v.client.settings c (bytes_down h.there s'.entries) (frames_down g h.there s'.entries) u'.entries w.down.rest w.down.over) (sym ks) down0 in
     let down2 : CrossedTo u'.settings c (bytes_down h.there s'.entries) (frames_down s'.settings h.there s'.entries) u'.entries w.down.rest w.down.over = subst (λ (g : Settings). CrossedTo g c (bytes_down h.there s'.entries) (frames_down s'.settings h.there s'.entries) u'.entries w.down.rest w.down.over) (sym gs) down1 in
     let down3 : ClientAt c h.there u' s' w'.down = subst (λ (x : Crossing). ClientAt c h.there u' s' x) (sym down_same) down2 in
@@ -303,7 +306,7 @@ gave_arrivals h m There.Nowhere t' S S' u = ap arrivals u.1
 gave_arrivals h m (There.Accepted d) t' S S' u = drew_arrivals _ h d m S S' u.1
 gave_arrivals h m (There.Refused d n) t' S S' u = ap arrivals u.1
 
-gave_legal : (v v' : Seen) → v' ≡ record v { entries = v'.entries; spare = v'.spare } → IsPlainEnd Server v' → Legal v.settings v'.entries × Fair v.settings v'.entries
+gave_legal : (v v' : Seen) → v' ≡ record v { entries = v'.entries; spare = v'.spare } → IsCheckedEnd Server v' → Legal v.settings v'.entries × Fair v.settings v'.entries
 gave_legal v v' same h = (legal_there Server v v' same h, fair_there Server v v' same h)
 
 -- what crossed to the client, after the server gave
@@ -316,7 +319,7 @@ gave_crosses v r m w w' s' a is at slegal sfair kept k =
     let fed_down : w'.down.rest ≡ record w.down.rest { bytes = w.down.rest.bytes ++ k.piece } = ap (λ (x : Wire). x.down.rest) k.crossed in
     let over : w'.down.over ≡ w.down.over = ap (λ (x : Wire). x.down.over) k.crossed in
     let number : w'.client ≡ w.client = ap (λ (x : Wire). x.client) k.crossed in
-    let x = gives_crosses v.client.settings v.server.settings w.client here.there k.there v.client.entries v.server.entries s'.entries w.down.rest w'.down.rest w.down.over k.piece at.server_is.plain (legal_there Server v.server s' kept after) (fair_there Server v.server s' kept after) gives fed_down here.down in
+    let x = gives_crosses v.client.settings v.server.settings w.client here.there k.there v.client.entries v.server.entries s'.entries w.down.rest w'.down.rest w.down.over k.piece at.server_is.checked (legal_there Server v.server s' kept after) (fair_there Server v.server s' kept after) gives fed_down here.down in
     subst (λ (n : ℕ). CrossedTo v.client.settings n (bytes_down k.there s'.entries) (frames_down v.server.settings k.there s'.entries) v.client.entries w'.down.rest w'.down.over) (sym number)
     (subst (λ (b : Bool). CrossedTo v.client.settings w.client (bytes_down k.there s'.entries) (frames_down v.server.settings k.there s'.entries) v.client.entries w'.down.rest b) (sym over) x)
 

@@ -94,7 +94,7 @@ pub refused_step : (x : Entry) (past : List Entry) (d : ℕ) → openings_in x.e
 unfolding refused
 refused_step x past d o = ap (λ (l : List Frame). refused past d ++ l) (refuses_none past d x.answer x.event o) ∙ append-nil (refused past d)
 
--- an entry of a call, a draw or a cut
+-- an entry of a call, a draw, a cut or a moment
 pub quiet_one : (x : Entry) (past : List Entry) → ((c : ℕ) → brings past c x.event ≡ []) → ((c : ℕ) → bad_in past c x.event ≡ None) → openings_in x.event ≡ 0 → Quiet past (x ∷ past)
 unfolding openings
 quiet_one x past b d o = record { same = λ c. same_step c x past (b c) (d c); openings_are = omega (arith, o); refused_are = λ e. refused_step x past e o }
@@ -108,6 +108,11 @@ added_quiet g past c false = (quiet_not past, goes_not g past)
 pub cut_quiet : (g : Settings) (past : List Entry) (c : ℕ) (b : Bool) → Quiet past (cond b (answered g past (event.Cut c) ∷ past) past) × Goes g past (cond b (answered g past (event.Cut c) ∷ past) past)
 cut_quiet g past c true = (quiet_one (answered g past (event.Cut c)) past (λ k. refl) (λ k. refl) refl, goes_one g (answered g past (event.Cut c)) past)
 cut_quiet g past c false = (quiet_not past, goes_not g past)
+
+-- a moment
+pub tick_quiet : (g : Settings) (past : List Entry) (now : ℕ) (b : Bool) → Quiet past (cond b (answered g past (event.Tick now) ∷ past) past) × Goes g past (cond b (answered g past (event.Tick now) ∷ past) past)
+tick_quiet g past now true = (quiet_one (answered g past (event.Tick now)) past (λ k. refl) (λ k. refl) refl, goes_one g (answered g past (event.Tick now)) past)
+tick_quiet g past now false = (quiet_not past, goes_not g past)
 
 pub draw_quiet : (g : Settings) (c : ℕ) (past : List Entry) (x : Entry) (a : Answer) → IsDraw g c past x a → Quiet past (x ∷ past)
 draw_quiet g c past x a d =

@@ -1,6 +1,7 @@
 -- What moves, and what crosses to the client, as the server goes on.
 use Rattle.std.proofs.lemmas.Grind.{common_steps}
 use Rattle.std.proofs.Common.{◌≡◌, ◌≤◌, ◌+◌, ◌||◌, ℕ, Bool, true, false, List, [], ◌∷◌, ◌++◌, take, Option, Some, refl, ap, subst, sym, ◌∙◌, arith, append-nil}
+use Rattle.rs_wire.specs.Settings.{IsChecked}
 use Rattle.rs_wire.specs.declared.settings.Settings.{Settings}
 use Rattle.rs_frame.specs.declared.frame.Frame.{Frame}
 use Rattle.rs_frame.specs.Framed.{framed_all}
@@ -13,7 +14,7 @@ use Rattle.session_model.specs.Life.{openings}
 use Rattle.session_model.specs.Frames.{drawn, due}
 use Rattle.session_model.specs.Answers.{answer_to}
 use Rattle.session_model.specs.Joined.{refused}
-use Rattle.session_model.specs.Legal.{Fair, IsPlain, Legal}
+use Rattle.session_model.specs.Legal.{Fair, Legal}
 use Rattle.session_model.proofs.Openings.{drawn_later}
 use Rattle.session_model.proofs.Queue.{drawn_le}
 use Rattle.session_laws.proofs.Framing.{AreSpellable}
@@ -54,16 +55,16 @@ pub record Gives (h : Settings) (t t' : There) (S S' : List Entry) (piece : List
   pub most : bytes_down t S ≤ bytes_down t' S'
   pub gave : take (bytes_down t' S') (framed_all (frames_down h t' S')) ≡ take (bytes_down t S) (framed_all (frames_down h t S)) ++ piece
 
-pub spelled_down : (h : Settings) (t : There) (S : List Entry) → IsPlain h → Legal h S → Fair h S → AreSpellable (frames_down h t S)
-spelled_down h There.Nowhere S plain legal fair = tt
-spelled_down h (There.Accepted d) S plain legal fair = due_spelled h S d plain legal fair
-spelled_down h (There.Refused d n) S plain legal fair = refused_spelled S d
+pub spelled_down : (h : Settings) (t : There) (S : List Entry) → IsChecked h → Legal h S → Fair h S → AreSpellable (frames_down h t S)
+spelled_down h There.Nowhere S checked legal fair = tt
+spelled_down h (There.Accepted d) S checked legal fair = due_spelled h S d checked legal fair
+spelled_down h (There.Refused d n) S checked legal fair = refused_spelled S d
 
 -- what crossed to the client then
-pub gives_crosses : (g h : Settings) (c : ℕ) (t t' : There) (C S S' : List Entry) (rest rest' : Rest) (over : Bool) (piece : List ℕ) → IsPlain h → Legal h S' → Fair h S' → Gives h t t' S S' piece → rest' ≡ record rest { bytes = rest.bytes ++ piece }
+pub gives_crosses : (g h : Settings) (c : ℕ) (t t' : There) (C S S' : List Entry) (rest rest' : Rest) (over : Bool) (piece : List ℕ) → IsChecked h → Legal h S' → Fair h S' → Gives h t t' S S' piece → rest' ≡ record rest { bytes = rest.bytes ++ piece }
     → CrossedTo g c (bytes_down t S) (frames_down h t S) C rest over → CrossedTo g c (bytes_down t' S') (frames_down h t' S') C rest' over
-gives_crosses g h c t t' C S S' rest rest' over piece plain legal fair u fed x =
-    crosses_on g c (bytes_down t S) (bytes_down t' S') (frames_down h t S) (frames_down h t' S') u.more C rest rest' over piece u.frames_are u.most (spelled_down h t' S' plain legal fair) u.gave fed x
+gives_crosses g h c t t' C S S' rest rest' over piece checked legal fair u fed x =
+    crosses_on g c (bytes_down t S) (bytes_down t' S') (frames_down h t S) (frames_down h t' S') u.more C rest rest' over piece u.frames_are u.most (spelled_down h t' S' checked legal fair) u.gave fed x
 
 pub nothing_fed : (rest : Rest) → rest ≡ record rest { bytes = rest.bytes ++ [] }
 nothing_fed rest = ap (λ (l : List ℕ). record rest { bytes = l }) (sym (append-nil rest.bytes))

@@ -3,9 +3,10 @@ use Rattle.std.proofs.lemmas.Grind.{common_steps}
 use Rattle.std.proofs.Common.{◌≡◌, ◌==◌, ◌≤◌, ◌<◌, ◌+◌, ℕ, List, [], ◌∷◌, length, drop, get_or, Result, OnOk, is_err, None, false, refl, ap, subst, sym, ◌∙◌, arith}
 use Rattle.std.proofs.lemmas.List.{drop_all}
 use Rattle.rs_wire.specs.declared.words.Side.TheVariants.{Client, Server}
+use Rattle.rs_wire.specs.Settings.{IsChecked}
 use Rattle.rs_wire.specs.declared.settings.Settings.{Settings}
 use Rattle.tape.specs.declared.entry.Entry.{Entry}
-use Rattle.session_model.specs.Legal.{Fair, IsPlain, Legal}
+use Rattle.session_model.specs.Legal.{Fair, Legal}
 use Rattle.session_core.specs.Seen.{Seen}
 use Rattle.session_laws.specs.Ends.{AreEnds}
 use Rattle.cable_script.specs.declared.line.Line.{Line}
@@ -48,8 +49,8 @@ pub ok_holds : {A B : Type 0} (P : Type 0) (r : Result A B) → is_err r ≡ fal
 ok_holds P r h1 h2 = grind (arith, common_steps)
 
 -- the ends of a run
-pub plain_ends : (g h : Settings) (C S : List Entry) → g.side ≡ Client → h.side ≡ Server → IsPlain g → IsPlain h → Legal g C → Fair g C → Legal h S → Fair h S → AreEnds g h C S
-plain_ends g h C S client server cp sp cl cf sl sf = record { client = client; server = server; client_plain = cp; server_plain = sp; client_legal = cl; server_legal = sl; client_fair = cf; server_fair = sf }
+pub checked_ends : (g h : Settings) (C S : List Entry) → g.side ≡ Client → h.side ≡ Server → IsChecked g → IsChecked h → Legal g C → Fair g C → Legal h S → Fair h S → AreEnds g h C S
+checked_ends g h C S client server cc sc cl cf sl sf = record { client = client; server = server; client_checked = cc; server_checked = sc; client_legal = cl; server_legal = sl; client_fair = cf; server_fair = sf }
 
 -- the lines of the script were played
 pub run_played : (client server : Seen) (v w : Wires) (C S : Seen) (script lines : List Line) → v ≡ record { client = client; server = server; wire = None; dropped = None } → C ≡ w.client → S ≡ w.server → lines ≡ script

@@ -12,7 +12,7 @@ use Rattle.tape.specs.declared.answer.Answer.TheVariants as answer
 use Rattle.tape.specs.declared.entry.Entry.{Entry}
 use Rattle.session_model.specs.Life.{openings}
 use Rattle.session_model.specs.Frames.{came, drawn, due, first_bad}
-use Rattle.session_model.specs.Legal.{Fair, IsPlain, Legal}
+use Rattle.session_model.specs.Legal.{Fair, Legal}
 use Rattle.session_model.specs.Joined.{IsOpening}
 use Rattle.session_model.specs.Answers.{answer_to}
 use Rattle.session_model.proofs.Openings.{drawn_later}
@@ -98,13 +98,13 @@ fresh_crossed g past n here new longest checked =
     }
 
 -- what crossed to the server
-fresh_nears : (g : Settings) (past : List Entry) (n most : ℕ) (v : Seen) (w : Wire) → n ≡ openings past + 1 → w.up ≡ record { rest = record { bytes = []; max_in = most }; over = false } → IsPlain g → Legal g past → Legal g (opening_as n ∷ past) → Fair g (opening_as n ∷ past) → most ≡ v.settings.max_in → IsChecked v.settings
+fresh_nears : (g : Settings) (past : List Entry) (n most : ℕ) (v : Seen) (w : Wire) → n ≡ openings past + 1 → w.up ≡ record { rest = record { bytes = []; max_in = most }; over = false } → IsChecked g → Legal g past → Legal g (opening_as n ∷ past) → Fair g (opening_as n ∷ past) → most ≡ v.settings.max_in → IsChecked v.settings
     → Nears (drawn (opening_as n ∷ past) n) (due g (opening_as n ∷ past) n) v w.up
-fresh_nears g past n most v w new is plain before legal fair longest checked =
+fresh_nears g past n most v w new is own before legal fair longest checked =
     let C = opening_as n ∷ past in
     let none = fresh_drawn g past n before (omega (arith, new)) in
     subst (Nears (drawn C n) (due g C n) v) (sym is) (record {
-      ahead = record { longest = longest; below = omega (arith, checked.max_in.below); spellable = due_spelled g C n plain legal fair };
+      ahead = record { longest = longest; below = omega (arith, checked.max_in.below); spellable = due_spelled g C n own legal fair };
       bytes = ap (λ (k : ℕ). take k (framed_all (due g C n))) none;
       goes_on = refl;
     })
@@ -144,7 +144,7 @@ fresh_link_at v v' r u' a n most here at o l client server is =
     let after = end_on Client v.client u' o.same o.legal o.fair at.client_is in
     let legal : Legal g (opening_as n ∷ past) = subst (Legal g) C (legal_there Client v.client u' o.same after) in
     let fair : Fair g (opening_as n ∷ past) = subst (Fair g) C (fair_there Client v.client u' o.same after) in
-    let nears0 = fresh_nears g past n most v.server w new refl at.client_is.plain at.client_is.legal legal fair l.most_is l.server in
+    let nears0 = fresh_nears g past n most v.server w new refl at.client_is.checked at.client_is.legal legal fair l.most_is l.server in
     let nears1 : Nears (drawn r'.client n) (due g r'.client n) v.server w.up = subst (λ (h : List Entry). Nears (drawn h n) (due g h n) v.server w.up) (sym (client_now v r u' a at o ∙ C)) nears0 in
     let up : ServerAt g r' There.Nowhere v.server w = record { server = at.server; link = link_now v r u' a at o ∙ ap link_of is; number = omega (arith, new); knows = nears1 } in
     let crossed0 = fresh_crossed u'.settings past n here new l.here_is l.client in

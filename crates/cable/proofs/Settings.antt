@@ -7,9 +7,8 @@ use Rattle.rs_wire.specs.declared.words.Side.{Side}
 use Rattle.rs_wire.specs.declared.words.Side.TheVariants.{Client}
 use Rattle.rs_wire.specs.declared.settings.Settings.{Settings}
 use Rattle.rs_wire.specs.declared.settings.SettingFault.{SettingFault}
-use Rattle.rs_wire.specs.Settings.{IsIn, fault_of, usual}
+use Rattle.rs_wire.specs.Settings.{IsChecked, IsIn, fault_of, usual}
 use Rattle.cable_script.specs.Setting.{IsMtu, IsSetting, IsSettingLine, IsToken, is_for, put, set_by, set_by_all, settings_by}
-use Rattle.session_model.specs.Legal.{IsPlain}
 use Rattle.cable_script.specs.declared.setting.Setting.{Setting}
 use Rattle.cable_script.specs.declared.setting.SettingLine.{SettingLine}
 use Rattle.cable_script.specs.declared.setting.SettingLine.TheVariants as lines
@@ -20,9 +19,8 @@ abbrev IsTokenFor : Side → Bool → ℕ → Type 0
 IsTokenFor Client true size = IsIn 1 size MOST_TOKEN
 IsTokenFor _ _ size = size ≡ 0
 
--- each is in its range, of an end without leases
+-- each is in its range
 record IsSound (s : Settings) : Type 0 where
-  pub no_leases : s.lease ≡ false
   pub token : IsTokenFor s.side s.resume (length s.token)
   pub mtu : IsMtu s.mtu
   pub keepalive : IsIn 1 s.keepalive_ms 2147483647
@@ -44,26 +42,23 @@ no_fault s h1 = grind (arith, common_steps)
 token_size : (side : Side) (resume : Bool) (size : ℕ) → IsTokenFor side resume size → size ≤ 65535
 token_size side resume size h1 = grind (arith, common_steps)
 
-plain : (s : Settings) → IsSound s → IsPlain s
-plain s h = record {
-  checked = record {
-    no_fault = no_fault s h;
-    keepalive = h.keepalive;
-    lifetime = h.lifetime;
-    mtu = omega (arith, h.mtu.0);
-    hold = h.hold;
-    slack = h.slack;
-    max_in = h.max_in;
-    max_payload = h.max_payload;
-    max_streams = h.max_streams;
-    last_id = h.last_id;
-    top_position = h.top_position;
-    session_hold = h.session_hold;
-    token = token_size s.side s.resume (length s.token) h.token;
-    metadata_mime = h.metadata_mime;
-    content_mime = h.content_mime;
-  };
-  no_leases = h.no_leases;
+checked : (s : Settings) → IsSound s → IsChecked s
+checked s h = record {
+  no_fault = no_fault s h;
+  keepalive = h.keepalive;
+  lifetime = h.lifetime;
+  mtu = omega (arith, h.mtu.0);
+  hold = h.hold;
+  slack = h.slack;
+  max_in = h.max_in;
+  max_payload = h.max_payload;
+  max_streams = h.max_streams;
+  last_id = h.last_id;
+  top_position = h.top_position;
+  session_hold = h.session_hold;
+  token = token_size s.side s.resume (length s.token) h.token;
+  metadata_mime = h.metadata_mime;
+  content_mime = h.content_mime;
 }
 
 usual_sound : (side : Side) → IsSound (usual side)
@@ -74,6 +69,9 @@ put_sound x s h1 h2 = grind (arith, common_steps)
 
 resumed_sound : (side : Side) (token : List ℕ) (s : Settings) → s.side ≡ side → IsToken token → IsSound s → IsSound (set_by side (lines.Resume token) s)
 resumed_sound side token s h1 h2 h3 = grind (arith, common_steps)
+
+leased_sound : (side : Side) (both : Bool) (s : Settings) → IsSound s → IsSound (set_by side (lines.Lease both) s)
+leased_sound side both s h1 = grind (arith, common_steps)
 
 set_if : (b : Bool) (x : Setting) (s : Settings) → IsSetting x → IsSound s → IsSound (if b then put x s else s)
 set_if true x s ok h = put_sound x s ok h
@@ -87,10 +85,12 @@ put_side b x s = grind (arith, common_steps)
 one_sound : (side : Side) (l : SettingLine) (s : Settings) → s.side ≡ side → IsSettingLine l → IsSound s → IsSound (set_by side l s)
 one_sound side (lines.Set end x) s same ok h = set_if (is_for end side) x s ok h
 one_sound side (lines.Resume token) s same ok h = resumed_sound side token s same ok h
+one_sound side (lines.Lease both) s same ok h = leased_sound side both s h
 
 one_side : (side : Side) (l : SettingLine) (s : Settings) → (set_by side l s).side ≡ s.side
 one_side side (lines.Set end x) s = put_side (is_for end side) x s
 one_side side (lines.Resume token) s = refl
+one_side side (lines.Lease both) s = refl
 
 -- all of them
 
@@ -100,8 +100,8 @@ set_all side [] s same ok h = h
 set_all side (l ∷ lines) s same ok h = set_all side lines (set_by side l s) (one_side side l s ∙ same) ok.1 (one_sound side l s same ok.0 h)
 
 -- the settings of an end under setting lines are in their ranges
-pub settings_plain : (side : Side) (lines : List SettingLine) → AllByRecursion IsSettingLine lines → IsPlain (settings_by side lines)
-settings_plain side lines ok = plain (settings_by side lines) (set_all side lines (usual side) refl ok (usual_sound side))
+pub settings_checked : (side : Side) (lines : List SettingLine) → AllByRecursion IsSettingLine lines → IsChecked (settings_by side lines)
+settings_checked side lines ok = checked (settings_by side lines) (set_all side lines (usual side) refl ok (usual_sound side))
 
 -- ---- their side
 
@@ -129,8 +129,8 @@ all_set side lines given i s past same left =
     sym (none_left side (drop i given) s (drop_all i given past)) ∙ (left ∙ ap (λ (ls : List SettingLine). settings_by side ls) same)
 
 -- so nothing is wrong in them
-pub plain_as : (side : Side) (lines : List SettingLine) (s : Settings) → AllByRecursion IsSettingLine lines → s ≡ settings_by side lines → IsPlain s
-plain_as side lines s ok is = subst (λ (g : Settings). IsPlain g) (sym is) (settings_plain side lines ok)
+pub checked_as : (side : Side) (lines : List SettingLine) (s : Settings) → AllByRecursion IsSettingLine lines → s ≡ settings_by side lines → IsChecked s
+checked_as side lines s ok is = subst (λ (g : Settings). IsChecked g) (sym is) (settings_checked side lines ok)
 
-pub not_wrong : (s : Settings) (fault : SettingFault) → IsPlain s → fault_of s ≡ Some fault → ⊥
-not_wrong s fault h wrong = let none = h.checked.no_fault in cc
+pub not_wrong : (s : Settings) (fault : SettingFault) → IsChecked s → fault_of s ≡ Some fault → ⊥
+not_wrong s fault h wrong = let none = h.no_fault in cc

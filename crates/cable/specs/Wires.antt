@@ -1,6 +1,7 @@
 -- What the code of a cable keeps, and the two ends that it follows.
 use Rattle.std.specs.Prelude.{◌≡◌, ◌≢◌, ◌<◌, ◌≤◌, ℕ, Bool, [], ◌++◌, false, List, length, take, Option, Some, None, IfSome}
 use Rattle.rs_wire.specs.declared.words.Side.{Side}
+use Rattle.rs_wire.specs.Settings.{IsChecked}
 use Rattle.rs_wire.specs.declared.words.Side.TheVariants.{Client, Server}
 use Rattle.rs_wire.specs.declared.settings.Settings.{Settings}
 use Rattle.rs_frame.specs.declared.frame.Frame.{Frame}
@@ -9,7 +10,7 @@ use Rattle.tape.specs.declared.entry.Entry.{Entry}
 use Rattle.tape.specs.declared.answer.Answer.{Answer}
 use Rattle.tape.specs.declared.answer.Answer.TheVariants as answer
 use Rattle.session_model.specs.Frames.{drawn, due}
-use Rattle.session_model.specs.Legal.{Fair, IsPlain, Legal}
+use Rattle.session_model.specs.Legal.{Fair, Legal}
 use Rattle.session_model.specs.Joined.{IsOpening, refused}
 use Rattle.session_core.specs.Seen.{Seen}
 use Rattle.cable.specs.declared.wire.Wire.{Wire}
@@ -94,17 +95,17 @@ pub record IsLost (S : List Entry) (l : Option Link) (d : ℕ) : Type 0 where
   pub opening : IsOpening S d
   pub apart : (c : ℕ) → l ≢ Some (record { client = c; there = There.Accepted d })
 
--- an end of a plain session: its answers are right, and whoever brought the events kept their conditions
-pub record IsPlainEnd (side : Side) (v : Seen) : Type 0 where
+-- an end with settings in their ranges: its answers are right, and whoever brought the events kept their conditions
+pub record IsCheckedEnd (side : Side) (v : Seen) : Type 0 where
   pub side_is : v.settings.side ≡ side
-  pub plain : IsPlain v.settings
+  pub checked : IsChecked v.settings
   pub legal : Legal v.settings v.entries
   pub fair : Fair v.settings v.entries
 
 -- the cable follows these ends
 pub record At (v : Wires) (r : Ends) : Type 0 where
-  pub client_is : IsPlainEnd Client v.client
-  pub server_is : IsPlainEnd Server v.server
+  pub client_is : IsCheckedEnd Client v.client
+  pub server_is : IsCheckedEnd Server v.server
   pub client : r.client ≡ v.client.entries
   pub server : r.server ≡ v.server.entries
   pub wire : WireAt v.wire v r

@@ -89,6 +89,16 @@ pub(crate) fn item(alloc: Global, stream: u32, size: u32) -> Result<Call, OutOfM
     })
 }
 
+/// Time passes at an end.
+pub(crate) fn pass<T: Tape>(end: &mut Session<T>, now: u64) -> Result<(), OutOfMemory>
+    ensures end { end.new ≡ record end.old { entries = end.new.entries; spare = end.new.spare } }
+    ensures noted { OnOk result (end.new.entries ≡
+        adds end.old.settings end.old.entries (Event.Tick now)) }
+{
+    tell(end, &Event::Tick { now })?;
+    Ok(())
+}
+
 /// A connection is gone at an end.
 pub(crate) fn cut<T: Tape>(end: &mut Session<T>, conn: u64) -> Result<(), OutOfMemory>
     ensures end { end.new ≡ record end.old { entries = end.new.entries; spare = end.new.spare } }

@@ -4,11 +4,11 @@ ghost use Rattle.std.specs.Prelude.{◌≡◌, ◌<◌, ◌^◌, ◌||◌, None,
 ghost use Rattle.std.specs.List.{AllByRecursion};
 ghost use Rattle.rs_wire.specs.Calls.{CanBeAsked};
 ghost use Rattle.cable_script.specs.Line.{IsLine};
-ghost use Rattle.cable.specs.Played.{Downs, Drains, Ends, Lates, PlaysLine, PlaysLines, Round, Ups, asks, asks_often, begins, cuts, drops, nothing, opens, unless_linked};
+ghost use Rattle.cable.specs.Played.{Downs, Drains, Ends, Lates, PlaysLine, PlaysLines, Round, Ups, asks, asks_often, begins, cuts, drops, nothing, opens, ticks, unless_linked};
 ghost use Rattle.cable.specs.Wires.{At, IsAt, IsMoved, Keeps, Reaches, sides_of};
 
 use crate::MOST_ROUNDS;
-use crate::bringing::{ask, connect, cut, item};
+use crate::bringing::{ask, connect, cut, item, pass};
 use crate::carrying::{Most, carry};
 use crate::hearing::hear;
 use crate::wire::{Wire, arrive, cut_there, dropped_after, give, wire_of};
@@ -257,6 +257,20 @@ impl<T: Tape> Cable<T> {
         Ok(())
     }
 
+    // A line `tick`: a moment at the client, and then at the server.
+    fn tick(&mut self, now: u64) -> Result<(), OutOfMemory>
+        requires at { IsAt self.old }
+        ensures ends { Keeps self.old self.new }
+        ensures played { (r : Ends) → At self.old r →
+            OnOk result (Reaches self.new (λ r'. r' ≡ ticks (sides_of self.old) now r)) }
+    {
+        pass(&mut self.client, now)?;
+        self.client.legal();
+        pass(&mut self.server, now)?;
+        self.server.legal();
+        Ok(())
+    }
+
     fn line(&mut self, alloc: Global, line: &Line, buffer: &mut [u8]) -> Result<(), OutOfMemory>
         requires some { 0 < length buffer.old }
         requires few { length buffer.old < 2 ^ 32 }
@@ -290,6 +304,7 @@ impl<T: Tape> Cable<T> {
             Line::Open => self.open(alloc),
             Line::Drop => self.give_up(),
             Line::Late { most } => self.late(alloc, Most::Bytes(most.get()), buffer),
+            Line::Tick { now } => self.tick(*now),
         }
     }
 

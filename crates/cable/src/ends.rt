@@ -1,7 +1,7 @@
 //! The two ends of a run, over tapes that a shelf lends.
 
 ghost use Rattle.std.specs.Prelude.{◌≡◌, ◌+◌, ◌<◌, [], IfOk, IfSome, OnErr, OnOk};
-ghost use Rattle.session_model.specs.Legal.{IsPlain};
+ghost use Rattle.rs_wire.specs.Settings.{IsChecked};
 ghost use Rattle.cable_script.specs.Setting.{settings_by};
 ghost use Rattle.cable.specs.Shelves.{GotTapes, IsEnd};
 
@@ -14,7 +14,7 @@ use tape::Shelf;
 /// The settings of an end under this script.
 pub fn settings_of(alloc: Global, script: &Script, side: Side) -> Result<Checked, OutOfMemory>
     ensures settings { IfOk result (λ c. c ≡ settings_by side script.now.settings) }
-    ensures plain { IfOk result IsPlain }
+    ensures checked { IfOk result IsChecked }
 {
     let mut settings = Settings::usual(alloc, side)?;
     for line in script.settings() {
@@ -36,7 +36,7 @@ pub fn end<H: Shelf>(
 ) -> Result<Session<H::Tape>, OutOfMemory>
     ensures fresh { IfOk result
         (IsEnd (settings_by side script.now.settings) H.fresh []) }
-    ensures plain { IfOk result (λ s. IsPlain s.settings) }
+    ensures checked { IfOk result (λ s. IsChecked s.settings) }
     ensures back { OnOk result (H.back shelf.new ≡ H.back shelf.old) }
     ensures lent { OnOk result (H.lent shelf.new ≡ H.lent shelf.old + 1) }
     ensures err { OnErr result (H.lent shelf.new ≡ H.lent shelf.old) }
@@ -63,8 +63,8 @@ pub fn both_ends<H: Shelf>(
         IsEnd (settings_by Side.Client script.now.settings) H.fresh [] ends.0) }
     ensures server { IfOk result (λ ends.
         IsEnd (settings_by Side.Server script.now.settings) H.fresh [] ends.1) }
-    ensures plain { IfOk result (λ ends.
-        IsPlain ends.0.settings × IsPlain ends.1.settings) }
+    ensures checked { IfOk result (λ ends.
+        IsChecked ends.0.settings × IsChecked ends.1.settings) }
     ensures back { OnOk result (H.back shelf.new ≡ H.back shelf.old) }
     ensures lent { OnOk result (H.lent shelf.new ≡ H.lent shelf.old + 2) }
     ensures err { OnErr result (H.lent shelf.new ≡ H.lent shelf.old) }

@@ -1,11 +1,12 @@
 //! The run of a script.
 
 ghost use Rattle.std.specs.Prelude.{◌≡◌, ℕ, [], List, false};
+ghost use Rattle.rs_wire.specs.Settings.{IsChecked};
 ghost use Rattle.rs_wire.specs.declared.words.Side.TheVariants.{Client, Server};
 ghost use Rattle.session_model.specs.Lists.{IsPrefix};
 ghost use Rattle.session_model.specs.Frames.{handled, made};
 ghost use Rattle.session_model.specs.Joined.{Joined};
-ghost use Rattle.session_model.specs.Legal.{Fair, IsPlain, Legal};
+ghost use Rattle.session_model.specs.Legal.{Fair, Legal};
 ghost use Rattle.cable.specs.Played.{Played, pair_of};
 
 use crate::cable::Cable;
@@ -26,9 +27,8 @@ pub struct Ran<T: Tape> {
     pub want: bool,
 }
 
-/// Runs a script between a client and a server of which nothing happened yet, both without
-/// leases. The client opens the connection before the first line; every caller is
-/// number 0.
+/// Runs a script between a client and a server of which nothing happened yet. The client opens the
+/// connection before the first line; every caller is number 0.
 ///
 /// Where `want` is false, the script was played to its end.
 pub fn scheduled<T: Tape>(
@@ -39,8 +39,8 @@ pub fn scheduled<T: Tape>(
 ) -> Ran<T>
     requires client_side { client.settings.side ≡ Client }
     requires server_side { server.settings.side ≡ Server }
-    requires client_plain { IsPlain client.settings }
-    requires server_plain { IsPlain server.settings }
+    requires client_checked { IsChecked client.settings }
+    requires server_checked { IsChecked server.settings }
     requires client_fresh { client.entries ≡ [] }
     requires server_fresh { server.entries ≡ [] }
     ensures played { result.want ≡ false →

@@ -109,6 +109,13 @@ one_call (call.Grant s a) (call.Grant t b) h g e =
     cc
 one_call (call.Cancel s) (call.Cancel t) h g e = ap call.Cancel (one_amount s t h g cc)
 one_call (call.Fail s a x) (call.Fail t b y) h g e = one_fail s t a b x y h g e
+one_call (call.Push x) (call.Push y) h g e = ap call.Push (one_part x y h g cc)
+one_call (call.Lease t a m) (call.Lease u b n) h g e =
+    let ttls = same_amounts t u (decimal a) (decimal b) h.0 g.0 cc in
+    let counts = one_amount a b h.1 g.1 ttls.1 in
+    let p : t ≡ u = ttls.0 in
+    let q : m ≡ n = h.2 ∙ sym g.2 in
+    cc
 one_call (call.Take s) (call.Take t) h g e = ap call.Take (one_amount s t h g cc)
 one_call c d h g e = grind (arith, common_steps)
 

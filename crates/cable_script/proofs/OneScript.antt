@@ -1,6 +1,6 @@
 -- A text is that of one script, and no line of a script is wrong.
 use Rattle.std.proofs.lemmas.Grind.{common_steps}
-use Rattle.std.proofs.Common.{◌<◌, length, ⊎_elim, ◌≡◌, ℕ, List, [], ◌∷◌, ◌++◌, map, not, Option, Some, None, refl, ap, sym, ◌∙◌, append_assoc, arith}
+use Rattle.std.proofs.Common.{◌<◌, length, ⊎_elim, ◌≡◌, ℕ, Bool, List, [], ◌∷◌, ◌++◌, map, not, Option, Some, None, refl, ap, sym, ◌∙◌, append_assoc, arith}
 use Rattle.std.proofs.lemmas.Bool.{cases_lt}
 use Rattle.std.specs.List.{AllByRecursion}
 use Rattle.std.proofs.lemmas.List.{append_cancel_left}
@@ -39,6 +39,9 @@ one_end (Some s) (Some t) x y e =
     let same = same_end s t (setting_words x) (setting_words y) (sym (append_assoc (side_word s) (32 ∷ []) (setting_words x)) ∙ (e ∙ append_assoc (side_word t) (32 ∷ []) (setting_words y))) in
     (ap Some same.0, same.1)
 
+one_lease : (b c : Bool) → setting_text (settings.Lease b) ≡ setting_text (settings.Lease c) → b ≡ c
+one_lease b c e = grind (arith, common_steps)
+
 one_setting_line : (a b : SettingLine) → IsSettingLine a → IsSettingLine b → setting_text a ≡ setting_text b → a ≡ b
 one_setting_line (settings.Set s x) (settings.Set t y) h k e =
     let rest : end_words s ++ setting_words x ≡ end_words t ++ setting_words y = cc in
@@ -46,9 +49,9 @@ one_setting_line (settings.Set s x) (settings.Set t y) h k e =
     let ends : s ≡ t = same.0 in
     let set : x ≡ y = one_setting x y h k same.1 in
     cc
-one_setting_line (settings.Set s x) (settings.Resume w) h k e = absurd (grind (arith, common_steps))
-one_setting_line (settings.Resume v) (settings.Set t y) h k e = absurd (grind (arith, common_steps))
 one_setting_line (settings.Resume v) (settings.Resume w) h k e = ap settings.Resume (append_cancel_left (codes "resume ") v w e)
+one_setting_line (settings.Lease b) (settings.Lease c) h k e = ap settings.Lease (one_lease b c e)
+one_setting_line a b h k e = absurd (grind (arith, common_steps))
 
 -- ---- one script
 

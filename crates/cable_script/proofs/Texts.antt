@@ -7,7 +7,7 @@ use Rattle.rs_wire.specs.declared.message.Message.{Message}
 use Rattle.rs_wire.specs.declared.words.Side.{Side}
 use Rattle.rs_wire.specs.declared.words.Side.TheVariants as sides
 use Rattle.rs_wire.specs.declared.call.Call.{Call}
-use Rattle.cable_script.specs.declared.TheConstants.{MOST_ITEM}
+use Rattle.cable_script.specs.declared.TheConstants.{LAST_TICK, MOST_ITEM}
 use Rattle.cable_script.specs.declared.line.Line.{Line}
 use Rattle.cable_script.specs.declared.line.Line.TheVariants as lines
 use Rattle.cable_script.specs.declared.words.payload.Payload.{Payload}
@@ -76,29 +76,33 @@ part_again word bytes right is = ap is_part is ∙ hex_again 45 bytes right
 abbrev pub NotAt : Side → List ℕ → Type 0
 NotAt side text = ((c : Call) → IsSayable c → ¬ (text ≡ text_of (lines.Ask side c))) × ((a n m : ℕ) → IsAmount a → IsAmount n → m ≤ MOST_ITEM → ¬ (text ≡ text_of (lines.Many side a n m)))
 
--- it is that of no line that carries, and of none of one word
+-- it is that of no line that carries, that tells a moment, or that has one word
 abbrev pub NotCarrying : List ℕ → Type 0
 NotCarrying text = ((n : ℕ) → IsAmount n → ¬ (text ≡ text_of (lines.Up n))) × ((n : ℕ) → IsAmount n → ¬ (text ≡ text_of (lines.Down n))) × ((n : ℕ) → IsAmount n → ¬ (text ≡ text_of (lines.Late n)))
+
+abbrev pub NotTick : List ℕ → Type 0
+NotTick text = (n : ℕ) → n ≤ LAST_TICK → ¬ (text ≡ text_of (lines.Tick n))
 
 abbrev pub NotSingle : List ℕ → Type 0
 NotSingle text = (¬ (text ≡ text_of lines.Drain)) × (¬ (text ≡ text_of lines.Cut)) × (¬ (text ≡ text_of lines.Open)) × (¬ (text ≡ text_of lines.Drop))
 
-not_line : (text : List ℕ) → NotAt sides.Client text → NotAt sides.Server text → NotCarrying text → NotSingle text → (l : Line) → IsLine l → ¬ (text ≡ text_of l)
-not_line text client server carrying single (lines.Ask sides.Client c) h = client.0 c h
-not_line text client server carrying single (lines.Ask sides.Server c) h = server.0 c h
-not_line text client server carrying single (lines.Many sides.Client a n m) h = client.1 a n m h.0 h.1 h.2
-not_line text client server carrying single (lines.Many sides.Server a n m) h = server.1 a n m h.0 h.1 h.2
-not_line text client server carrying single (lines.Up n) h = carrying.0 n h
-not_line text client server carrying single (lines.Down n) h = carrying.1 n h
-not_line text client server carrying single lines.Drain h = single.0
-not_line text client server carrying single lines.Cut h = single.1
-not_line text client server carrying single lines.Open h = single.2
-not_line text client server carrying single lines.Drop h = single.3
-not_line text client server carrying single (lines.Late n) h = carrying.2 n h
+not_line : (text : List ℕ) → NotAt sides.Client text → NotAt sides.Server text → NotCarrying text → NotTick text → NotSingle text → (l : Line) → IsLine l → ¬ (text ≡ text_of l)
+not_line text client server carrying tick single (lines.Ask sides.Client c) h = client.0 c h
+not_line text client server carrying tick single (lines.Ask sides.Server c) h = server.0 c h
+not_line text client server carrying tick single (lines.Many sides.Client a n m) h = client.1 a n m h.0 h.1 h.2
+not_line text client server carrying tick single (lines.Many sides.Server a n m) h = server.1 a n m h.0 h.1 h.2
+not_line text client server carrying tick single (lines.Up n) h = carrying.0 n h
+not_line text client server carrying tick single (lines.Down n) h = carrying.1 n h
+not_line text client server carrying tick single lines.Drain h = single.0
+not_line text client server carrying tick single lines.Cut h = single.1
+not_line text client server carrying tick single lines.Open h = single.2
+not_line text client server carrying tick single lines.Drop h = single.3
+not_line text client server carrying tick single (lines.Late n) h = carrying.2 n h
+not_line text client server carrying tick single (lines.Tick n) h = tick n h
 
 -- a text of no line
-pub no_line : {A : Type 0} (text : List ℕ) (r : Option A) → NotAt sides.Client text → NotAt sides.Server text → NotCarrying text → IfNone r (NotSingle text) → IfNone r ((l : Line) → IsLine l → ¬ (text ≡ text_of l))
-no_line text r client server carrying single = still_none (NotSingle text) ((l : Line) → IsLine l → ¬ (text ≡ text_of l)) r (not_line text client server carrying) single
+pub no_line : {A : Type 0} (text : List ℕ) (r : Option A) → NotAt sides.Client text → NotAt sides.Server text → NotCarrying text → NotTick text → IfNone r (NotSingle text) → IfNone r ((l : Line) → IsLine l → ¬ (text ≡ text_of l))
+no_line text r client server carrying tick single = still_none (NotSingle text) ((l : Line) → IsLine l → ¬ (text ≡ text_of l)) r (not_line text client server carrying tick) single
 
 -- the words of a line say that its text is one
 pub line_of_words : (w : Words) → AreRight w → (l : Line) × (text_of_words w ≡ text_of l) × IsLine l

@@ -6,7 +6,7 @@ use Rattle.rs_wire.specs.Calls.{CompleteFits, is_stream_code, is_streamed}
 use Rattle.rs_wire.specs.declared.call.Call.{Call}
 use Rattle.rs_wire.specs.declared.call.Call.TheVariants as call
 use Rattle.rs_wire.specs.declared.message.Message.{Message}
-use Rattle.cable_script.specs.declared.TheConstants.{MOST_ITEM}
+use Rattle.cable_script.specs.declared.TheConstants.{LAST_TICK, MOST_ITEM}
 use Rattle.cable_script.specs.declared.line.Line.{Line}
 use Rattle.cable_script.specs.declared.line.Line.TheVariants as lines
 use Rattle.cable_script.specs.Spoken.{kind_word, last_text, next_word, numbered, side_word}
@@ -38,6 +38,8 @@ call_words (call.Done stream) = numbered (codes "done") stream
 call_words (call.Grant stream n) = numbered (numbered (codes "grant") stream) n
 call_words (call.Cancel stream) = numbered (codes "cancel") stream
 call_words (call.Fail stream code content) = numbered (numbered (codes "fail") stream) code ++ (32 ∷ part_text content)
+call_words (call.Push metadata) = codes "push " ++ part_text metadata
+call_words (call.Lease ttl count metadata) = numbered (numbered (codes "lease") ttl) count
 call_words (call.Take stream) = numbered (codes "take") stream
 call_words call.TakeJob = codes "job"
 call_words call.Close = codes "close"
@@ -56,6 +58,7 @@ text_of lines.Cut = codes "cut"
 text_of lines.Open = codes "open"
 text_of lines.Drop = codes "drop"
 text_of (lines.Late most) = codes "late " ++ decimal most
+text_of (lines.Tick now) = codes "tick " ++ decimal now
 
 -- ---- what a line can say
 
@@ -76,6 +79,8 @@ IsSayable (call.Done stream) = IsAmount stream
 IsSayable (call.Grant stream n) = IsAmount stream × IsAmount n
 IsSayable (call.Cancel stream) = IsAmount stream
 IsSayable (call.Fail stream code content) = IsAmount stream × (is_stream_code code ≡ true) × IsBytes content
+IsSayable (call.Push metadata) = IsBytes metadata
+IsSayable (call.Lease ttl count metadata) = IsAmount ttl × IsAmount count × (metadata ≡ None)
 IsSayable (call.Take stream) = IsAmount stream
 IsSayable call.TakeJob = Unit {0}
 IsSayable call.Close = Unit {0}
@@ -90,3 +95,4 @@ IsLine lines.Cut = Unit {0}
 IsLine lines.Open = Unit {0}
 IsLine lines.Drop = Unit {0}
 IsLine (lines.Late most) = IsAmount most
+IsLine (lines.Tick now) = now ≤ LAST_TICK

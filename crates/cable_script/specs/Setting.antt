@@ -35,6 +35,8 @@ end_words (Some side) = side_word side ++ 32 ∷ []
 abbrev pub setting_text : SettingLine → List ℕ
 setting_text (lines.Set side x) = codes "set " ++ (end_words side ++ setting_words x)
 setting_text (lines.Resume token) = codes "resume " ++ token
+setting_text (lines.Lease true) = codes "lease"
+setting_text (lines.Lease false) = codes "lease client"
 
 -- no limit, or the bytes of a frame that has room for more than its header
 abbrev pub IsMtu : ℕ → Type 0
@@ -61,6 +63,7 @@ pub record IsToken (token : List ℕ) : Type 0 where
 abbrev pub IsSettingLine : SettingLine → Type 0
 IsSettingLine (lines.Set side x) = IsSetting x
 IsSettingLine (lines.Resume token) = IsToken token
+IsSettingLine (lines.Lease both) = Unit {0}
 
 -- ---- the settings that they make
 
@@ -89,10 +92,16 @@ abbrev pub token_at : Side → List ℕ → List ℕ → List ℕ
 token_at Client token own = token
 token_at Server token own = own
 
+-- an end takes part in leases, where both ends do or the client alone
+abbrev pub leases : Bool → Side → Bool
+leases both Client = true
+leases both Server = both
+
 -- the settings of an end after a line
 abbrev pub set_by : Side → SettingLine → Settings → Settings
 set_by side (lines.Set end x) s = if is_for end side then put x s else s
 set_by side (lines.Resume token) s = record s { resume = true; token = token_at side token s.token }
+set_by side (lines.Lease both) s = record s { lease = leases both side }
 
 -- the settings of an end after these lines, one after the other, so that a later one replaces an earlier
 unfoldable pub set_by_all : Side → List SettingLine → Settings → Settings

@@ -40,6 +40,8 @@ call_of (asked.Done stream) = call.Done stream
 call_of (asked.Grant stream n) = call.Grant stream n
 call_of (asked.Cancel stream) = call.Cancel stream
 call_of (asked.Fail stream code content) = call.Fail stream code (bytes_of content.now)
+call_of (asked.Push metadata) = call.Push (bytes_of metadata.now)
+call_of (asked.Lease ttl count) = call.Lease ttl count None
 call_of (asked.Take stream) = call.Take stream
 call_of asked.TakeJob = call.TakeJob
 call_of asked.Close = call.Close
@@ -54,6 +56,7 @@ line_of words.Cut = line.Cut
 line_of words.Open = line.Open
 line_of words.Drop = line.Drop
 line_of (words.Late most) = line.Late most
+line_of (words.Tick now) = line.Tick now
 
 abbrev pub text_of_words : Words → List ℕ
 text_of_words w = text_of (line_of w)
@@ -61,6 +64,7 @@ text_of_words w = text_of (line_of w)
 abbrev pub setting_line_of : SettingWords → SettingLine
 setting_line_of (setting_words.Set side x) = setting.Set side x
 setting_line_of (setting_words.Resume token) = setting.Resume token.now
+setting_line_of (setting_words.Lease both) = setting.Lease both
 
 -- ---- their parts are spelled right
 
@@ -75,6 +79,7 @@ abbrev pub IsWellSpelled : Asked → Type 0
 IsWellSpelled (asked.Request kind initial payload complete) = IsTrue (are_parts payload)
 IsWellSpelled (asked.Next stream payload complete) = IsTrue (are_parts payload)
 IsWellSpelled (asked.Fail stream code content) = IsTrue (is_part content.now)
+IsWellSpelled (asked.Push metadata) = IsTrue (is_part metadata.now)
 IsWellSpelled _ = Unit {0}
 
 abbrev pub AreWellSpelled : Words → Type 0

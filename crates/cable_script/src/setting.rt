@@ -1,7 +1,7 @@
 //! The setting lines of a script.
 
 ghost use Rattle.std.specs.Prelude.{◌≡◌, OnErr, OnOk, true};
-ghost use Rattle.cable_script.specs.Setting.{is_for, put, set_by};
+ghost use Rattle.cable_script.specs.Setting.{is_for, leases, put, set_by};
 
 use rs_wire::{Blob, OutOfMemory, Settings, Side};
 use std::alloc::Global;
@@ -50,6 +50,11 @@ pub enum SettingLine {
         /// TOKEN: 1 to [`MOST_TOKEN`](crate::MOST_TOKEN) bytes, each from `!` (0x21) to `~` (0x7e).
         token: Blob,
     },
+    /// `lease`: both ends take part in leases; or `lease client`: the client alone does.
+    Lease {
+        /// Whether the server does, too.
+        both: bool,
+    },
 }
 
 impl Setting {
@@ -78,6 +83,16 @@ fn is_for(end: Option<Side>, side: Side) -> bool
     match end {
         Some(one) => one == side,
         None => true,
+    }
+}
+
+// Whether this end takes part in leases, where both ends do or the client alone.
+fn leases(both: bool, side: Side) -> bool
+    ensures { result ≡ leases both side }
+{
+    match side {
+        Side::Client => true,
+        Side::Server => both,
     }
 }
 
@@ -118,6 +133,10 @@ impl SettingLine {
                 Ok(())
             }
             SettingLine::Resume { token } => resume(alloc, token, side, settings),
+            SettingLine::Lease { both } => {
+                settings.lease = leases(*both, side);
+                Ok(())
+            }
         }
     }
 }

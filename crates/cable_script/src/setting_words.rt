@@ -1,6 +1,6 @@
 //! The words of a setting line.
 
-ghost use Rattle.std.specs.Prelude.{◌≡◌, ◌++◌, ◌∷◌, ℕ, List, Option, codes, IfNone, IfOk, IfSome, IsTrue, decimal};
+ghost use Rattle.std.specs.Prelude.{◌≡◌, ◌++◌, ◌∷◌, ℕ, Bool, List, Option, codes, IfNone, IfOk, IfSome, IsTrue, decimal};
 ghost use Rattle.std.specs.Char.{is_ascii_graphic};
 ghost use Rattle.std.specs.List.{list_all};
 ghost use Rattle.rs_wire.specs.Settings.{IsIn};
@@ -23,6 +23,9 @@ pub(crate) enum SettingWords<'a> {
         setting: Setting,
     },
     Resume(&'a [u8]),
+    Lease {
+        both: bool,
+    },
 }
 
 impl SettingWords<'_> {
@@ -38,6 +41,7 @@ impl SettingWords<'_> {
             SettingWords::Resume(token) => Ok(SettingLine::Resume {
                 token: Blob::from_slice(alloc, token)?,
             }),
+            SettingWords::Lease { both } => Ok(SettingLine::Lease { both: *both }),
         }
     }
 }
@@ -153,6 +157,22 @@ fn resume_words(text: &[u8]) -> Option<SettingWords<'_>>
     None
 }
 
+// `lease` or `lease client`.
+fn lease_words(text: &[u8]) -> Option<SettingWords<'_>>
+    ensures some { IfSome result (λ w. (text.now ≡ setting_text (setting_line_of w)) ×
+        IsSettingLine (setting_line_of w)) }
+    ensures none { IfNone result ((both : Bool) →
+        ¬ (text.now ≡ setting_text (SettingLine.Lease both))) }
+{
+    if text == b"lease".as_slice() {
+        return Some(SettingWords::Lease { both: true });
+    }
+    if text == b"lease client".as_slice() {
+        return Some(SettingWords::Lease { both: false });
+    }
+    None
+}
+
 /// The words of a setting line. `None` exactly where the text is that of none.
 pub(crate) fn setting_words_of(text: &[u8]) -> Option<SettingWords<'_>>
     ensures some { IfSome result (λ w. (text.now ≡ setting_text (setting_line_of w)) ×
@@ -162,5 +182,8 @@ pub(crate) fn setting_words_of(text: &[u8]) -> Option<SettingWords<'_>>
     if let Some(words) = set_words(text) {
         return Some(words);
     }
-    resume_words(text)
+    if let Some(words) = resume_words(text) {
+        return Some(words);
+    }
+    lease_words(text)
 }

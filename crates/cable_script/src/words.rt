@@ -2,7 +2,7 @@
 
 ghost use Rattle.std.specs.Prelude.{◌≡◌, ◌≤◌, ◌++◌, ◌∷◌, ℕ, List, codes, IfNone, IfOk, IfSome, decimal};
 ghost use Rattle.rs_wire.specs.declared.call.Call.{Call as Meant};
-ghost use Rattle.cable_script.specs.declared.TheConstants.{MOST_ITEM};
+ghost use Rattle.cable_script.specs.declared.TheConstants.{LAST_TICK, MOST_ITEM};
 ghost use Rattle.cable_script.specs.declared.line.Line.{Line as Played};
 ghost use Rattle.cable_script.specs.Spoken.{numbered, side_word};
 ghost use Rattle.cable_script.specs.Line.{IsAmount, IsLine, IsSayable, call_words, many_words, text_of};
@@ -15,13 +15,13 @@ mod forms;
 mod payload;
 mod requests;
 
-use crate::MOST_ITEM;
 use crate::line::Line;
 use crate::spoken::side_word as side_text;
 use crate::words::asked::Asked;
 use crate::words::calls::asked_of;
 use crate::words::cuts::{after, amount_and};
 use crate::words::forms::{amount_after, amount_and_after};
+use crate::{LAST_TICK, MOST_ITEM};
 use plain_text::read_number;
 use rs_wire::{Amount, OutOfMemory, Side};
 use std::alloc::Global;
@@ -43,6 +43,7 @@ pub(crate) enum Words<'a> {
     Open,
     Drop,
     Late(Amount),
+    Tick(u64),
 }
 
 impl Words<'_> {
@@ -74,6 +75,7 @@ impl Words<'_> {
             Words::Open => Ok(Line::Open),
             Words::Drop => Ok(Line::Drop),
             Words::Late(most) => Ok(Line::Late { most: *most }),
+            Words::Tick(now) => Ok(Line::Tick { now: *now }),
         }
     }
 }
@@ -172,6 +174,19 @@ fn carrying_of(line: &[u8]) -> Option<Words<'_>>
     }
 }
 
+// `tick T`.
+fn tick_of(line: &[u8]) -> Option<Words<'_>>
+    ensures some { IfSome result (λ w. (line.now ≡ text_of_words w) × AreRight w) }
+    ensures none { IfNone result ((n : ℕ) → n ≤ LAST_TICK →
+        ¬ (line.now ≡ text_of (Line.Tick n))) }
+{
+    let word = after(line, "tick")?;
+    match read_number(word, 0, LAST_TICK) {
+        Some(now) => Some(Words::Tick(now)),
+        None => None,
+    }
+}
+
 // A line of one word.
 fn single_word_of(line: &[u8]) -> Option<Words<'_>>
     ensures some { IfSome result (λ w. (line.now ≡ text_of_words w) × AreRight w) }
@@ -206,6 +221,9 @@ pub(crate) fn words_of(line: &[u8]) -> Option<Words<'_>>
         return Some(words);
     }
     if let Some(words) = carrying_of(line) {
+        return Some(words);
+    }
+    if let Some(words) = tick_of(line) {
         return Some(words);
     }
     single_word_of(line)

@@ -23,6 +23,8 @@ mod fragment_tests;
 #[cfg(test)]
 mod frames_tests;
 #[cfg(test)]
+mod moments_tests;
+#[cfg(test)]
 mod order_tests;
 #[cfg(test)]
 mod resume_tests;

@@ -82,6 +82,8 @@ fn put_call(out: &mut Vec<u8>, call: &Call) -> Result<(), OutOfMemory>
             put_two(out, "fail", *stream, u64::from(*code))?;
             write_number_word(out, content.len() as u64)
         }
+        Call::Push { metadata } => put_numbered(out, "push", metadata.len() as u64),
+        Call::Lease { ttl, count, .. } => put_two(out, "lease", ttl.get(), u64::from(count.get())),
         Call::Take { stream } => put_numbered(out, "take", u64::from(*stream)),
         Call::TakeJob => write_text(out, "job"),
         Call::Close => write_text(out, "close"),
@@ -109,6 +111,7 @@ pub fn put_event(out: &mut Vec<u8>, event: &Event) -> Result<(), OutOfMemory>
             put_frame(out, frame)
         }
         Event::Bad { rule, .. } => put_numbered(out, "bad", u64::from(*rule)),
+        Event::Tick { now } => put_numbered(out, "tick", *now),
         Event::Asked(call) => put_call(out, call),
     }
 }

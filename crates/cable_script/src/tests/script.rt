@@ -2,7 +2,7 @@ use super::{Row, fault, is_read_so};
 use crate::ScriptFault;
 use std::test::Fail;
 
-const READ: [Row; 11] = [
+const READ: [Row; 12] = [
     Row {
         shows: "each line has one text",
         text: b"client fnf 68ff\nserver fnf -:00\nserver close\nup 2147483647\ndown 1\ndrain\ncut",
@@ -64,6 +64,18 @@ Late { most: Amount { number: 2147483647 } }
 ",
     },
     Row {
+        shows: "moments, metadata and leases have one text",
+        text: b"tick 0\ntick 4611686018427387904\nclient push -\nserver push 61ff\nserver lease 1000 1\nclient lease 2147483647 2147483647",
+        read: "\
+Tick { now: 0 }
+Tick { now: 4611686018427387904 }
+Ask { side: Client, call: Push { metadata: Blob { bytes: [] } } }
+Ask { side: Server, call: Push { metadata: Blob { bytes: [97, 255] } } }
+Ask { side: Server, call: Lease { ttl: Amount { number: 1000 }, count: Amount { number: 1 }, metadata: None } }
+Ask { side: Client, call: Lease { ttl: Amount { number: 2147483647 }, count: Amount { number: 2147483647 }, metadata: None } }
+",
+    },
+    Row {
         shows: "no text has no lines",
         text: b"",
         read: "",
@@ -99,7 +111,7 @@ fn each_script_is_read_so(rt: HostRuntime) -> Result<(), Fail> {
 }
 
 /// Texts of which the first line is wrong.
-const WRONG: [&[u8]; 68] = [
+const WRONG: [&[u8]; 98] = [
     b"up 0",
     b"up 01",
     b"up +1",
@@ -169,6 +181,39 @@ const WRONG: [&[u8]; 68] = [
     b"client many 1 1 1 61",
     b"many 1 1 1",
     b"job",
+    // Moments.
+    b"tick",
+    b"tick ",
+    b"tick -1",
+    b"tick +1",
+    b"tick 00",
+    b"tick 01",
+    b"tick 1 ",
+    b"tick  1",
+    b"tick 1 2",
+    b"tick 4611686018427387905",
+    b"tick 18446744073709551616",
+    b"ticks 1",
+    b"tick1",
+    b"client tick 1",
+    // Metadata for the connection.
+    b"client push",
+    b"client push ",
+    b"client push 6",
+    b"client push 6F",
+    b"client push 61:62",
+    b"client push 61 ",
+    b"client push 1 61",
+    b"push 61",
+    // Leases.
+    b"server lease",
+    b"server lease 1",
+    b"server lease 1 ",
+    b"server lease 0 1",
+    b"server lease 1 0",
+    b"server lease 2147483648 1",
+    b"server lease 1 1 -",
+    b"lease 1 1",
 ];
 
 #[test]
@@ -185,13 +230,15 @@ fn the_first_wrong_line_is_told(rt: HostRuntime) {
 }
 
 /// Texts with the last numbers that are right.
-const RIGHT: [&[u8]; 6] = [
+const RIGHT: [&[u8]; 8] = [
     b"client fail 1 513 -",
     b"client fail 1 516 -",
     b"client fail 1 769 -",
     b"client many 1 2147483647 0",
     b"client grant 2147483647 2147483647",
     b"client fail 2147483647 4294967294 -",
+    b"server lease 2147483647 1",
+    b"tick 4611686018427387904",
 ];
 
 #[test]

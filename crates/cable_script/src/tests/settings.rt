@@ -4,7 +4,7 @@ use rs_wire::{Settings, Side};
 use std::alloc::Global;
 use std::test::Fail;
 
-const READ: [Row; 2] = [
+const READ: [Row; 3] = [
     Row {
         shows: "setting lines are read in their order",
         text: b"set hold 0\n\n# up 1\nset client maxin 64\nset server streams 65536\nup 1",
@@ -25,6 +25,15 @@ Resume { token: Blob { bytes: [35] } }
 Open
 ",
     },
+    Row {
+        shows: "leases are of both ends, or of the client",
+        text: b"lease\nlease client\ntick 0",
+        read: "\
+Lease { both: true }
+Lease { both: false }
+Tick { now: 0 }
+",
+    },
 ];
 
 #[test]
@@ -35,7 +44,7 @@ fn setting_lines_are_read_in_their_order(rt: HostRuntime) -> Result<(), Fail> {
     Ok(())
 }
 
-/// Setting lines, and what they make of three settings of an end.
+/// Setting lines, and what they make of four settings of an end.
 #[derive(Clone, Copy)]
 struct Made {
     /// What the row shows.
@@ -43,16 +52,18 @@ struct Made {
     text: &'static [u8],
     side: Side,
     resume: bool,
+    lease: bool,
     token: &'static [u8],
     hold: u64,
 }
 
-const MADE: [Made; 5] = [
+const MADE: [Made; 10] = [
     Made {
         shows: "without a line an end does not resume",
         text: b"",
         side: Side::Client,
         resume: false,
+        lease: false,
         token: b"",
         hold: 1_048_576,
     },
@@ -61,6 +72,7 @@ const MADE: [Made; 5] = [
         text: b"set hold 10\nresume tok1",
         side: Side::Client,
         resume: true,
+        lease: false,
         token: b"tok1",
         hold: 10,
     },
@@ -69,6 +81,7 @@ const MADE: [Made; 5] = [
         text: b"resume tok1\nset hold 10",
         side: Side::Server,
         resume: true,
+        lease: false,
         token: b"",
         hold: 10,
     },
@@ -77,6 +90,7 @@ const MADE: [Made; 5] = [
         text: b"resume tok1\nresume t2",
         side: Side::Client,
         resume: true,
+        lease: false,
         token: b"t2",
         hold: 1_048_576,
     },
@@ -85,6 +99,52 @@ const MADE: [Made; 5] = [
         text: b"set server hold 1",
         side: Side::Client,
         resume: false,
+        lease: false,
+        token: b"",
+        hold: 1_048_576,
+    },
+    Made {
+        shows: "a client takes part in leases",
+        text: b"lease\nset hold 10",
+        side: Side::Client,
+        resume: false,
+        lease: true,
+        token: b"",
+        hold: 10,
+    },
+    Made {
+        shows: "a server takes part in leases",
+        text: b"lease",
+        side: Side::Server,
+        resume: false,
+        lease: true,
+        token: b"",
+        hold: 1_048_576,
+    },
+    Made {
+        shows: "a client takes part in leases alone",
+        text: b"lease client",
+        side: Side::Client,
+        resume: false,
+        lease: true,
+        token: b"",
+        hold: 1_048_576,
+    },
+    Made {
+        shows: "a server takes no part where the client does alone, after a line for both",
+        text: b"lease\nlease client",
+        side: Side::Server,
+        resume: false,
+        lease: false,
+        token: b"",
+        hold: 1_048_576,
+    },
+    Made {
+        shows: "a server takes part after a later line for both",
+        text: b"lease client\nresume tok1\nlease",
+        side: Side::Server,
+        resume: true,
+        lease: true,
         token: b"",
         hold: 1_048_576,
     },
@@ -100,6 +160,7 @@ fn is_made_so(alloc: Global, row: &Made) -> Result<bool, Fail> {
     }
     Ok(
         settings.resume == row.resume
+            && settings.lease == row.lease
             && settings.token.as_slice() == row.token
             && settings.hold == row.hold,
     )
@@ -114,7 +175,7 @@ fn setting_lines_make_such_settings(rt: HostRuntime) -> Result<(), Fail> {
 }
 
 /// Texts, and the wrong line of each, where there is one.
-const FAULTS: [(&[u8], Option<ScriptFault>); 61] = [
+const FAULTS: [(&[u8], Option<ScriptFault>); 74] = [
     // The edges of ranges.
     (b"set keepalive 1", None),
     (b"set keepalive 2147483647", None),
@@ -180,7 +241,21 @@ const FAULTS: [(&[u8], Option<ScriptFault>); 61] = [
     (b"set resume t", Some(ScriptFault::Line(1))),
     (b"client resume t", Some(ScriptFault::Line(1))),
     (b"resume t\nresume", Some(ScriptFault::Line(2))),
+    // Leases.
+    (b"lease ", Some(ScriptFault::Line(1))),
+    (b"lease  client", Some(ScriptFault::Line(1))),
+    (b"lease client ", Some(ScriptFault::Line(1))),
+    (b"lease server", Some(ScriptFault::Line(1))),
+    (b"lease clients", Some(ScriptFault::Line(1))),
+    (b"lease client server", Some(ScriptFault::Line(1))),
+    (b"leases", Some(ScriptFault::Line(1))),
+    (b" lease", Some(ScriptFault::Line(1))),
+    (b"set lease 1", Some(ScriptFault::Line(1))),
+    (b"lease\r\n", Some(ScriptFault::Line(1))),
+    (b"lease\nlease 1", Some(ScriptFault::Line(2))),
     // Setting lines after an action line.
+    (b"tick 0\nlease", Some(ScriptFault::Line(2))),
+    (b"client push -\nlease client", Some(ScriptFault::Line(2))),
     (b"up 1\nresume t", Some(ScriptFault::Line(2))),
     (b"open\nresume t", Some(ScriptFault::Line(2))),
     (b"up 1\nset hold 1", Some(ScriptFault::Line(2))),

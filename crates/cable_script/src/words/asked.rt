@@ -36,6 +36,13 @@ pub(crate) enum Asked<'a> {
         code: u32,
         content: &'a [u8],
     },
+    Push {
+        metadata: &'a [u8],
+    },
+    Lease {
+        ttl: Amount,
+        count: Amount,
+    },
     Take {
         stream: u32,
     },
@@ -84,6 +91,14 @@ impl Asked<'_> {
                 stream: *stream,
                 code: *code,
                 content: bytes(alloc, content)?,
+            },
+            Asked::Push { metadata } => Call::Push {
+                metadata: bytes(alloc, metadata)?,
+            },
+            Asked::Lease { ttl, count } => Call::Lease {
+                ttl: *ttl,
+                count: *count,
+                metadata: None,
             },
             Asked::Take { stream } => Call::Take { stream: *stream },
             Asked::TakeJob => Call::TakeJob,

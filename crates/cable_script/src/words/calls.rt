@@ -1,6 +1,6 @@
-//! The words of a call on a stream, and of the calls of one word.
+//! The words of a call on a stream, and of the calls on none.
 
-ghost use Rattle.std.specs.Prelude.{◌≡◌, ◌++◌, ◌∷◌, ℕ, Bool, List, true, codes, IfNone, IfSome, IsTrue, decimal};
+ghost use Rattle.std.specs.Prelude.{◌≡◌, ◌++◌, ◌∷◌, ℕ, Bool, List, None, true, codes, IfNone, IfSome, IsTrue, decimal};
 ghost use Rattle.hex.specs.Hex.{IsBytes};
 ghost use Rattle.rs_wire.specs.Calls.{is_stream_code};
 ghost use Rattle.rs_wire.specs.declared.call.Call.{Call as Meant};
@@ -10,7 +10,7 @@ ghost use Rattle.cable_script.specs.Words.{SpellsCall, bytes_of, is_part};
 
 use crate::spoken::next_word;
 use crate::words::asked::Asked;
-use crate::words::cuts::{amount, code_and};
+use crate::words::cuts::{after, amount, code_and};
 use crate::words::forms::{amount_after, amount_and_after, amount_and_payload_after};
 use crate::words::payload::is_part;
 use crate::words::requests::request_of;
@@ -125,6 +125,48 @@ fn take_of(word: &[u8]) -> Option<Asked<'_>>
     }
 }
 
+// `push PART`.
+fn push_of(word: &[u8]) -> Option<Asked<'_>>
+    ensures some { IfSome result (SpellsCall word.now) }
+    ensures none { IfNone result ((metadata : List ℕ) → IsBytes metadata →
+        ¬ (word.now ≡ call_words (Call.Push metadata))) }
+{
+    let metadata = after(word, "push")?;
+    if is_part(metadata) {
+        return Some(Asked::Push { metadata });
+    }
+    None
+}
+
+// `lease N N`.
+fn lease_of(word: &[u8]) -> Option<Asked<'_>>
+    ensures some { IfSome result (SpellsCall word.now) }
+    ensures none { IfNone result ((ttl count : ℕ) → IsAmount ttl → IsAmount count →
+        ¬ (word.now ≡ call_words (Call.Lease ttl count None))) }
+{
+    let Some((ttl, rest)) = amount_and_after(word, "lease") else {
+        return None;
+    };
+    match amount(rest) {
+        Some(count) => Some(Asked::Lease { ttl, count }),
+        None => None,
+    }
+}
+
+// A call on no stream that carries something.
+fn beside_of(word: &[u8]) -> Option<Asked<'_>>
+    ensures some { IfSome result (SpellsCall word.now) }
+    ensures push { IfNone result ((metadata : List ℕ) → IsBytes metadata →
+        ¬ (word.now ≡ call_words (Call.Push metadata))) }
+    ensures lease { IfNone result ((ttl count : ℕ) → IsAmount ttl → IsAmount count →
+        ¬ (word.now ≡ call_words (Call.Lease ttl count None))) }
+{
+    if let Some(asked) = push_of(word) {
+        return Some(asked);
+    }
+    lease_of(word)
+}
+
 // `job` or `close`.
 fn single_word_of(word: &[u8]) -> Option<Asked<'_>>
     ensures some { IfSome result (SpellsCall word.now) }
@@ -193,6 +235,9 @@ pub(crate) fn asked_of(word: &[u8]) -> Option<Asked<'_>>
         return Some(asked);
     }
     if let Some(asked) = bare_of(word) {
+        return Some(asked);
+    }
+    if let Some(asked) = beside_of(word) {
         return Some(asked);
     }
     single_word_of(word)

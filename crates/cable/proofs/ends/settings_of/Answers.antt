@@ -1,7 +1,7 @@
 use Rattle.std.proofs.Common.{◌≡◌, ap, refl, ◌∙◌}
 use Rattle.cable_script.specs.Setting.{set_by, settings_by}
 use Rattle.cable_script.specs.declared.setting.SettingLine.{SettingLine}
-use Rattle.cable.proofs.Settings.{all_set, not_wrong, one_set, plain_as}
+use Rattle.cable.proofs.Settings.{all_set, not_wrong, one_set, checked_as}
 use Rattle.cable.proofs.ends.settings_of.Goals as goal
 
 pub loop-line-init : goal.loop-line-init
@@ -15,10 +15,10 @@ loop-line-preserved c =
 pub unreachable-requires : goal.unreachable-requires
 unreachable-requires c =
     let is : c.loop-line.settings ≡ settings_by c.args.side c.settings-line-items.result.now = all_set _ _ _ _ _ c.loop-line-test.false refl c.loop-line.invariant.left in
-    not_wrong _ _ (plain_as _ _ _ (rw c.settings-line-items.ensures.value c.settings-line-items.ensures.right) is) c.in-Err.ensures.1
+    not_wrong _ _ (checked_as _ _ _ (rw c.settings-line-items.ensures.value c.settings-line-items.ensures.right) is) c.in-Err.ensures.1
 
 pub returns-clause-settings : goal.returns-clause-settings
 returns-clause-settings c = c.in-Ok.ensures.0 ∙ all_set _ _ _ _ _ c.loop-line-test.false c.settings-line-items.ensures.value c.loop-line.invariant.left
 
-pub returns-clause-plain : goal.returns-clause-plain
-returns-clause-plain c = plain_as _ _ _ c.settings-line-items.ensures.right (returns-clause-settings c)
+pub returns-clause-checked : goal.returns-clause-checked
+returns-clause-checked c = checked_as _ _ _ c.settings-line-items.ensures.right (returns-clause-settings c)

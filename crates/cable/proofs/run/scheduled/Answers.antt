@@ -1,6 +1,6 @@
 use Rattle.std.proofs.Common.{sym, ◌∙◌}
 use Rattle.session_laws.specs.Ends.{AreEnds}
-use Rattle.cable.proofs.Playing.{fair_as, legal_as, ok_holds, plain_ends, run_client, run_played, run_server}
+use Rattle.cable.proofs.Playing.{fair_as, legal_as, ok_holds, checked_ends, run_client, run_played, run_server}
 use Rattle.cable.proofs.run.scheduled.Given.{Over}
 use Rattle.cable.proofs.run.scheduled.Goals as goal
 
@@ -18,7 +18,7 @@ ends_of g c =
     let S = c.into_ends-client.result.1 in
     let client = run_client c.args.client c.args.server first last C c.new-cable.ensures c.play.ensures.ends c.into_ends-client.ensures.client in
     let server = run_server c.args.client c.args.server first last S c.new-cable.ensures c.play.ensures.ends c.into_ends-client.ensures.server in
-    plain_ends c.args.client.settings c.args.server.settings C.entries S.entries c.requires.client_side c.requires.server_side c.requires.client_plain c.requires.server_plain (legal_as c.args.client C client c.legal.ensures.legal) (fair_as c.args.client C client c.legal.ensures.fair) (legal_as c.args.server S server c.legal-2.ensures.legal) (fair_as c.args.server S server c.legal-2.ensures.fair)
+    checked_ends c.args.client.settings c.args.server.settings C.entries S.entries c.requires.client_side c.requires.server_side c.requires.client_checked c.requires.server_checked (legal_as c.args.client C client c.legal.ensures.legal) (fair_as c.args.client C client c.legal.ensures.fair) (legal_as c.args.server S server c.legal-2.ensures.legal) (fair_as c.args.server S server c.legal-2.ensures.fair)
 
 pub returns-clause-played : goal.returns-clause-played
 returns-clause-played g c = played g c

@@ -48,3 +48,6 @@ returns-in-Late-clause-played g c = λ r at.
     let s = sides_of c.args.self.now in
     subst (λ (l : Line). OnOk c.late.result (Reaches c.late.new.self (PlaysLine s l r))) (sym c.in-Late.is)
     (subst (λ (n : ℕ). OnOk c.late.result (Reaches c.late.new.self (Lates s (most.Bytes n) r))) c.get-in-Late.ensures.value (c.late.ensures.played r at))
+
+pub returns-in-Tick-clause-played : goal.returns-in-Tick-clause-played
+returns-in-Tick-clause-played g c = λ r at. subst (λ (l : Line). OnOk c.tick.result (Reaches c.tick.new.self (PlaysLine (sides_of c.args.self.now) l r))) (sym c.in-Tick.is) (c.tick.ensures.played r at)
