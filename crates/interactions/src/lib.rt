@@ -23,6 +23,3 @@ mod ways;
 
 pub use stream_model::{Arrival, Effect, Limits, State, Stream};
 pub use streams::Streams;
-
-#[cfg(test)]
-mod tests;

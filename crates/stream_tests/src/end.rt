@@ -7,7 +7,7 @@ ghost use Rattle.stream_model.specs.Known.{Known};
 ghost use Rattle.interactions.specs.Seen.{known_to};
 
 use super::step::Answer;
-use crate::Streams;
+use interactions::Streams;
 use rs_wire::{Call, Kind, Settings, Side, check, is_stream_code};
 use std::alloc::Global;
 use std::process::Abort;

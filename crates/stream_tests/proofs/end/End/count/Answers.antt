@@ -1,6 +1,6 @@
 use Rattle.std.proofs.Common.{rules, ◌<◌, ◌^◌, length, arith}
 use Rattle.interactions.proofs.Granting.{may_grant}
-use Rattle.interactions.proofs.tests.end.End.count.Goals as goal
+use Rattle.stream_tests.proofs.end.End.count.Goals as goal
 
 pub returns-clause-grants : goal.returns-clause-grants
 returns-clause-grants c = λ s.
