@@ -65,6 +65,20 @@ fn answer(alloc: Global, row: &Row) -> Result<Glued, OutOfMemory> {
     }
 }
 
+// What is answered to the part.
+fn given(alloc: Global, reassembly: &mut Reassembly, row: &Row) -> Result<Glued, OutOfMemory> {
+    let part = message(alloc, row.part)?;
+    reassembly.reserve(row.stream, &part)?;
+    let (complete, next) = row.flags;
+    Ok(reassembly.push(row.stream, row.follows, &part, complete, next))
+}
+
+// Whether the part is answered as its row says.
+fn is_answered(alloc: Global, reassembly: &mut Reassembly, row: &Row) -> Result<bool, OutOfMemory> {
+    let expected = answer(alloc, row)?;
+    Ok(given(alloc, reassembly, row)? == expected)
+}
+
 // That each part is answered as its row says.
 fn comes<R: Abort>(
     rt: &R,
@@ -73,12 +87,7 @@ fn comes<R: Abort>(
     rows: &[Row],
 ) -> Result<(), Fail> {
     for row in rows {
-        let part = message(alloc, row.part)?;
-        reassembly.reserve(row.stream, &part)?;
-        let (complete, next) = row.flags;
-        let given = reassembly.push(row.stream, row.follows, &part, complete, next);
-        let expected = answer(alloc, row)?;
-        assert!(rt; given == expected);
+        assert!(rt; is_answered(alloc, reassembly, row)?);
     }
     Ok(())
 }

@@ -1,5 +1,7 @@
 //! The streams that are open.
 
+ghost use Rattle.std.specs.Prelude.{◌<◌, ◌^◌};
+
 use rs_wire::{Kind, Side, Way};
 use std::alloc::Global;
 use std::test::Fail;
@@ -26,9 +28,11 @@ fn state_after(alloc: Global, kind: Kind, ways: &[Way]) -> Result<State, Fail> {
     Ok(table.state(1))
 }
 
-// Starts a stream on the next own id.
-fn start_next(table: &mut Table, kind: Kind) -> Result<u32, Fail> {
-    let id = table.next_id().ok_or("no id is left")?;
+// Starts a stream on the next own id, or answers 0 where none is left.
+fn start_next(table: &mut Table, kind: Kind) -> Result<u32, TableFault> {
+    let Some(id) = table.next_id() else {
+        return Ok(0);
+    };
     let opener = if id % 2 == 1 {
         Side::Client
     } else {
@@ -108,14 +112,29 @@ fn an_id_is_above_open_or_over(rt: HostRuntime) -> Result<(), Fail> {
     Ok(())
 }
 
+// The ids of three streams that an end starts, and 0 where none is left.
+fn ids(alloc: Global, side: Side, last_id: u32) -> Result<[u32; 3], TableFault>
+    requires { last_id < 2 ^ 31 }
+{
+    let mut table = Table::new(alloc, side, 2, last_id)?;
+    let first = start_next(&mut table, Kind::Fnf)?;
+    let second = start_next(&mut table, Kind::Fnf)?;
+    let third = start_next(&mut table, Kind::Fnf)?;
+    Ok([first, second, third])
+}
+
 #[test]
 fn own_ids_rise_by_two_until_the_last(rt: HostRuntime) -> Result<(), Fail> {
-    for (side, last, ids) in [(Side::Client, 4, [1, 3]), (Side::Server, 4, [2, 4])] {
-        let mut table = Table::new(rt.alloc(), side, 2, last)?;
-        for id in ids {
-            assert_eq!(rt; start_next(&mut table, Kind::Fnf)?, id);
-        }
-        assert_eq!(rt; table.next_id(), None);
+    assert!(rt; ids(rt.alloc(), Side::Client, 4)? == [1, 3, 0]);
+    assert!(rt; ids(rt.alloc(), Side::Server, 4)? == [2, 4, 0]);
+    Ok(())
+}
+
+// So many streams begin and are over, one after another.
+fn pass(table: &mut Table, count: u32) -> Result<(), TableFault> {
+    for _ in 0..count {
+        let id = start_next(table, Kind::Response)?;
+        table.finish(id, Way::Reply);
     }
     Ok(())
 }
@@ -123,11 +142,8 @@ fn own_ids_rise_by_two_until_the_last(rt: HostRuntime) -> Result<(), Fail> {
 #[test]
 fn a_hundred_thousand_streams_that_are_over_leave_nothing(rt: HostRuntime) -> Result<(), Fail> {
     let mut table = Table::new(rt.alloc(), Side::Server, 1, 2_147_483_647)?;
-    for _ in 0..100_000 {
-        let id = start_next(&mut table, Kind::Response)?;
-        table.finish(id, Way::Reply);
-    }
-    assert_eq!(rt; (table.live(), table.highest(Side::Server)), (0, 200_000));
+    assert!(rt; pass(&mut table, 100_000).is_ok());
+    assert!(rt; table.live() == 0 && table.highest(Side::Server) == 200_000);
     Ok(())
 }
 

@@ -2,63 +2,128 @@
 
 use keepalive::{Due, Timer};
 use rs_wire::Amount;
-use std::test::Fail;
 
-/// A timer made at this moment, with an interval of 20 and a lifetime of 90 seconds.
-fn timer(now: u64, sends: bool) -> Result<Timer, Fail> {
-    let interval = Amount::of(20_000).ok_or("an amount")?;
-    let lifetime = Amount::of(90_000).ok_or("an amount")?;
-    Ok(Timer::new(interval, lifetime, now, sends))
+/// What happens at a timer. Moments and spans are in milliseconds.
+#[derive(Clone, Copy)]
+enum Step {
+    /// A moment comes, and this is due.
+    Tick(u64, Due),
+    /// A KEEPALIVE is sent.
+    Sent,
+    /// Something comes.
+    Came,
+}
+
+/// A timer, and what happens at it.
+#[derive(Clone, Copy)]
+struct Row {
+    shows: &'static str,
+    interval: u32,
+    lifetime: u32,
+    now: u64,
+    sends: bool,
+    steps: &'static [Step],
+}
+
+const ROWS: [Row; 5] = [
+    Row {
+        shows: "a KEEPALIVE is due at the interval",
+        interval: 20_000,
+        lifetime: 90_000,
+        now: 5,
+        sends: true,
+        steps: &[
+            Step::Tick(5, Due::Nothing),
+            Step::Tick(20_004, Due::Nothing),
+            Step::Tick(20_005, Due::Send),
+            Step::Tick(20_006, Due::Send),
+            Step::Sent,
+            Step::Tick(40_005, Due::Nothing),
+            Step::Tick(40_006, Due::Send),
+        ],
+    },
+    Row {
+        shows: "a peer is dead at the lifetime",
+        interval: 20_000,
+        lifetime: 90_000,
+        now: 0,
+        sends: true,
+        steps: &[
+            Step::Tick(20_000, Due::Send),
+            Step::Sent,
+            Step::Came,
+            Step::Tick(109_999, Due::Send),
+            Step::Sent,
+            Step::Tick(110_000, Due::Dead(20_000)),
+        ],
+    },
+    Row {
+        shows: "a dead peer comes before a sending",
+        interval: 1_000,
+        lifetime: 1_000,
+        now: 0,
+        sends: true,
+        steps: &[
+            Step::Tick(999, Due::Nothing),
+            Step::Tick(1_000, Due::Dead(0)),
+        ],
+    },
+    Row {
+        shows: "an end that does not send waits for the lifetime",
+        interval: 20_000,
+        lifetime: 90_000,
+        now: 0,
+        sends: false,
+        steps: &[
+            Step::Tick(20_000, Due::Nothing),
+            Step::Tick(89_999, Due::Nothing),
+            Step::Tick(90_000, Due::Dead(0)),
+        ],
+    },
+    Row {
+        shows: "the greatest moments have room for the spans",
+        interval: 20_000,
+        lifetime: 90_000,
+        now: u64::MAX - 20_000,
+        sends: true,
+        steps: &[
+            Step::Tick(u64::MAX - 1, Due::Nothing),
+            Step::Tick(u64::MAX, Due::Send),
+            Step::Tick(0, Due::Nothing),
+        ],
+    },
+];
+
+// Whether the step comes at the timer as it says.
+fn comes(timer: &mut Timer, step: Step) -> bool {
+    match step {
+        Step::Tick(now, due) => timer.tick(now) == due,
+        Step::Sent => {
+            timer.sent();
+            true
+        }
+        Step::Came => {
+            timer.came();
+            true
+        }
+    }
+}
+
+// Whether all steps come as they say.
+fn plays(row: &Row) -> Option<bool> {
+    let interval = Amount::of(row.interval)?;
+    let lifetime = Amount::of(row.lifetime)?;
+    let mut timer = Timer::new(interval, lifetime, row.now, row.sends);
+    let mut right = true;
+    for step in row.steps {
+        right = comes(&mut timer, *step) && right;
+    }
+    Some(right)
 }
 
 #[test]
-fn a_keepalive_is_due_at_the_interval(rt: HostRuntime) -> Result<(), Fail> {
-    let mut client = timer(5, true)?;
-    assert_eq!(rt; client.tick(5), Due::Nothing);
-    assert_eq!(rt; client.tick(20_004), Due::Nothing);
-    assert_eq!(rt; client.tick(20_005), Due::Send);
-    assert_eq!(rt; client.tick(20_006), Due::Send);
-    client.sent();
-    assert_eq!(rt; client.tick(40_005), Due::Nothing);
-    assert_eq!(rt; client.tick(40_006), Due::Send);
-    Ok(())
-}
-
-#[test]
-fn a_peer_is_dead_at_the_lifetime(rt: HostRuntime) -> Result<(), Fail> {
-    let mut client = timer(0, true)?;
-    assert_eq!(rt; client.tick(20_000), Due::Send);
-    client.sent();
-    client.came();
-    assert_eq!(rt; client.tick(109_999), Due::Send);
-    client.sent();
-    assert_eq!(rt; client.tick(110_000), Due::Dead(20_000));
-    Ok(())
-}
-
-#[test]
-fn a_dead_peer_comes_before_a_sending(rt: HostRuntime) -> Result<(), Fail> {
-    let second = Amount::of(1_000).ok_or("an amount")?;
-    let mut client = Timer::new(second, second, 0, true);
-    assert_eq!(rt; client.tick(999), Due::Nothing);
-    assert_eq!(rt; client.tick(1_000), Due::Dead(0));
-    Ok(())
-}
-
-#[test]
-fn an_end_that_does_not_send_waits_for_the_lifetime(rt: HostRuntime) -> Result<(), Fail> {
-    let mut server = timer(0, false)?;
-    assert_eq!(rt; server.tick(20_000), Due::Nothing);
-    assert_eq!(rt; server.tick(89_999), Due::Nothing);
-    assert_eq!(rt; server.tick(90_000), Due::Dead(0));
-    Ok(())
-}
-
-#[test]
-fn the_greatest_moments_have_room_for_the_spans(rt: HostRuntime) -> Result<(), Fail> {
-    let mut client = timer(u64::MAX - 20_000, true)?;
-    assert_eq!(rt; client.tick(u64::MAX - 1), Due::Nothing);
-    assert_eq!(rt; client.tick(u64::MAX), Due::Send);
-    assert_eq!(rt; client.tick(0), Due::Nothing);
-    Ok(())
+fn timers_tell_what_is_due(rt: HostRuntime) {
+    for row in ROWS {
+        assert!(rt; plays(&row) == Some(true), "{}", row.shows);
+    }
 }
