@@ -8,6 +8,7 @@ use Rattle.session_model.specs.Lists.{IsPrefix}
 use Rattle.session_model.specs.Frames.{made, handled}
 use Rattle.session_model.specs.Legal.{Fair, Legal}
 use Rattle.session_model.specs.Joined.{Joined}
+use Rattle.honest_laws.specs.Accusing.{AccusesNobody}
 use Rattle.cable_script.specs.declared.line.Line.{Line}
 use Rattle.cable.specs.Played.{Played, Sides, pair_of}
 use Rattle.cable_script.specs.Setting.{settings_by}
@@ -28,7 +29,7 @@ abbrev pub sides_by : List SettingLine → Sides
 sides_by lines = record { client = settings_by Client lines; server = settings_by Server lines }
 
 -- the two ends of a run of these lines under these settings, their entries the newest first: each list is a session's, the bytes of
--- the two crossed, and what each end has handled is a prefix of what the other made
+-- the two crossed, what each end has handled is a prefix of what the other made, and neither accuses the other
 pub record EndsOf (s : Sides) (lines : List Line) (client server : List Entry) : Type 0 where
   pub played : Played s lines client server
   pub client_legal : Legal s.client client
@@ -39,6 +40,8 @@ pub record EndsOf (s : Sides) (lines : List Line) (client server : List Entry) :
   pub joined : Joined s.client s.server client server (pair_of pairs)
   pub server_handled : IsPrefix (handled server) (made s.client client)
   pub client_handled : IsPrefix (handled client) (made s.server server)
+  pub client_accuses_nobody : AccusesNobody client
+  pub server_accuses_nobody : AccusesNobody server
 
 -- the text is the report of a run of this script, and the shelf has got back the tapes of just this client and this
 -- server: of tapes that tell nothing there are the two lines of counts

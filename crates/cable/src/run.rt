@@ -7,6 +7,7 @@ ghost use Rattle.session_model.specs.Lists.{IsPrefix};
 ghost use Rattle.session_model.specs.Frames.{handled, made};
 ghost use Rattle.session_model.specs.Joined.{Joined};
 ghost use Rattle.session_model.specs.Legal.{Fair, Legal};
+ghost use Rattle.honest_laws.specs.Accusing.{AccusesNobody};
 ghost use Rattle.cable.specs.Played.{Played, pair_of};
 
 use crate::cable::Cable;
@@ -54,6 +55,10 @@ pub fn scheduled<T: Tape>(
         IsPrefix (handled result.server.entries) (made client.settings result.client.entries) }
     ensures down { result.want ≡ false →
         IsPrefix (handled result.client.entries) (made server.settings result.server.entries) }
+
+    // Neither accuses the other by a rule that depends on no limit of either end.
+    ensures client_accuses_nobody { result.want ≡ false → AccusesNobody result.client.entries }
+    ensures server_accuses_nobody { result.want ≡ false → AccusesNobody result.server.entries }
 
     // Where memory ran out too, both ends are as their answers say.
     ensures client_legal { Legal client.settings result.client.entries }

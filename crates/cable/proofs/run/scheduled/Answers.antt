@@ -32,6 +32,12 @@ returns-clause-up g c = λ fine. c.played_laws.ensures.up (record { client = c.a
 pub returns-clause-down : goal.returns-clause-down
 returns-clause-down g c = λ fine. c.played_laws.ensures.down (record { client = c.args.client.settings; server = c.args.server.settings }) _ _ _ (played g c fine) (ends_of g c)
 
+pub returns-clause-client_accuses_nobody : goal.returns-clause-client_accuses_nobody
+returns-clause-client_accuses_nobody g c = λ fine. c.played_laws.ensures.client_accuses_nobody (record { client = c.args.client.settings; server = c.args.server.settings }) _ _ _ (played g c fine) (ends_of g c)
+
+pub returns-clause-server_accuses_nobody : goal.returns-clause-server_accuses_nobody
+returns-clause-server_accuses_nobody g c = λ fine. c.played_laws.ensures.server_accuses_nobody (record { client = c.args.client.settings; server = c.args.server.settings }) _ _ _ (played g c fine) (ends_of g c)
+
 pub returns-clause-client_legal : goal.returns-clause-client_legal
 returns-clause-client_legal g c = (ends_of g c).client_legal
 

@@ -22,6 +22,8 @@ returns-clause-reports g c = at_ok c.report_of-text.result _ (λ text is.
         joined = (c.scheduled-ran.ensures.joined went).1;
         server_handled = c.scheduled-ran.ensures.up went;
         client_handled = c.scheduled-ran.ensures.down went;
+        client_accuses_nobody = c.scheduled-ran.ensures.client_accuses_nobody went;
+        server_accuses_nobody = c.scheduled-ran.ensures.server_accuses_nobody went;
       });
       put_back = got_both _ _ _ _ _ _ _ _ c.in_ok-client.ensures.back c.put_back.ensures.back c.put_back-2.ensures.back
           (told_of _ _ _ _ _ c.in_ok-client.ensures.client c.scheduled-ran.ensures.client c.into_tape.ensures.told)
