@@ -1,6 +1,6 @@
 //! A connection: a shared session with its bell.
 
-ghost use Rattle.std.specs.Prelude.{◌≡◌, [], IfErr, IfOk};
+ghost use Rattle.std.specs.Prelude.{◌≡◌, ◌≤◌, [], IfErr, IfOk};
 ghost use Rattle.conn_shared.specs.Members.{first_member};
 
 use crate::caller::Caller;
@@ -19,19 +19,21 @@ pub struct Connection<T: Tape> {
     pub(crate) shared: SharedSession<T>,
     /// How many bytes a frame that comes may have, of the session's settings.
     pub(crate) max_in: u32,
-    /// It rings after each turn that left an entry other than that of a draw.
+    /// It rings after each turn that left an entry for which somebody may wait.
     pub(crate) bell: Bell,
 }
 
 impl<T: Tape> Model for Connection<T> {
     ghost use Rattle.std.specs.Prelude.{◌≡◌};
+    ghost use Rattle.rs_wire.specs.Settings.{IsIn};
     ghost use Rattle.conn_shared.specs.Members.{SharedId};
 
     ghost Value = { SharedId };
 
     ghost view = { λ c. c.shared };
 
-    ghost invariant = { λ c. c.max_in ≡ c.shared.settings.max_in };
+    ghost invariant = { λ c.
+        (c.max_in ≡ c.shared.settings.max_in) × IsIn 64 c.max_in 16777215 };
 }
 
 impl<T: Tape> Connection<T> {
@@ -62,15 +64,22 @@ impl<T: Tape> Connection<T> {
 
     /// How many bytes a frame that comes may have, from 64 to 16,777,215.
     pub fn max_in(&self) -> u32
-        ensures { result ≡ self.now.settings.max_in }
+        ensures value { result ≡ self.now.settings.max_in }
+        ensures range { (64 ≤ result) × (result ≤ 16777215) }
     {
         self.max_in
     }
 
-    /// Rings where others may wait for what an event so answered left. Nobody waits for a draw.
+    /// Rings where others may wait for what an event so answered left: also where the connection is
+    /// parted or the peer counts as dead. Nobody waits for a draw, or for a moment alone.
     pub(crate) fn announce(&self, answer: &Answer) {
-        if answer.leaves_entry() && answer.drawn().is_none() {
-            self.bell.ring();
+        match answer {
+            Answer::Drawn(_) | Answer::Quiet => {}
+            answer => {
+                if answer.leaves_entry() {
+                    self.bell.ring();
+                }
+            }
         }
     }
 }

@@ -37,7 +37,8 @@ impl<T: Tape> Connection<T> {
     }
 
     /// Takes what was delivered on a stream, the oldest first. Where nothing waits, it waits until
-    /// something does, or until the stream is refused.
+    /// something does, or until the stream is refused, as it is once the session is closed. It goes on
+    /// waiting while a session that resumes has no live connection.
     pub fn wait_take<R: Wait>(&self, rt: &R, caller: &mut Caller<T>, stream: u32) -> Answer
         requires of { caller.old.of ≡ self.now }
         ensures same { caller.new ≡ record caller.old { front = caller.new.front; note = None } }
@@ -48,8 +49,9 @@ impl<T: Tape> Connection<T> {
         self.wait_for(rt, caller, &Event::Asked(Call::Take { stream }))
     }
 
-    /// Takes a request of the peer's, the oldest first. Where none waits, it waits until one does, or
-    /// until the session is closed.
+    /// Takes what the peer asked, a request or metadata for the whole connection, the oldest first.
+    /// Where none waits, it waits until one does, or until the session is closed. It goes on waiting
+    /// while a session that resumes has no live connection.
     pub fn wait_job<R: Wait>(&self, rt: &R, caller: &mut Caller<T>) -> Answer
         requires of { caller.old.of ≡ self.now }
         ensures same { caller.new ≡ record caller.old { front = caller.new.front; note = None } }

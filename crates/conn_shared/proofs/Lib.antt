@@ -1,3 +1,4 @@
 pub mod Lines
 pub mod Called
 pub mod Seated
+pub mod Crossing
