@@ -37,6 +37,3 @@ pub use line::Line;
 pub use script::{Script, ScriptFault};
 pub use setting::{Setting, SettingLine};
 pub use spoken::{kind_word, next_word, side_word};
-
-#[cfg(test)]
-mod tests;

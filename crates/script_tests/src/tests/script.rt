@@ -1,5 +1,5 @@
 use super::{Row, fault, is_read_so};
-use crate::ScriptFault;
+use cable_script::ScriptFault;
 use std::test::Fail;
 
 const READ: [Row; 12] = [

@@ -1,5 +1,5 @@
 use super::{Row, fault, is_read_so};
-use crate::{Script, ScriptFault};
+use cable_script::{Script, ScriptFault};
 use rs_wire::{Settings, Side};
 use std::alloc::Global;
 use std::test::Fail;
