@@ -1,0 +1,5 @@
+pub mod Same
+pub mod Bytes
+pub mod Kept
+pub mod Fresh
+pub mod Heard

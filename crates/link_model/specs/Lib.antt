@@ -1,0 +1,4 @@
+pub mod Reading
+pub mod Giving
+pub mod Carrying
+pub mod Leaving

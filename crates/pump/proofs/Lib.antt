@@ -1,0 +1,9 @@
+pub mod Adding
+pub mod Events
+pub mod Keeping
+pub mod Drawing
+pub mod Settled
+pub mod Outcomes
+pub mod Progress
+pub mod Going
+pub mod ReadOut

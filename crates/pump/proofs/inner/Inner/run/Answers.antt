@@ -1,0 +1,87 @@
+use Rattle.std.proofs.Common.{rules, ◌≡◌, ◌∙◌, ◌≤◌, ◌+◌, List, ℕ, ap, sym, subst, refl, arith}
+use Rattle.conn_shared.specs.Members.{Knowledge}
+use Rattle.pump.specs.declared.turned.Turned.TheVariants as turned
+use Rattle.pump.specs.Turns.{GoesOn, IsPumped, IsReadOut, TurnedFor, has, is_early, lulls_in}
+use Rattle.pump.proofs.Adding.{goes_both, goes_continues, on_both}
+use Rattle.pump.proofs.Going.{turn_goes}
+use Rattle.pump.proofs.Outcomes.{lulled_more, none_fell_both, ran_for, read_wider}
+use Rattle.pump.proofs.inner.Inner.run.Goals as goal
+
+pub loop-preserved : goal.loop-preserved
+loop-preserved g c =
+    let i = c.loop.invariant in
+    let me = c.args.caller.now in
+    let was = c.loop.caller in
+    let now = c.turn-turned.new.caller in
+    let moments = g.K.Clock.moments c.args.clock.now in
+    let P = IsPumped moments c.args.self.now.conn in
+    let s = g.L.Link.shown c.args.link.now in
+    let m = g.L.Link.shown c.loop.link in
+    let t = g.L.Link.shown c.turn-turned.new.link in
+    let turn = c.turn-turned.ensures.turned in
+    let goes : GoesOn P was now.front = subst (λ n. GoesOn (IsPumped moments n) was now.front) i.3 (turn_goes c.args.connection.now.settings moments was c.loop.self.conn _ turn.left now.front turn.turn) in
+    let le : c.saturating_add-met.result ≤ c.loop.met + lulls_in c.turn-turned.result = omega (arith, c.saturating_add-met.ensures, c.lulls_in.ensures) in (
+      on_both me was now i.0 c.turn-turned.ensures.same,
+      λ k. c.turn-turned.ensures.kept (i.1 k),
+      goes_both P me was now.front i.0 i.2 goes,
+      c.turn-turned.ensures.conn ∙ i.3,
+      c.turn-turned.ensures.max_in ∙ i.4,
+      none_fell_both s.counts m.counts t.counts i.5 c.turn-turned.ensures.counted,
+      lulled_more c.args.connection.now.settings moments was now.front s m t (has c.turn-turned.new.self) c.turn-turned.result c.loop.met c.saturating_add-met.result c.turn-turned.ensures.counted i.6 c.turn-turned.ensures.cause le,
+    )
+
+-- ---- where a turn was the last
+
+pub returns-then-is_last-clause-kept : goal.returns-then-is_last-clause-kept
+returns-then-is_last-clause-kept g c k = c.turn-turned.ensures.kept (c.loop.invariant.1 k)
+
+pub returns-then-is_last-clause-goes : goal.returns-then-is_last-clause-goes
+returns-then-is_last-clause-goes g c =
+    let i = c.loop.invariant in
+    let was = c.loop.caller in
+    let now = c.turn-turned.new.caller in
+    let moments = g.K.Clock.moments c.args.clock.now in
+    let turn = c.turn-turned.ensures.turned in
+    let goes : GoesOn (IsPumped moments c.args.self.now.conn) was now.front = subst (λ n. GoesOn (IsPumped moments n) was now.front) i.3 (turn_goes c.args.connection.now.settings moments was c.loop.self.conn _ turn.left now.front turn.turn) in
+    goes_both (IsPumped moments c.args.self.now.conn) c.args.caller.now was now.front i.0 i.2 goes
+
+pub returns-then-is_last-clause-cause : goal.returns-then-is_last-clause-cause
+returns-then-is_last-clause-cause g c =
+    let i = c.loop.invariant in
+    let me = c.args.caller.now in
+    let was = c.loop.caller in
+    let moments = g.K.Clock.moments c.args.clock.now in
+    ran_for c.args.connection.now.settings moments c.args.lulls me was c.turn-turned.new.caller.front (g.L.Link.shown c.args.link.now) (g.L.Link.shown c.loop.link) (g.L.Link.shown c.turn-turned.new.link) (has c.turn-turned.new.self) c.turn-turned.result
+    (search rules) (goes_continues (IsPumped moments c.args.self.now.conn) me was.front i.2) i.5 c.turn-turned.ensures.cause
+
+pub returns-then-is_last-clause-read : goal.returns-then-is_last-clause-read
+returns-then-is_last-clause-read g c late =
+    let i = c.loop.invariant in
+    let me = c.args.caller.now in
+    let was = c.loop.caller in
+    let moments = g.K.Clock.moments c.args.clock.now in
+    read_wider c.args.connection.now.settings me was (has c.turn-turned.new.self) c.turn-turned.new.caller.front (ap (λ (x : Knowledge). x.names) i.0) (goes_continues (IsPumped moments c.args.self.now.conn) me was.front i.2) (c.turn-turned.ensures.read late)
+
+-- ---- where it has lulled so often
+
+pub returns-then-eq-clause-kept : goal.returns-then-eq-clause-kept
+returns-then-eq-clause-kept g c k = c.turn-turned.ensures.kept (c.loop.invariant.1 k)
+
+pub returns-then-eq-clause-goes : goal.returns-then-eq-clause-goes
+returns-then-eq-clause-goes g c =
+    let i = c.loop.invariant in
+    let was = c.loop.caller in
+    let now = c.turn-turned.new.caller in
+    let moments = g.K.Clock.moments c.args.clock.now in
+    let turn = c.turn-turned.ensures.turned in
+    let goes : GoesOn (IsPumped moments c.args.self.now.conn) was now.front = subst (λ n. GoesOn (IsPumped moments n) was now.front) i.3 (turn_goes c.args.connection.now.settings moments was c.loop.self.conn _ turn.left now.front turn.turn) in
+    goes_both (IsPumped moments c.args.self.now.conn) c.args.caller.now was now.front i.0 i.2 goes
+
+pub returns-then-eq-clause-read : goal.returns-then-eq-clause-read
+returns-then-eq-clause-read g c late =
+    let i = c.loop.invariant in
+    let me = c.args.caller.now in
+    let was = c.loop.caller in
+    let moments = g.K.Clock.moments c.args.clock.now in
+    let is : c.turn-turned.result ≡ turned.Lull = search rules in
+    read_wider c.args.connection.now.settings me was (has c.turn-turned.new.self) c.turn-turned.new.caller.front (ap (λ (x : Knowledge). x.names) i.0) (goes_continues (IsPumped moments c.args.self.now.conn) me was.front i.2) (c.turn-turned.ensures.read (ap is_early is))

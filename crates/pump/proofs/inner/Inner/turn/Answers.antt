@@ -1,0 +1,153 @@
+use Rattle.std.proofs.Common.{rules, ◌≡◌, ◌∙◌, ◌⊎◌, inl, inr, List, ℕ, true, false, true≢false, None, ap, sym, subst, refl}
+use Rattle.tape.specs.declared.entry.Entry.{Entry}
+use Rattle.conn_shared.specs.Members.{Continues, Follows, Knowledge}
+use Rattle.outside.specs.Links.{Shown}
+use Rattle.link_model.specs.Carrying.{Between}
+use Rattle.link_model.specs.Reading.{IsWaiting}
+use Rattle.pump.specs.declared.inner.Inner.{Inner}
+use Rattle.pump.specs.declared.bringing.Brought.{Brought}
+use Rattle.pump.specs.declared.bringing.Brought.TheVariants as brings
+use Rattle.pump.specs.declared.outgoing.Gave.{Gave}
+use Rattle.pump.specs.Moves.{Comes, all_of}
+use Rattle.pump.specs.Turns.{Arrives, BroughtFor, GoesOn, HasArrived, HasWaiting, IsKept, IsPumped, IsTurn, Names, has}
+use Rattle.pump.specs.declared.outgoing.Gave.TheVariants as gaves
+use Rattle.pump.specs.declared.incoming.Took.TheVariants as tooks
+use Rattle.pump.proofs.Adding.{IsOn, continues_both, goes_both, goes_continues, goes_follows, goes_none, on_both}
+use Rattle.pump.proofs.Keeping.{kept_follows, kept_moved}
+use Rattle.pump.proofs.Going.{begun_on}
+use Rattle.pump.proofs.Outcomes.{Parts, began_for, ended_early, ended_last, none_fell, none_fell_both, read_out, turned_for}
+use Rattle.pump.proofs.Progress.{progress}
+use Rattle.pump.proofs.inner.Inner.turn.Goals as goal
+
+-- ---- where it ends after the draw
+
+pub returns-in-Some-clause-kept : goal.returns-in-Some-clause-kept
+returns-in-Some-clause-kept g c k = c.begin-begun.ensures.kept (g.L.Link.shown c.args.link.now) k
+
+pub returns-in-Some-clause-turned : goal.returns-in-Some-clause-turned
+returns-in-Some-clause-turned g c =
+    let me = c.args.caller.now in
+    let d = c.begin-begun.new.caller in
+    record {
+      left = c.begin-begun.new.self.outgoing;
+      turn = record { begun = d.front; begins = c.begin-begun.ensures.begins; arrivals = goes_none (Arrives c.args.self.now.conn) (record me { front = d.front; note = None }) };
+      progress = λ goes_on. absurd (true≢false (sym (ended_last c.begin-begun.result _ (search rules)) ∙ goes_on));
+    }
+
+pub returns-in-Some-clause-cause : goal.returns-in-Some-clause-cause
+returns-in-Some-clause-cause g c =
+    let me = c.args.caller.now in
+    let s = g.L.Link.shown c.args.link.now in
+    began_for c.args.connection.now.settings (g.K.Clock.moments c.args.clock.now) me c.begin-begun.new.caller.front s s (has c.begin-begun.new.self) c.begin-begun.result _ (search rules)
+    (subst (λ n. BroughtFor (IsPumped (g.K.Clock.moments c.args.clock.now) n) c.args.connection.now.settings me.front c.begin-begun.new.caller.front c.begin-begun.result) (search rules) c.begin-begun.ensures.cause)
+
+pub returns-in-Some-clause-read : goal.returns-in-Some-clause-read
+returns-in-Some-clause-read g c late = absurd (true≢false (sym (ended_early c.begin-begun.result _ (search rules)) ∙ late))
+
+pub returns-in-Some-clause-counted : goal.returns-in-Some-clause-counted
+returns-in-Some-clause-counted g c = none_fell _
+
+-- ---- a whole turn
+
+pub returns-clause-kept : goal.returns-clause-kept
+returns-clause-kept g c k =
+    let d = c.begin-begun.new.caller in
+    let h = c.hear_all-heard.new.caller in
+    let s = g.L.Link.shown c.args.link.now in
+    let m = g.L.Link.shown c.give_some-gave.new.link in
+    let t = g.L.Link.shown c.take_some-took.new.link in
+    let begun = c.begin-begun.ensures.kept s k in
+    let gave = kept_moved d s m (has c.begin-begun.new.self) (has c.give_some-gave.new.self) (search rules) c.give_some-gave.ensures.kept begun in
+    let took = kept_moved d m t (has c.give_some-gave.new.self) (has c.take_some-took.new.self) (search rules) c.take_some-took.ensures.kept gave in
+    kept_follows h c.look-looked.new.caller t (has c.hear_all-heard.new.self) (search rules) c.look-looked.ensures.follows (c.hear_all-heard.ensures.kept t took)
+
+pub returns-clause-counted : goal.returns-clause-counted
+returns-clause-counted g c = none_fell_both _ _ _ c.give_some-gave.ensures.counted c.take_some-took.ensures.counted
+
+pub returns-clause-turned : goal.returns-clause-turned
+returns-clause-turned g c =
+    let me = c.args.caller.now in
+    let d = c.begin-begun.new.caller in
+    let h = c.hear_all-heard.new.caller in
+    let n = c.look-looked.new.caller in
+    let p = c.args.self.now in
+    let P = Arrives p.conn in
+    let s = g.L.Link.shown c.args.link.now in
+    let m = g.L.Link.shown c.give_some-gave.new.link in
+    let t = g.L.Link.shown c.take_some-took.new.link in
+    let start : Knowledge = record me { front = d.front; note = None } in
+    let conn : c.take_some-took.new.self.conn ≡ p.conn = search rules in
+    let incoming : c.give_some-gave.new.self.incoming ≡ p.incoming = search rules in
+    let bad : c.give_some-gave.new.self.bad ≡ p.bad = search rules in
+    let heard : GoesOn P d h.front = subst (λ n. GoesOn (Arrives n) d h.front) conn c.hear_all-heard.ensures.goes in
+    let on_d : IsOn start d = c.begin-begun.ensures.same in
+    let on_h : IsOn start h = on_both start d h on_d c.hear_all-heard.ensures.same in
+    record {
+      left = c.begin-begun.new.self.outgoing;
+      turn = record {
+        begun = d.front;
+        begins = c.begin-begun.ensures.begins;
+        arrivals = goes_both P start h n.front on_h (goes_both P start d h.front on_d (goes_none P start) heard) (goes_follows P h n.front c.look-looked.ensures.follows);
+      };
+      progress = λ goes_on. progress s m t (has p) c.begin-begun.new.self.outgoing c.give_some-gave.result c.take_some-took.result (c.sum_up.ensures.fine goes_on)
+          c.give_some-gave.ensures.gave c.take_some-took.ensures.took c.take_some-took.ensures.given c.give_some-gave.ensures.taken c.give_some-gave.ensures.counted c.take_some-took.ensures.counted c.give_some-gave.ensures.nothing
+          (λ nothing failed. waits p c.give_some-gave.new.self c.give_some-gave.result incoming bad failed (c.take_some-took.ensures.nothing nothing));
+    }
+  where
+    waits : (p q : Inner) (gave : Gave) → q.incoming ≡ p.incoming → q.bad ≡ p.bad → (gave ≡ gaves.Failed → ⊥) → (gave ≡ gaves.Failed) ⊎ HasWaiting (has q) → HasWaiting (has p)
+    waits p q gave same bad failed (inl is) = absurd (failed is)
+    waits p q gave same bad failed (inr h) = (sym bad ∙ h.0, subst (λ (i : Comes). IsWaiting (all_of i) i.max_in) same h.1)
+
+pub returns-clause-cause : goal.returns-clause-cause
+returns-clause-cause g c =
+    let me = c.args.caller.now in
+    let d = c.begin-begun.new.caller in
+    let h = c.hear_all-heard.new.caller in
+    let n = c.look-looked.new.caller in
+    let q = c.hear_all-heard.new.self in
+    let st = c.args.connection.now.settings in
+    let moments = g.K.Clock.moments c.args.clock.now in
+    let s = g.L.Link.shown c.args.link.now in
+    let m = g.L.Link.shown c.give_some-gave.new.link in
+    let t = g.L.Link.shown c.take_some-took.new.link in
+    let conn : c.take_some-took.new.self.conn ≡ q.conn = sym c.hear_all-heard.ensures.conn in
+    let begun : Continues me.front d.front = begun_on st moments me c.args.self.now.conn _ _ d.front c.begin-begun.ensures.begins in
+    let names : h.names ≡ me.names = search rules in
+    turned_for st moments me d h n.front s m t (has q) c.give_some-gave.result c.take_some-took.result c.hear_all-heard.result c.look-looked.result c.len-left.result c.sum_up.result
+    (record {
+      number = search rules;
+      before = begun;
+      between = goes_continues (Arrives c.take_some-took.new.self.conn) d h.front c.hear_all-heard.ensures.goes;
+      follows = subst (λ ns. Follows ns h.front n.front) names c.look-looked.ensures.follows;
+      cause = subst (λ k. BroughtFor (Names k) st d.front h.front c.hear_all-heard.result) conn c.hear_all-heard.ensures.cause;
+      busy = c.hear_all-heard.ensures.busy;
+      arrived = λ noted. subst (λ k. HasArrived k d h.front) conn (c.hear_all-heard.ensures.arrived noted);
+      gave_is = c.give_some-gave.ensures.gave;
+      given_still = c.take_some-took.ensures.given;
+      taken_still = c.give_some-gave.ensures.taken;
+      took_is = c.take_some-took.ensures.took;
+      give_counted = c.give_some-gave.ensures.counted;
+      take_counted = c.take_some-took.ensures.counted;
+      failed = c.take_some-took.ensures.failed;
+      some = λ nothing failed. some_heard c.give_some-gave.new.self c.take_some-took.new.self c.give_some-gave.result c.hear_all-heard.result (c.take_some-took.ensures.still nothing) failed c.hear_all-heard.ensures.some (c.take_some-took.ensures.nothing nothing);
+      closed_is = c.look-looked.ensures.cause;
+      waits = c.look-looked.ensures.queued;
+      left_is = c.len-left.ensures;
+    }) c.sum_up.ensures.sum c.sum_up.ensures.fine
+  where
+    some_heard : (p q : Inner) (gave : Gave) (heard : Brought) → q ≡ p → (gave ≡ gaves.Failed → ⊥) → (HasWaiting (has q) → heard ≡ brings.Nothing → ⊥) → (gave ≡ gaves.Failed) ⊎ HasWaiting (has p) → heard ≡ brings.Nothing → ⊥
+    some_heard p q gave heard same failed some (inl is) nothing = failed is
+    some_heard p q gave heard same failed some (inr h) nothing = some (subst (λ x. HasWaiting (has x)) (sym same) h) nothing
+
+pub returns-clause-read : goal.returns-clause-read
+returns-clause-read g c late =
+    let me = c.args.caller.now in
+    let d = c.begin-begun.new.caller in
+    let h = c.hear_all-heard.new.caller in
+    let n = c.look-looked.new.caller in
+    let st = c.args.connection.now.settings in
+    let moments = g.K.Clock.moments c.args.clock.now in
+    let begun : Continues me.front d.front = begun_on st moments me c.args.self.now.conn _ _ d.front c.begin-begun.ensures.begins in
+    let heard : Continues d.front h.front = goes_continues (Arrives c.take_some-took.new.self.conn) d h.front c.hear_all-heard.ensures.goes in
+    let names : h.names ≡ me.names = search rules in
+    read_out st me h.front n.front (has c.hear_all-heard.new.self) c.hear_all-heard.result (continues_both me.front d.front h.front begun heard) (subst (λ ns. Follows ns h.front n.front) names c.look-looked.ensures.follows) c.hear_all-heard.ensures.busy c.hear_all-heard.ensures.emptied (c.sum_up.ensures.heard late)

@@ -1,0 +1,204 @@
+//! What came, on its way from a pump to the session.
+
+ghost use Rattle.std.specs.Prelude.{◌≡◌, ◌≢◌, [], false, None};
+ghost use Rattle.outside.specs.Links.{Shown};
+ghost use Rattle.link_model.specs.Reading.{IsInFront};
+ghost use Rattle.pump.specs.Turns.{Arrives, Begins, BroughtFor, DrawsWhere, GoesOn, HasArrived, HasWaiting, IfBusy, IfDone, IsEmptied, IsKept, IsPumped, Names, Steps, has, is_empty};
+
+use crate::bringing::{Brought, after_some, bring_event, is_ended, leaves, tick};
+use crate::inner::Inner;
+use conn::{Caller, Connection};
+use outside::Clock;
+use std::sync::Wait;
+use tape::{Event, Tape};
+
+impl Inner {
+    // What stood in front has come by this event.
+    fn settle(&mut self, event: &Event)
+        requires fed { self.old.incoming.waits ≡ [] }
+        requires good { self.old.bad ≡ false }
+        requires is { IsInFront self.old.conn self.old.incoming.bytes
+            self.old.incoming.max_in event.now }
+        ensures steps { Steps self.old self.new event.now }
+        ensures conn { self.new.conn ≡ self.old.conn }
+        ensures max_in { self.new.incoming.max_in ≡ self.old.incoming.max_in }
+        ensures left { self.new.outgoing ≡ self.old.outgoing }
+    {
+        match event {
+            Event::Came { conn: _, frame: _ } => self.incoming.pass(),
+            Event::Bad { conn: _, rule: _ } => self.bad = true,
+            _ => unreachable!(),
+        }
+    }
+
+    // Brings what stands in front.
+    fn bring<T: Tape, R: Wait>(
+        &mut self,
+        rt: &R,
+        connection: &Connection<T>,
+        caller: &mut Caller<T>,
+        event: &Event,
+    ) -> Brought
+        requires of { caller.old.of ≡ connection.now }
+        requires limit { self.old.incoming.max_in ≡ connection.now.settings.max_in }
+        requires fed { self.old.incoming.waits ≡ [] }
+        requires good { self.old.bad ≡ false }
+        requires is { IsInFront self.old.conn self.old.incoming.bytes
+            self.old.incoming.max_in event.now }
+        ensures same { caller.new ≡ record caller.old {
+          front = caller.new.front;
+          note = caller.new.note;
+        } }
+        ensures kept { (s : Shown) → IsKept caller.old s (has self.old)
+            → IsKept caller.new s (has self.new) }
+        ensures goes { GoesOn (Arrives self.old.conn) caller.old caller.new.front }
+        ensures cause { BroughtFor (Names self.old.conn) connection.now.settings
+            caller.old.front caller.new.front result }
+        ensures busy { IfBusy connection.now.settings caller.new.front (has self.new) result }
+        ensures arrived { result ≡ Brought.Noted →
+            HasArrived self.old.conn caller.old caller.new.front }
+        ensures some { result ≢ Brought.Nothing }
+        ensures conn { self.new.conn ≡ self.old.conn }
+        ensures max_in { self.new.incoming.max_in ≡ self.old.incoming.max_in }
+        ensures left { self.new.outgoing ≡ self.old.outgoing }
+    {
+        let brought = bring_event(rt, connection, caller, event);
+        if !leaves(brought) {
+            return brought;
+        }
+        self.settle(event);
+        brought
+    }
+
+    // Brings what stands in front, where something does.
+    fn hear<T: Tape, R: Wait>(
+        &mut self,
+        rt: &R,
+        connection: &Connection<T>,
+        caller: &mut Caller<T>,
+    ) -> Brought
+        requires of { caller.old.of ≡ connection.now }
+        requires limit { self.old.incoming.max_in ≡ connection.now.settings.max_in }
+        ensures same { caller.new ≡ record caller.old {
+          front = caller.new.front;
+          note = caller.new.note;
+        } }
+        ensures kept { (s : Shown) → IsKept caller.old s (has self.old)
+            → IsKept caller.new s (has self.new) }
+        ensures goes { GoesOn (Arrives self.old.conn) caller.old caller.new.front }
+        ensures cause { BroughtFor (Names self.old.conn) connection.now.settings
+            caller.old.front caller.new.front result }
+        ensures busy { IfBusy connection.now.settings caller.new.front (has self.new) result }
+        ensures arrived { result ≡ Brought.Noted →
+            HasArrived self.old.conn caller.old caller.new.front }
+        ensures emptied { result ≡ Brought.Nothing → IsEmptied (has self.new) }
+        ensures some { HasWaiting (has self.old) → result ≢ Brought.Nothing }
+        ensures conn { self.new.conn ≡ self.old.conn }
+        ensures max_in { self.new.incoming.max_in ≡ self.old.incoming.max_in }
+        ensures left { self.new.outgoing ≡ self.old.outgoing }
+    {
+        if self.bad {
+            return Brought::Nothing;
+        }
+        if self.incoming.feed().is_err() {
+            return Brought::OutOfMemory;
+        }
+        match self.incoming.next(self.alloc, self.conn) {
+            Err(_) => Brought::OutOfMemory,
+            Ok(None) => Brought::Nothing,
+            Ok(Some(event)) => self.bring(rt, connection, caller, &event),
+        }
+    }
+
+    /// Brings all that stands in front, up to what stops it.
+    pub(crate) fn hear_all<T: Tape, R: Wait>(
+        &mut self,
+        rt: &R,
+        connection: &Connection<T>,
+        caller: &mut Caller<T>,
+    ) -> Brought
+        requires of { caller.old.of ≡ connection.now }
+        requires limit { self.old.incoming.max_in ≡ connection.now.settings.max_in }
+        ensures same { caller.new ≡ record caller.old {
+          front = caller.new.front;
+          note = caller.new.note;
+        } }
+        ensures kept { (s : Shown) → IsKept caller.old s (has self.old)
+            → IsKept caller.new s (has self.new) }
+        ensures goes { GoesOn (Arrives self.old.conn) caller.old caller.new.front }
+        ensures cause { BroughtFor (Names self.old.conn) connection.now.settings
+            caller.old.front caller.new.front result }
+        ensures busy { IfBusy connection.now.settings caller.new.front (has self.new) result }
+        ensures arrived { result ≡ Brought.Noted →
+            HasArrived self.old.conn caller.old caller.new.front }
+        ensures emptied { IfDone result (IsEmptied (has self.new)) }
+        ensures some { HasWaiting (has self.old) → result ≢ Brought.Nothing }
+        ensures conn { self.new.conn ≡ self.old.conn }
+        ensures max_in { self.new.incoming.max_in ≡ self.old.incoming.max_in }
+        ensures left { self.new.outgoing ≡ self.old.outgoing }
+    {
+        let mut noted = false;
+        for _ in rt.forever() {
+            let brought = self.hear(rt, connection, caller);
+            if brought != Brought::Noted {
+                return after_some(noted, brought);
+            }
+            noted = true;
+        }
+        unreachable!()
+    }
+
+    // Draws, where no drawn byte is left.
+    fn draw_some<T: Tape, R: Wait>(
+        &mut self,
+        rt: &R,
+        connection: &Connection<T>,
+        caller: &mut Caller<T>,
+    ) -> Brought
+        requires of { caller.old.of ≡ connection.now }
+        ensures same { caller.new ≡ record caller.old {
+          front = caller.new.front;
+          note = caller.new.note;
+        } }
+        ensures kept { (s : Shown) → IsKept caller.old s (has self.old)
+            → IsKept caller.new s (has self.new) }
+        ensures draw { DrawsWhere (is_empty self.old.outgoing) connection.now.settings caller.old
+            self.old.conn self.old.outgoing self.new.outgoing caller.new.front }
+        ensures cause { BroughtFor (Names self.old.conn) connection.now.settings
+            caller.old.front caller.new.front result }
+        ensures rest { self.new ≡ record self.old { outgoing = self.new.outgoing } }
+    {
+        if self.outgoing.len() != 0 {
+            return Brought::Nothing;
+        }
+        self.outgoing.draw(rt, connection, caller, self.conn)
+    }
+
+    /// Ticks, and then draws where no drawn byte is left.
+    pub(crate) fn begin<T: Tape, K: Clock, R: Wait>(
+        &mut self,
+        rt: &R,
+        connection: &Connection<T>,
+        caller: &mut Caller<T>,
+        clock: &K,
+    ) -> Brought
+        requires of { caller.old.of ≡ connection.now }
+        ensures same { caller.new ≡ record caller.old {
+          front = caller.new.front;
+          note = caller.new.note;
+        } }
+        ensures kept { (s : Shown) → IsKept caller.old s (has self.old)
+            → IsKept caller.new s (has self.new) }
+        ensures begins { Begins connection.now.settings (K.moments clock.now) caller.old
+            self.old.conn self.old.outgoing self.new.outgoing caller.new.front }
+        ensures cause { BroughtFor (IsPumped (K.moments clock.now) self.old.conn)
+            connection.now.settings caller.old.front caller.new.front result }
+        ensures rest { self.new ≡ record self.old { outgoing = self.new.outgoing } }
+    {
+        let ticked = tick(rt, connection, caller, clock);
+        if is_ended(ticked) {
+            return ticked;
+        }
+        self.draw_some(rt, connection, caller)
+    }
+}
