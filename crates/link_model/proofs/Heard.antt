@@ -1,5 +1,5 @@
 -- All that was taken has come.
-use Rattle.std.proofs.Common.{◌≡◌, ◌∙◌, ◌⊎◌, inl, inr, ℕ, List, Option, Some, None, IfSome, is_some, true≢false, refl, sym, ap, subst}
+use Rattle.std.proofs.Common.{◌≡◌, ◌∙◌, inl, inr, ℕ, List, Option, Some, None, is_some, true≢false, refl, sym, ap, subst}
 use Rattle.rs_wire.specs.declared.settings.Settings.{Settings}
 use Rattle.outside.specs.Links.{Shown}
 use Rattle.tape.specs.declared.entry.Entry.{Entry}

@@ -1,6 +1,6 @@
 -- What is kept when an entry is added, and when bytes move.
 use Rattle.std.proofs.lemmas.Bool.Decides.{nat_tests}
-use Rattle.std.proofs.Common.{◌≡◌, ◌≤◌, ◌<◌, ◌+◌, ◌-◌, ◌==◌, ◌∙◌, ℕ, Bool, true, false, List, [], ◌∷◌, ◌++◌, length, take, drop, Option, Some, None, IfSome, is_some, true≢false, refl, sym, ap, subst, arith, append-nil, append_assoc}
+use Rattle.std.proofs.Common.{◌≡◌, ◌≤◌, ◌+◌, ◌==◌, ◌∙◌, ℕ, true, false, List, [], ◌∷◌, ◌++◌, length, take, Option, Some, None, IfSome, is_some, true≢false, refl, sym, ap, subst, arith, append-nil, append_assoc}
 use Rattle.std.proofs.Math.Seq.{take-add}
 use Rattle.std.proofs.lemmas.List.{length-append, take-append-le, length-take-le}
 use Rattle.std.specs.Io.KnownBytes.{append_known}
@@ -12,7 +12,6 @@ use Rattle.rs_chunk.specs.Stream.{IsCut, first_frame}
 use Rattle.outside.specs.Links.{Shown}
 use Rattle.tape.specs.Told.{entry_of}
 use Rattle.tape.specs.declared.entry.Entry.{Entry}
-use Rattle.tape.specs.declared.event.Event.{Event}
 use Rattle.tape.specs.declared.event.Event.TheVariants as event
 use Rattle.tape.specs.declared.answer.Answer.{Answer}
 use Rattle.tape.specs.declared.answer.Answer.TheVariants as answer

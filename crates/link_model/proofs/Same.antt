@@ -1,6 +1,6 @@
 -- What an entry changes of a connection, and what it leaves.
 use Rattle.std.proofs.lemmas.Bool.Decides.{nat_tests}
-use Rattle.std.proofs.Common.{◌≡◌, ◌≤◌, ◌<◌, ◌+◌, ◌-◌, ◌==◌, ◌∙◌, ℕ, Bool, true, false, List, [], ◌∷◌, ◌++◌, length, Option, Some, None, refl, sym, ap, subst, arith, append-nil}
+use Rattle.std.proofs.Common.{◌≡◌, ◌≤◌, ◌+◌, ◌-◌, ◌==◌, ◌∙◌, ℕ, true, false, List, [], ◌∷◌, ◌++◌, length, Option, Some, None, refl, sym, ap, subst, arith, append-nil}
 use Rattle.rs_wire.specs.declared.settings.Settings.{Settings}
 use Rattle.rs_frame.specs.declared.frame.Frame.{Frame}
 use Rattle.rs_frame.specs.Framed.{framed_all}
@@ -11,7 +11,7 @@ use Rattle.tape.specs.declared.event.Event.TheVariants as event
 use Rattle.tape.specs.declared.answer.Answer.{Answer}
 use Rattle.tape.specs.declared.answer.Answer.TheVariants as answer
 use Rattle.session_model.specs.Lists.{first_of}
-use Rattle.session_model.specs.Life.{live, openings, openings_in}
+use Rattle.session_model.specs.Life.{live, openings}
 use Rattle.session_model.specs.Frames.{bad_in, brings, came, drawn, draws, due, first_bad, owes, queued, was_opened}
 use Rattle.session_model.specs.Answers.{facts, answer_to}
 use Rattle.session_model.specs.Means.{Means}

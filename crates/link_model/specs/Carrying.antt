@@ -1,5 +1,5 @@
 -- What holds between a link, the entries of a session, and whoever moves bytes between the two. Entries stand newest first.
-use Rattle.std.specs.Prelude.{◌≡◌, ◌≤◌, ℕ, Bool, true, false, ◌==◌, List, [], length, Option, None, IfSome, is_some}
+use Rattle.std.specs.Prelude.{◌≡◌, ◌≤◌, ℕ, Bool, true, false, ◌==◌, List, [], length, None, IfSome, is_some}
 use Rattle.std.specs.List.{AllByRecursion}
 use Rattle.rs_wire.specs.declared.settings.Settings.{Settings}
 use Rattle.rs_frame.specs.Framed.{framed_all}

@@ -1,6 +1,6 @@
 -- A draw, and what is kept over it.
 use Rattle.std.proofs.lemmas.Bool.Decides.{nat_tests}
-use Rattle.std.proofs.Common.{◌≡◌, ◌≤◌, ◌+◌, ◌∙◌, ◌==◌, arith, ℕ, Bool, true, false, List, [], ◌∷◌, drop, take, length, refl, sym, ap, subst}
+use Rattle.std.proofs.Common.{◌≡◌, ◌≤◌, ◌+◌, ◌∙◌, arith, ℕ, true, false, List, [], ◌∷◌, drop, take, length, refl, sym, ap, subst}
 use Rattle.rs_wire.specs.declared.settings.Settings.{Settings}
 use Rattle.rs_frame.specs.Framed.{framed_all}
 use Rattle.outside.specs.Links.{Shown}
@@ -18,11 +18,9 @@ use Rattle.link_model.specs.Carrying.{Between, Keeps}
 use Rattle.link_model.specs.Giving.{count_drawn, next_drawn}
 use Rattle.link_model.proofs.Kept.{keeps_draw}
 use Rattle.link_model.proofs.Same.{drawable}
-use Rattle.pump.specs.declared.inner.Inner.{Inner}
 use Rattle.pump.specs.declared.bringing.Brought.{Brought}
-use Rattle.pump.specs.declared.bringing.Brought.TheVariants as brings
 use Rattle.pump.specs.declared.numbers.TheConstants.{PIECE}
-use Rattle.pump.specs.Turns.{HasBrought, HasDrawn, HasDrawnSo, IsKept, Names, brought_by, has, is_empty, leaves_by}
+use Rattle.pump.specs.Turns.{HasBrought, HasDrawnSo, IsKept, Names, is_empty, leaves_by}
 use Rattle.pump.proofs.Adding.{IsOn}
 use Rattle.pump.proofs.Events.{leaves_is}
 use Rattle.pump.proofs.Keeping.{kept_entry, kept_no_entry}

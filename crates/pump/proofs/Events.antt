@@ -1,5 +1,5 @@
 -- What one event comes to, and why.
-use Rattle.std.proofs.Common.{◌≡◌, ◌≤◌, ◌<◌, ◌+◌, ◌^◌, ◌∙◌, ◌⊎◌, inl, inr, ℕ, Bool, true, false, cond, List, ◌∷◌, ◌++◌, length, Option, refl, sym, ap, subst, arith, true≢false}
+use Rattle.std.proofs.Common.{◌≡◌, ◌≤◌, ◌^◌, ◌∙◌, inl, inr, ℕ, Bool, true, false, cond, List, ◌∷◌, length, Option, refl, sym, ap, subst, arith, true≢false}
 use Rattle.std.proofs.lemmas.List.{length-append}
 use Rattle.std.proofs.lemmas.Bool.Decides.{nat_tests}
 use Rattle.rs_wire.specs.declared.settings.Settings.{Settings}
@@ -11,17 +11,17 @@ use Rattle.tape.specs.declared.event.Event.TheVariants as event
 use Rattle.tape.specs.declared.answer.Answer.{Answer}
 use Rattle.tape.specs.declared.answer.Answer.TheVariants as answer
 use Rattle.session_model.specs.Answers.{answer_to, facts}
-use Rattle.session_model.specs.Legal.{CanBring, IsFair}
+use Rattle.session_model.specs.Legal.{CanBring}
 use Rattle.session_model.specs.Means.{Means}
 use Rattle.session_model.proofs.Meaning.{meaning}
 use Rattle.session_core.specs.Seen.{IsNoDrawEvent, IsUnlessWant}
 use Rattle.conn_shared.specs.Calls.{IsCalled}
-use Rattle.conn_shared.specs.Members.{Continues, Follows, Knowledge}
-use Rattle.link_model.specs.Carrying.{Between, is_of}
+use Rattle.conn_shared.specs.Members.{Continues, Knowledge}
+use Rattle.link_model.specs.Carrying.{Between}
 use Rattle.link_model.specs.Reading.{IsInFront}
 use Rattle.pump.specs.declared.bringing.Brought.{Brought}
 use Rattle.pump.specs.declared.bringing.Brought.TheVariants as brings
-use Rattle.pump.specs.Turns.{Arrives, BroughtFor, HasArrived, HasBrought, IfBusy, IfDone, IsBusy, IsPumped, Names, Ticks, WasAnswered, after_some, brought_by, leaves_by}
+use Rattle.pump.specs.Turns.{Arrives, BroughtFor, HasArrived, HasBrought, IfBusy, IfDone, IsPumped, Names, Ticks, WasAnswered, after_some, brought_by, leaves_by}
 use Rattle.pump.proofs.Adding.{called_continues, continues_both, continues_same}
 
 pub leaves_is : (a : Answer) → leaves a ≡ leaves_by (brought_by a)

@@ -17,7 +17,7 @@ use Rattle.link_model.proofs.Kept.{keeps_other}
 use Rattle.pump.specs.declared.inner.Inner.{Inner}
 use Rattle.pump.specs.declared.bringing.Brought.{Brought}
 use Rattle.pump.specs.Moves.{Comes, all_of}
-use Rattle.pump.specs.Turns.{HasBrought, IsKept, MovesAlone, Steps, brought_by, has, leaves_by}
+use Rattle.pump.specs.Turns.{HasBrought, IsKept, Steps, brought_by, has, leaves_by}
 use Rattle.pump.proofs.Adding.{IsOn, all_split}
 use Rattle.pump.proofs.Events.{leaves_is}
 

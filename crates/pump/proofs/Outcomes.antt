@@ -1,12 +1,10 @@
 -- Why a turn came out as it did, from what its parts said.
-use Rattle.std.proofs.Common.{◌≡◌, ◌∙◌, ◌≤◌, ◌<◌, ◌+◌, ◌^◌, ◌⊎◌, inl, inr, ℕ, Bool, true, false, List, [], ◌∷◌, ◌++◌, length, Option, Some, None, refl, sym, ap, subst, arith, append-nil, true≢false}
+use Rattle.std.proofs.Common.{◌≡◌, ◌∙◌, ◌≤◌, ◌<◌, ◌+◌, ◌⊎◌, inl, inr, ℕ, true, false, List, [], length, Option, Some, None, refl, sym, ap, subst, arith, append-nil, true≢false}
 use Rattle.std.specs.Io.KnownBytes.{append_known}
 use Rattle.rs_wire.specs.declared.settings.Settings.{Settings}
 use Rattle.outside.specs.Causes.{Rose}
 use Rattle.outside.specs.Links.{Counts, NoneFell, Shown}
 use Rattle.tape.specs.declared.entry.Entry.{Entry}
-use Rattle.tape.specs.declared.event.Event.{Event}
-use Rattle.tape.specs.declared.event.Event.TheVariants as event
 use Rattle.tape.specs.declared.answer.Answer.TheVariants as answer
 use Rattle.session_model.specs.Frames.{queued}
 use Rattle.session_model.specs.Life.{closed}
@@ -22,9 +20,9 @@ use Rattle.pump.specs.declared.incoming.Took.TheVariants as tooks
 use Rattle.pump.specs.declared.turned.Turned.{Turned}
 use Rattle.pump.specs.declared.turned.Turned.TheVariants as turned
 use Rattle.pump.specs.Moves.{HasGave, HasTook, IsGrown, given_in, taken_in}
-use Rattle.pump.specs.Turns.{BroughtFor, HasArrived, HasLulled, IfBusy, IfDone, IsBusy, IsEmptied, IsPumped, IsReadOut, Names, RanFor, SomeMoved, SumsUp, Ticks, TurnedFor, WasAnswered, WasBusy, ended_by, is_early, is_fine, is_last, lulls_in}
+use Rattle.pump.specs.Turns.{BroughtFor, HasArrived, HasLulled, IfBusy, IfDone, IsEmptied, IsPumped, IsReadOut, Names, RanFor, SomeMoved, SumsUp, Ticks, TurnedFor, WasBusy, ended_by, is_early, is_fine, is_last, lulls_in}
 use Rattle.pump.proofs.Adding.{continues_both, continues_same}
-use Rattle.pump.proofs.Events.{arrived_wider, brought_wider, dead_ticks, longer_still, stale_names, was_wider}
+use Rattle.pump.proofs.Events.{arrived_wider, dead_ticks, longer_still, stale_names, was_wider}
 use Rattle.pump.proofs.Drawing.{none_left}
 
 -- ---- bytes and counts

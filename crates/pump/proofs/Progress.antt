@@ -1,7 +1,6 @@
 -- What has moved in a turn.
-use Rattle.std.proofs.Common.{◌≡◌, ◌∙◌, ◌≤◌, ◌<◌, ◌+◌, ◌-◌, ◌^◌, ◌⊎◌, inl, inr, ℕ, Bool, true, false, List, [], ◌++◌, length, Option, Some, None, is_some, refl, sym, ap, subst, arith, true≢false}
+use Rattle.std.proofs.Common.{◌≡◌, ◌∙◌, ◌<◌, ◌+◌, ◌⊎◌, inl, inr, ℕ, true, List, [], Option, Some, None, is_some, refl, sym, ap, subst, arith, true≢false}
 use Rattle.std.proofs.lemmas.List.{length-append}
-use Rattle.std.specs.Io.KnownBytes.{append_known}
 use Rattle.outside.specs.Causes.{Rose}
 use Rattle.outside.specs.Links.{NoneFell, Shown}
 use Rattle.link_model.specs.Carrying.{Between}
@@ -9,8 +8,8 @@ use Rattle.pump.specs.declared.outgoing.Gave.{Gave}
 use Rattle.pump.specs.declared.outgoing.Gave.TheVariants as gaves
 use Rattle.pump.specs.declared.incoming.Took.{Took}
 use Rattle.pump.specs.declared.incoming.Took.TheVariants as tooks
-use Rattle.pump.specs.Moves.{HasGave, HasTook, IsGrown, given_in, taken_in}
-use Rattle.pump.specs.Turns.{HadOnlyFrames, HasMoved, HasWaiting, is_fine, length_shown, moved}
+use Rattle.pump.specs.Moves.{HasGave, HasTook, IsGrown, given_in}
+use Rattle.pump.specs.Turns.{HadOnlyFrames, HasMoved, HasWaiting, is_fine, length_shown}
 use Rattle.pump.proofs.Outcomes.{gave_grown, none_fell_both, rose_from, took_grown}
 
 grown_length : (n : ℕ) (old new : Option (List ℕ)) → is_some old ≡ true → IsGrown n old new → length_shown new ≡ length_shown old + n

@@ -1,18 +1,18 @@
 -- All that was taken has come, as far as it can.
-use Rattle.std.proofs.Common.{◌≡◌, ◌<◌, ◌+◌, ◌∙◌, ◌⊎◌, inl, inr, ℕ, Bool, true, false, true≢false, List, [], ◌∷◌, ◌++◌, Option, None, is_some, refl, sym, ap, subst, arith}
+use Rattle.std.proofs.Common.{◌≡◌, ◌<◌, ◌+◌, ◌∙◌, inl, inr, ℕ, true, true≢false, List, [], ◌∷◌, ◌++◌, is_some, refl, sym, ap, subst, arith}
 use Rattle.rs_wire.specs.declared.settings.Settings.{Settings}
 use Rattle.outside.specs.Links.{Shown}
 use Rattle.tape.specs.declared.entry.Entry.{Entry}
-use Rattle.session_model.specs.Frames.{came, first_bad, was_opened}
+use Rattle.session_model.specs.Frames.{came, was_opened}
 use Rattle.conn_lock.specs.Callers.{IsOthers, calls, once, times}
 use Rattle.conn_shared.specs.Lines.{who_of}
-use Rattle.conn_shared.specs.Members.{Continues, Follows, Knowledge}
-use Rattle.link_model.specs.Carrying.{Between, IsAlone, Keeps, is_of}
+use Rattle.conn_shared.specs.Members.{Follows, Knowledge}
+use Rattle.link_model.specs.Carrying.{Between, IsAlone, Keeps}
 use Rattle.link_model.specs.Leaving.{ComesInTime, Heard, IsHeldBack, IsReadOut as HasReadOut}
 use Rattle.link_model.specs.Reading.{IsInFront, IsPart}
 use Rattle.link_model.proofs.Heard.{keeps_heard}
 use Rattle.link_model.proofs.Same.{came_other, opened_on}
-use Rattle.pump.specs.Turns.{IsEmptied, IsKept, IsReadOut, MovesAlone, WasBusy}
+use Rattle.pump.specs.Turns.{IsKept, IsReadOut, MovesAlone, WasBusy}
 use Rattle.pump.proofs.Adding.{IsOn}
 use Rattle.pump.proofs.Keeping.{other_not}
 

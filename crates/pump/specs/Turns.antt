@@ -4,7 +4,6 @@ use Rattle.std.specs.List.{AllByRecursion}
 use Rattle.rs_wire.specs.declared.settings.Settings.{Settings}
 use Rattle.outside.specs.Causes.{Rose}
 use Rattle.outside.specs.Links.{Shown}
-use Rattle.tape.specs.Answers.{leaves}
 use Rattle.tape.specs.declared.event.Event.{Event}
 use Rattle.tape.specs.declared.event.Event.TheVariants as event
 use Rattle.tape.specs.declared.answer.Answer.{Answer}
@@ -18,7 +17,7 @@ use Rattle.conn_shared.specs.declared.looked.Looked.{Looked}
 use Rattle.conn_shared.specs.Calls.{IsCalled}
 use Rattle.conn_shared.specs.Members.{Continues, Follows, Knowledge}
 use Rattle.link_model.specs.Carrying.{Between, IsAlone, Keeps, is_of}
-use Rattle.link_model.specs.Giving.{count_drawn, next_drawn}
+use Rattle.link_model.specs.Giving.{next_drawn}
 use Rattle.link_model.specs.Reading.{IsInFront, IsPart, IsWaiting}
 use Rattle.pump.specs.declared.inner.Inner.{Inner}
 use Rattle.pump.specs.declared.bringing.Brought.{Brought}

@@ -1,9 +1,8 @@
-use Rattle.std.proofs.Common.{rules, ◌≡◌, ◌∙◌, ◌&&◌, inl, inr, true, false, not, ℕ, List, None, ap, sym, subst, refl}
+use Rattle.std.proofs.Common.{rules, ◌≡◌, ◌∙◌, ◌&&◌, inl, inr, true, false, not, None, ap, sym, subst, refl}
 use Rattle.tape.specs.declared.event.Event.TheVariants as event
-use Rattle.tape.specs.declared.answer.Answer.{Answer}
-use Rattle.conn_shared.specs.Members.{Knowledge, SharedId}
-use Rattle.pump.specs.Turns.{DrawsWhere, IsPumped, Names, Ticks, goes_on_after, has, is_empty, is_ended}
-use Rattle.pump.proofs.Adding.{continues_same, follows_continues, goes_called, goes_continues}
+use Rattle.conn_shared.specs.Members.{Knowledge}
+use Rattle.pump.specs.Turns.{DrawsWhere, IsPumped, Names, goes_on_after, has, is_empty, is_ended}
+use Rattle.pump.proofs.Adding.{continues_same, goes_called, goes_continues}
 use Rattle.pump.proofs.Events.{brought_for, brought_wider}
 use Rattle.pump.proofs.Keeping.{kept_other}
 use Rattle.pump.proofs.inner.Inner.begin.Goals as goal

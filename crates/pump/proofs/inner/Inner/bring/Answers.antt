@@ -1,10 +1,8 @@
-use Rattle.std.proofs.Common.{rules, ◌≡◌, ◌∙◌, false, true, ap, sym, subst}
+use Rattle.std.proofs.Common.{rules, ap}
 use Rattle.conn_shared.specs.Members.{SharedId}
-use Rattle.link_model.specs.Reading.{IsInFront}
-use Rattle.pump.specs.Moves.{all_of}
 use Rattle.pump.specs.Turns.{Arrives, Names, has}
 use Rattle.pump.proofs.Adding.{goes_called}
-use Rattle.pump.proofs.Events.{arrived, arrives_names, arrives_some, brought_for, busy_by, busy_none, front_arrives, front_fair, front_no_draw}
+use Rattle.pump.proofs.Events.{arrived, arrives_names, arrives_some, brought_for, busy_by, busy_none, front_arrives}
 use Rattle.pump.proofs.Keeping.{kept_no_entry, kept_steps}
 use Rattle.pump.proofs.Settled.{front_all}
 use Rattle.pump.proofs.inner.Inner.bring.Goals as goal

@@ -1,11 +1,11 @@
 use Rattle.std.proofs.lemmas.Bool.Decides.{nat_tests}
-use Rattle.std.proofs.Common.{rules, ◌≡◌, ◌∙◌, arith, length, true, false, ℕ, List, ap, sym, subst, refl}
+use Rattle.std.proofs.Common.{rules, ◌≡◌, arith, length, ap, sym, subst}
 use Rattle.tape.specs.declared.event.Event.TheVariants as event
 use Rattle.conn_shared.specs.Members.{SharedId}
 use Rattle.pump.specs.declared.numbers.TheConstants.{PIECE}
-use Rattle.pump.specs.Turns.{DrawsWhere, Names, has, is_empty}
+use Rattle.pump.specs.Turns.{DrawsWhere, Names, has}
 use Rattle.pump.proofs.Events.{brought_for}
-use Rattle.pump.proofs.Drawing.{brought_draw, is_empty_by, is_some_by, kept_draw, names_draw, none_left}
+use Rattle.pump.proofs.Drawing.{brought_draw, is_empty_by, kept_draw, names_draw, none_left}
 use Rattle.pump.proofs.inner.Inner.draw_some.Goals as goal
 
 pub returns-clause-draw : goal.returns-clause-draw

@@ -1,4 +1,3 @@
-use Rattle.std.proofs.Common.{rules, ◌≡◌, subst}
 use Rattle.pump.proofs.Keeping.{fed_still}
 use Rattle.pump.proofs.inner.Inner.hear.Goals as goal
 

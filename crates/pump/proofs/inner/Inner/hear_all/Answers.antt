@@ -1,6 +1,6 @@
-use Rattle.std.proofs.Common.{rules, ◌≡◌, ◌∙◌, List, ℕ, true, false, true≢false, ap, sym, subst, refl}
-use Rattle.pump.specs.Turns.{Arrives, BroughtFor, GoesOn, HasArrived, HasWaiting, IfBusy, IfDone, IsEmptied, Names, has}
-use Rattle.pump.proofs.Adding.{continues_same, goes_both, goes_continues, goes_none, on_both}
+use Rattle.std.proofs.Common.{rules, ◌≡◌, ◌∙◌, true, true≢false, ap, sym, subst, refl}
+use Rattle.pump.specs.Turns.{Arrives, BroughtFor, GoesOn, HasArrived, IfBusy, IfDone, IsEmptied, Names, has}
+use Rattle.pump.proofs.Adding.{continues_same, goes_both, goes_continues, on_both}
 use Rattle.pump.proofs.Events.{arrived_wider, brought_wider, busy_after, done_after, for_after, noted_after, nothing_after}
 use Rattle.conn_shared.specs.Members.{Knowledge}
 use Rattle.pump.proofs.inner.Inner.hear_all.Goals as goal

@@ -1,7 +1,7 @@
-use Rattle.std.proofs.Common.{rules, ◌≡◌, ◌∙◌, ◌≤◌, ◌+◌, List, ℕ, ap, sym, subst, refl, arith}
+use Rattle.std.proofs.Common.{rules, ◌≡◌, ◌∙◌, ◌≤◌, ◌+◌, ap, subst, arith}
 use Rattle.conn_shared.specs.Members.{Knowledge}
 use Rattle.pump.specs.declared.turned.Turned.TheVariants as turned
-use Rattle.pump.specs.Turns.{GoesOn, IsPumped, IsReadOut, TurnedFor, has, is_early, lulls_in}
+use Rattle.pump.specs.Turns.{GoesOn, IsPumped, has, is_early, lulls_in}
 use Rattle.pump.proofs.Adding.{goes_both, goes_continues, on_both}
 use Rattle.pump.proofs.Going.{turn_goes}
 use Rattle.pump.proofs.Outcomes.{lulled_more, none_fell_both, ran_for, read_wider}

@@ -1,5 +1,4 @@
-use Rattle.std.proofs.Common.{rules, ◌≡◌, true, ap, sym, subst}
-use Rattle.tape.specs.declared.event.Event.TheVariants as event
+use Rattle.std.proofs.Common.{true, sym, subst}
 use Rattle.link_model.specs.Reading.{IsInFront}
 use Rattle.pump.specs.Turns.{Steps}
 use Rattle.pump.proofs.Settled.{settle_bad, settle_came}

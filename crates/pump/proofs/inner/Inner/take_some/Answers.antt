@@ -1,9 +1,8 @@
-use Rattle.std.proofs.Common.{rules, ◌≡◌, ◌∙◌, inl, inr, true, false, true≢false, ap, sym, subst}
+use Rattle.std.proofs.Common.{◌∙◌, true≢false, sym, subst}
 use Rattle.link_model.specs.Carrying.{Keeps}
 use Rattle.link_model.proofs.Kept.{keeps_take}
 use Rattle.pump.specs.Moves.{all_of}
 use Rattle.pump.specs.Turns.{has}
-use Rattle.pump.proofs.Settled.{waiting_all}
 use Rattle.pump.proofs.inner.Inner.take_some.Goals as goal
 
 pub returns-then-self-clause-kept : goal.returns-then-self-clause-kept

@@ -1,21 +1,17 @@
-use Rattle.std.proofs.Common.{rules, ◌≡◌, ◌∙◌, ◌⊎◌, inl, inr, List, ℕ, true, false, true≢false, None, ap, sym, subst, refl}
-use Rattle.tape.specs.declared.entry.Entry.{Entry}
+use Rattle.std.proofs.Common.{rules, ◌≡◌, ◌∙◌, ◌⊎◌, inl, inr, true≢false, None, sym, subst}
 use Rattle.conn_shared.specs.Members.{Continues, Follows, Knowledge}
-use Rattle.outside.specs.Links.{Shown}
-use Rattle.link_model.specs.Carrying.{Between}
 use Rattle.link_model.specs.Reading.{IsWaiting}
 use Rattle.pump.specs.declared.inner.Inner.{Inner}
 use Rattle.pump.specs.declared.bringing.Brought.{Brought}
 use Rattle.pump.specs.declared.bringing.Brought.TheVariants as brings
 use Rattle.pump.specs.declared.outgoing.Gave.{Gave}
 use Rattle.pump.specs.Moves.{Comes, all_of}
-use Rattle.pump.specs.Turns.{Arrives, BroughtFor, GoesOn, HasArrived, HasWaiting, IsKept, IsPumped, IsTurn, Names, has}
+use Rattle.pump.specs.Turns.{Arrives, BroughtFor, GoesOn, HasArrived, HasWaiting, IsPumped, Names, has}
 use Rattle.pump.specs.declared.outgoing.Gave.TheVariants as gaves
-use Rattle.pump.specs.declared.incoming.Took.TheVariants as tooks
 use Rattle.pump.proofs.Adding.{IsOn, continues_both, goes_both, goes_continues, goes_follows, goes_none, on_both}
 use Rattle.pump.proofs.Keeping.{kept_follows, kept_moved}
 use Rattle.pump.proofs.Going.{begun_on}
-use Rattle.pump.proofs.Outcomes.{Parts, began_for, ended_early, ended_last, none_fell, none_fell_both, read_out, turned_for}
+use Rattle.pump.proofs.Outcomes.{began_for, ended_early, ended_last, none_fell, none_fell_both, read_out, turned_for}
 use Rattle.pump.proofs.Progress.{progress}
 use Rattle.pump.proofs.inner.Inner.turn.Goals as goal
 
