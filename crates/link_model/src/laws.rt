@@ -31,8 +31,8 @@ pub fn kept_links()
         is_of b.conn x.event ≡ false → Keeps g past link b → Keeps g (x ∷ past) link b }
 {}
 
-/// All that was taken has come where what is left is a part of a frame, where bytes came that are no
-/// frame, or where the next frame finds no room in the queue.
+/// All that was taken has come where what is left is a part of a frame, where bytes came that are
+/// no frame, or where the next frame finds no room in the queue.
 pub fn heard_links()
     ensures { (g : Settings) (past : List Entry) (link : Shown) (b : Between) →
         Keeps g past link b → ComesInTime g past b.conn →

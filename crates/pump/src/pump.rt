@@ -15,9 +15,9 @@ use std::marker::Model;
 use std::sync::Wait;
 use tape::Tape;
 
-/// Moves bytes between a link and one connection of a session. Contracts see what stands between the
-/// two: the number of the connection, the bytes drawn and not given, the bytes taken that did not
-/// come, how long a frame may be, and whether bytes came that are no frame.
+/// Moves bytes between a link and one connection of a session. Contracts see what stands between
+/// the two: the number of the connection, the bytes drawn and not given, the bytes taken that did
+/// not come, how long a frame may be, and whether bytes came that are no frame.
 ///
 /// ```text
 ///               +-------------------- Pump --------------------+
@@ -44,9 +44,9 @@ impl Model for Pump {
 }
 
 impl Pump {
-    /// A pump for the connection of this number. The reader has what was taken from the link and did
-    /// not come, and as its limit the `max_in` of the connection. The two buffers of a pump, of 16,384
-    /// bytes each, are made here.
+    /// A pump for the connection of this number. The reader has what was taken from the link and
+    /// did not come, and as its limit the `max_in` of the connection. The two buffers of a pump, of
+    /// 16,384 bytes each, are made here.
     pub fn new(alloc: Global, conn: u64, reader: Reader) -> Result<Pump, OutOfMemory>
         requires { reader.max_in < 2 ^ 24 }
         ensures { IfOk result (λ p. p ≡ record {
@@ -69,15 +69,15 @@ impl Pump {
         self.inner.outgoing.len()
     }
 
-    /// One turn. In this order it ticks; draws at most 16,384 bytes where no drawn byte is left; gives;
-    /// takes at most 16,384 bytes where no frame waits; and brings the whole frames. It waits for turns
-    /// at the connection, and as long as a call of the link does.
+    /// One turn. In this order it ticks; draws at most 16,384 bytes where no drawn byte is left;
+    /// gives; takes at most 16,384 bytes where no frame waits; and brings the whole frames. It
+    /// waits for turns at the connection, and as long as a call of the link does.
     ///
     /// It ends at once at `Displaced`, `Dead`, `TapeFull` and `OutOfMemory`; after `OutOfMemory` no
-    /// byte is lost either. A give that fails ends what the turn does with the link; the frames that
-    /// were taken still come before `LinkFault` and `End`. Once bytes came that are no frame, what is
-    /// taken is dropped. Of what else holds at the end, `Over` comes before `Busy`, that before
-    /// `Moved`, and that before `Lull`.
+    /// byte is lost either. A give that fails ends what the turn does with the link; the frames
+    /// that were taken still come before `LinkFault` and `End`. Once bytes came that are no frame,
+    /// what is taken is dropped. Of what else holds at the end, `Over` comes before `Busy`, that
+    /// before `Moved`, and that before `Lull`.
     pub fn turn<T: Tape, L: Link, K: Clock, R: Wait>(
         &mut self,
         rt: &R,

@@ -10,8 +10,8 @@ use crate::outgoing::Gave;
 use conn::Looked;
 use rs_wire::Cause;
 
-/// What a turn of a pump came to. After `Moved`, `Busy` and `Lull` the pump goes on; after any other
-/// it is not used again.
+/// What a turn of a pump came to. After `Moved`, `Busy` and `Lull` the pump goes on; after any
+/// other it is not used again.
 #[derive(Clone, Copy, Debug, PartialEq, Eq)]
 pub enum Turned {
     /// Bytes moved, or a frame came that had waited.
@@ -21,7 +21,8 @@ pub enum Turned {
         /// How many bytes were taken, at most 16,384.
         taken: u32,
     },
-    /// A frame, or a length above the limit, waits in front until fewer bytes than these are queued.
+    /// A frame, or a length above the limit, waits in front until fewer bytes than these are
+    /// queued.
     Busy(u64),
     /// The session is closed for this cause, and all its bytes are given.
     Over(Cause),
@@ -98,8 +99,8 @@ fn over_by(looked: Looked, left: usize) -> Option<Turned>
     }
 }
 
-/// What the parts of a turn come to, in this order: an end at once, a broken link, a session that is
-/// over, a frame that waits, what moved.
+/// What the parts of a turn come to, in this order: an end at once, a broken link, a session that
+/// is over, a frame that waits, what moved.
 pub(crate) fn sum_up(gave: Gave, took: Took, heard: Brought, looked: Looked, left: usize) -> Turned
     ensures sum { SumsUp gave took heard looked left result }
     ensures fine { is_last result ≡ false → is_fine gave took ≡ true }
