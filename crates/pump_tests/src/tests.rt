@@ -1,5 +1,0 @@
-//! What a turn of a pump comes to.
-
-mod ends;
-mod gives;
-mod results;
