@@ -20,9 +20,11 @@ use Rattle.workers.specs.declared.outcome.Outcome.TheVariants as outcome
 use Rattle.workers.specs.declared.outcome.Taken.{Taken}
 use Rattle.workers.specs.declared.outcome.Taken.TheVariants as taken
 use Rattle.workers.specs.Replies.{law_of}
-use Rattle.workers.specs.Courses.{Course, after_call, after_reply, after_take, course}
+use Rattle.workers.specs.Courses.{Course, GoesOn, IsOfJob, IsReplyOn, accepted_of, is_done, after_call, after_reply, after_take, course}
 use Rattle.workers.specs.Serving.{IsFinal, IsFinalTake, IsGone, IsServed, Stands}
-use Rattle.workers.specs.Going.{Awaits, HasGone, IsOfReply, IsOfTake, IsReplyOn, IsSameJob, MayAnswer, left_after, left_with, outcome_of, plan_of, taken_of, told}
+use Rattle.workers.specs.Going.{Awaits, HasGone, HasWorked, IsHindered, IsHindrance, IsStoppedBy, WasAnswered, IsOfReply, IsOfTake, IsSameJob, MayAnswer, left_after, left_with, outcome_of, plan_of, taken_of, told}
+use Rattle.rs_wire.specs.declared.settings.Settings.{Settings}
+use Rattle.workers.proofs.Calling.{goes_both, goes_none, goes_weaker}
 use Rattle.workers.proofs.Plans.{after_apart, after_said, other_test, same_test}
 use Rattle.workers.proofs.Standing.{full_for_good, nothing_said, said_for_good, said_in_vain, said_last, said_more, skipped, took_end, took_in_vain, took_item, took_no_more}
 
@@ -137,3 +139,156 @@ pub gone_took : (names : List ℕ) (routes : List Listed) (old new : List Entry)
 gone_took names routes old new j a w may tells longer full =
     gone_by names routes old new j _ (call.Take j.stream) a tells longer (λ q c differs. take_apart j.stream q a c differs)
     (λ c s. took routes (length new) c j a w may full s)
+
+-- ---- how many replies, and why no more
+
+pub is_of_job : (s : ℕ) (asked : Call) → IsReplyOn s asked → IsOfJob s asked
+is_of_job s (call.Next q message complete) on = on
+is_of_job s (call.Done q) on = on
+is_of_job s (call.Fail q code content) on = on
+is_of_job s (call.Take q) on = absurd on
+is_of_job s call.TakeJob on = absurd on
+is_of_job s (call.Request k initial message complete) on = absurd on
+is_of_job s (call.Grant q n) on = absurd on
+is_of_job s (call.Cancel q) on = absurd on
+is_of_job s (call.Push metadata) on = absurd on
+is_of_job s (call.Lease ttl count metadata) on = absurd on
+is_of_job s call.Close on = absurd on
+
+done_count : (s : ℕ) (asked : Call) → IsReplyOn s asked → length (accepted_of asked answer.Done) ≡ 1
+done_count s (call.Next q message complete) on = refl
+done_count s (call.Done q) on = refl
+done_count s (call.Fail q code content) on = refl
+done_count s (call.Take q) on = absurd on
+done_count s call.TakeJob on = absurd on
+done_count s (call.Request k initial message complete) on = absurd on
+done_count s (call.Grant q n) on = absurd on
+done_count s (call.Cancel q) on = absurd on
+done_count s (call.Push metadata) on = absurd on
+done_count s (call.Lease ttl count metadata) on = absurd on
+done_count s call.Close on = absurd on
+
+none_count : (asked : Call) (a : Answer) → is_done a ≡ false → length (accepted_of asked a) ≡ 0
+none_count (call.Next q message complete) a h = rw h refl
+none_count (call.Done q) a h = rw h refl
+none_count (call.Fail q code content) a h = rw h refl
+none_count (call.Take q) a h = refl
+none_count call.TakeJob a h = refl
+none_count (call.Request k initial message complete) a h = refl
+none_count (call.Grant q n) a h = refl
+none_count (call.Cancel q) a h = refl
+none_count (call.Push metadata) a h = refl
+none_count (call.Lease ttl count metadata) a h = refl
+none_count call.Close a h = refl
+
+-- how many replies there are after one with this outcome
+abbrev pub made_after : Outcome → ℕ → ℕ
+made_after outcome.Accepted made = made + 1
+made_after _ made = made
+
+reply_count : (s : ℕ) (asked : Call) (a : Answer) (made : ℕ) → IsReplyOn s asked → made_after (outcome_of a) made ≡ made + length (accepted_of asked a)
+reply_count s asked answer.Done made on = let n = done_count s asked on in omega arith
+reply_count s asked (answer.Refused (refusal.NoCredit granted)) made on = let n = none_count asked (answer.Refused (refusal.NoCredit granted)) refl in omega arith
+reply_count s asked (answer.Refused (refusal.OutFull queued)) made on = let n = none_count asked (answer.Refused (refusal.OutFull queued)) refl in omega arith
+reply_count s asked answer.NotYet made on = let n = none_count asked answer.NotYet refl in omega arith
+reply_count s asked answer.OutOfMemory made on = let n = none_count asked answer.OutOfMemory refl in omega arith
+reply_count s asked (answer.Refused why) made on = let n = none_count asked (answer.Refused why) refl in omega arith
+reply_count s asked answer.TapeFull made on = let n = none_count asked answer.TapeFull refl in omega arith
+reply_count s asked (answer.Opened number) made on = let n = none_count asked (answer.Opened number) refl in omega arith
+reply_count s asked (answer.Started id) made on = let n = none_count asked (answer.Started id) refl in omega arith
+reply_count s asked (answer.Got d) made on = let n = none_count asked (answer.Got d) refl in omega arith
+reply_count s asked (answer.GotJob job) made on = let n = none_count asked (answer.GotJob job) refl in omega arith
+reply_count s asked (answer.Drawn count) made on = let n = none_count asked (answer.Drawn count) refl in omega arith
+reply_count s asked answer.Parted made on = let n = none_count asked answer.Parted refl in omega arith
+reply_count s asked answer.Quiet made on = let n = none_count asked answer.Quiet refl in omega arith
+reply_count s asked answer.Sent made on = let n = none_count asked answer.Sent refl in omega arith
+reply_count s asked (answer.Dead last) made on = let n = none_count asked (answer.Dead last) refl in omega arith
+reply_count s asked answer.Handled made on = let n = none_count asked answer.Handled refl in omega arith
+reply_count s asked (answer.PeerError code) made on = let n = none_count asked (answer.PeerError code) refl in omega arith
+reply_count s asked (answer.Violation rule) made on = let n = none_count asked (answer.Violation rule) refl in omega arith
+reply_count s asked (answer.SetupRefused fault) made on = let n = none_count asked (answer.SetupRefused fault) refl in omega arith
+reply_count s asked (answer.ResumeRefused gone) made on = let n = none_count asked (answer.ResumeRefused gone) refl in omega arith
+reply_count s asked (answer.Stale conn) made on = let n = none_count asked (answer.Stale conn) refl in omega arith
+reply_count s asked (answer.Closed cause) made on = let n = none_count asked (answer.Closed cause) refl in omega arith
+reply_count s asked (answer.OutBusy queued) made on = let n = none_count asked (answer.OutBusy queued) refl in omega arith
+
+pub worked_said : (names : List ℕ) (number : ℕ) (old new : List Entry) (j i : OpenJob) (asked : Call) (a : Answer) → IsReplyOn j.stream asked → i.made ≡ made_after (outcome_of a) j.made
+    → GoesOn (λ c. c ≡ asked) names number old new (length (accepted_of asked a)) → HasWorked names number old new j i
+worked_said names number old new j i asked a on made goes = record {
+  replies = length (accepted_of asked a);
+  goes = goes_weaker (λ c. c ≡ asked) (IsOfJob j.stream) names number old new _ (λ c is. subst (IsOfJob j.stream) (sym is) (is_of_job j.stream asked on)) goes;
+  made = made ∙ reply_count j.stream asked a j.made on;
+}
+
+pub worked_took : (names : List ℕ) (number : ℕ) (old new : List Entry) (j i : OpenJob) (a : Answer) → i.made ≡ j.made
+    → GoesOn (λ c. c ≡ call.Take j.stream) names number old new (length (accepted_of (call.Take j.stream) a)) → HasWorked names number old new j i
+worked_took names number old new j i a made goes = record {
+  replies = 0;
+  goes = goes_weaker (λ c. c ≡ call.Take j.stream) (IsOfJob j.stream) names number old new 0 (λ c is. subst (IsOfJob j.stream) (sym is) refl) goes;
+  made = omega arith;
+}
+
+pub worked_none : (names : List ℕ) (number : ℕ) (a : List Entry) (j i : OpenJob) → i.made ≡ j.made → HasWorked names number a a j i
+worked_none names number a j i made = record { replies = 0; goes = goes_none (IsOfJob j.stream) names number a; made = omega arith }
+
+pub worked_both : (names : List ℕ) (number : ℕ) (a b c : List Entry) (was mid now : OpenJob) → IsSameJob was mid → HasWorked names number a b was mid → HasWorked names number b c mid now → HasWorked names number a c was now
+worked_both names number a b c was mid now same h k =
+    let s : mid.stream ≡ was.stream = ap (λ (j : OpenJob). j.stream) same in
+    record {
+      replies = h.replies + k.replies;
+      goes = goes_both (IsOfJob was.stream) names number a b c h.replies k.replies h.goes (subst (λ q. GoesOn (IsOfJob q) names number b c k.replies) s k.goes);
+      made = (let x = h.made in let y = k.made in omega arith);
+    }
+
+pub same_both : (was mid now : OpenJob) → IsSameJob was mid → IsSameJob mid now → IsSameJob was now
+same_both was mid now h k = k ∙ ap (λ (j : OpenJob). record j { made = now.made; stage = now.stage }) h
+
+-- ---- causes
+
+blocked_hinders : (a : Answer) → outcome_of a ≡ outcome.Blocked → IsHindrance a
+blocked_hinders (answer.Refused (refusal.NoCredit granted)) h = tt
+blocked_hinders (answer.Refused (refusal.OutFull queued)) h = tt
+blocked_hinders answer.NotYet h = tt
+blocked_hinders _ h = absurd (cc)
+
+final_stops : (a : Answer) → outcome_of a ≡ outcome.Final → IsHindrance a → ⊥
+final_stops (answer.Refused (refusal.NoCredit granted)) h = absurd (cc)
+final_stops (answer.Refused (refusal.OutFull queued)) h = absurd (cc)
+final_stops answer.NotYet h = absurd (cc)
+final_stops _ h = λ never. never
+
+pub hindered_reply : (g : Settings) (old new : List Entry) (s : ℕ) (asked : Call) (a : Answer) → IsReplyOn s asked → outcome_of a ≡ outcome.Blocked → WasAnswered g old new asked a → IsHindered g old new s
+hindered_reply g old new s asked a on is was = record { asked = asked; met = a; on = is_of_job s asked on; hindered = blocked_hinders a is; was = was }
+
+pub stopped_reply : (g : Settings) (old new : List Entry) (s : ℕ) (asked : Call) (a : Answer) → IsReplyOn s asked → outcome_of a ≡ outcome.Final → MayAnswer asked a → WasAnswered g old new asked a → IsStoppedBy g old new s a
+stopped_reply g old new s asked a on is may was = record { asked = asked; on = is_of_job s asked on; stopped = (final_stops a is, may); was = was }
+
+blocked_take : (a : Answer) → taken_of a ≡ taken.Blocked → IsHindrance a
+blocked_take (answer.Refused (refusal.NoCredit granted)) h = tt
+blocked_take (answer.Refused (refusal.OutFull queued)) h = tt
+blocked_take answer.NotYet h = tt
+blocked_take _ h = absurd (cc)
+
+-- a Take that was refused for good
+final_take : (a b : Answer) → taken_of a ≡ taken.Final b → (a ≡ b) × (IsHindrance a → ⊥)
+final_take (answer.Refused (refusal.NoCredit granted)) b h = absurd (cc)
+final_take (answer.Refused (refusal.OutFull queued)) b h = absurd (cc)
+final_take (answer.Refused refusal.Ended) b h = absurd (cc)
+final_take (answer.Got d) b h = absurd (never d h)
+  where
+    never : (e : Delivery) → taken_of (answer.Got e) ≡ taken.Final b → ⊥
+    never (delivery.Item message) is = absurd (cc)
+    never delivery.Complete is = absurd (cc)
+    never (delivery.Error code content) is = absurd (cc)
+    never delivery.Canceled is = absurd (cc)
+final_take answer.NotYet b h = absurd (cc)
+final_take answer.OutOfMemory b h = absurd (cc)
+final_take _ b h = (cc, λ never. never)
+
+pub hindered_take : (g : Settings) (old new : List Entry) (s : ℕ) (a : Answer) → taken_of a ≡ taken.Blocked → WasAnswered g old new (call.Take s) a → IsHindered g old new s
+hindered_take g old new s a is was = record { asked = call.Take s; met = a; on = refl; hindered = blocked_take a is; was = was }
+
+pub stopped_take : (g : Settings) (old new : List Entry) (s : ℕ) (a b : Answer) → taken_of a ≡ taken.Final b → MayAnswer (call.Take s) a → WasAnswered g old new (call.Take s) a → IsStoppedBy g old new s b
+stopped_take g old new s a b is may was =
+    let f = final_take a b is in
+    subst (IsStoppedBy g old new s) f.0 (record { asked = call.Take s; on = refl; stopped = (f.1, may); was = was })

@@ -17,10 +17,10 @@ use Rattle.workers.specs.declared.job.Stage.TheVariants as stage
 use Rattle.workers.specs.declared.plan.Plan.{Plan}
 use Rattle.workers.specs.declared.plan.Plan.TheVariants as plan
 use Rattle.workers.specs.Replies.{AreReplies, answers, channel_reply, item_count, item_or_end, no_route, plain, reply, response}
-use Rattle.workers.specs.Courses.{Course, IsWorkersCall, after_call, after_reply}
+use Rattle.workers.specs.Courses.{Course, IsReplyOn, IsWorkersCall, after_call, after_reply}
 use Rattle.workers.specs.Serving.{IsAt, IsAtContent}
 use Rattle.workers.specs.declared.job.OpenJob.{OpenJob}
-use Rattle.workers.specs.Going.{IsReplyOn, plan_by, plan_content, plan_item, plan_of, say_end}
+use Rattle.workers.specs.Going.{plan_by, plan_content, plan_item, plan_of, say_end}
 use Rattle.workers.proofs.Values.{item_below, finish_past, past_finish}
 
 -- ---- tests and lists

@@ -1,5 +1,5 @@
 -- How the job of a stream went, by the calls of one caller. Entries stand newest first.
-use Rattle.std.specs.Prelude.{◌≡◌, ◌<◌, ◌≤◌, ℕ, ◌==◌, ◌||◌, Bool, true, false, nat_lt, if◌then◌else◌, List, [], ◌∷◌, ◌++◌, Option, Some, None}
+use Rattle.std.specs.Prelude.{◌≡◌, ◌<◌, ◌≤◌, ℕ, ◌==◌, ◌||◌, Bool, true, false, nat_lt, if◌then◌else◌, List, [], ◌∷◌, ◌++◌, length, Option, Some, None}
 use Rattle.std.specs.List.{AllByRecursion}
 use Rattle.rs_wire.specs.declared.call.Call.{Call}
 use Rattle.rs_wire.specs.declared.call.Call.TheVariants as call
@@ -82,6 +82,8 @@ unfoldable pub course : List ℕ → ℕ → List Entry → Course
 course names s [] = no_course
 course names s (x ∷ past) = if is_named names x.who then after_event s x.event x.answer (course names s past) else course names s past
 
+-- ---- what a worker's calls add
+
 -- the calls of a worker
 abbrev pub IsWorkersCall : Call → Type 0
 IsWorkersCall (call.Take s) = Unit {0}
@@ -91,12 +93,50 @@ IsWorkersCall (call.Done s) = Unit {0}
 IsWorkersCall (call.Fail s code content) = Unit {0}
 IsWorkersCall _ = ⊥
 
-abbrev pub IsWorkers : Event → Type 0
-IsWorkers (event.Asked asked) = IsWorkersCall asked
-IsWorkers _ = ⊥
+-- the call is a reply on stream s
+abbrev pub IsReplyOn : ℕ → Call → Type 0
+IsReplyOn s (call.Next q message complete) = q ≡ s
+IsReplyOn s (call.Done q) = q ≡ s
+IsReplyOn s (call.Fail q code content) = q ≡ s
+IsReplyOn s _ = ⊥
 
--- the front went on, and of the entries that were added those under these names are a worker's calls under this number
-pub record GoesOn (names : List ℕ) (number : ℕ) (old new : List Entry) : Type 0 where
+-- or it takes what comes on the stream
+abbrev pub IsOfJob : ℕ → Call → Type 0
+IsOfJob s (call.Take q) = q ≡ s
+IsOfJob s asked = IsReplyOn s asked
+
+abbrev pub Asks : (Call → Type 0) → Event → Type 0
+Asks P (event.Asked asked) = P asked
+Asks P _ = ⊥
+
+-- the reply in a call, where it was accepted
+abbrev pub accepted_of : Call → Answer → List Call
+accepted_of (call.Next s message complete) a = if is_done a then call.Next s message complete ∷ [] else []
+accepted_of (call.Done s) a = if is_done a then call.Done s ∷ [] else []
+accepted_of (call.Fail s code content) a = if is_done a then call.Fail s code content ∷ [] else []
+accepted_of _ a = []
+
+abbrev pub accepted_in : Event → Answer → List Call
+accepted_in (event.Asked asked) a = accepted_of asked a
+accepted_in _ a = []
+
+-- the replies that were accepted under these names, the newest first
+abbrev pub accepted : List ℕ → List Entry → List Call
+accepted names [] = []
+accepted names (x ∷ past) = if is_named names x.who then accepted_in x.event x.answer ++ accepted names past else accepted names past
+
+-- The front went on. Of the entries that were added those under these names carry this number and ask such calls, and so many replies of
+-- them were accepted.
+pub record GoesOn (P : Call → Type 0) (names : List ℕ) (number : ℕ) (old new : List Entry) (replies : ℕ) : Type 0 where
   pub more : List Entry
   pub on : new ≡ more ++ old
-  pub own : AllByRecursion (λ (e : Entry). 0 < times e.who names → (e.who ≡ number) × IsWorkers e.event) more
+  pub own : AllByRecursion (λ (e : Entry). 0 < times e.who names → (e.who ≡ number) × Asks P e.event) more
+  pub count : length (accepted names more) ≡ replies
+
+-- The same for a worker: all replies that were accepted are on one stream.
+pub record WorksOn (names : List ℕ) (number : ℕ) (old new : List Entry) : Type 0 where
+  pub more : List Entry
+  pub on : new ≡ more ++ old
+  pub own : AllByRecursion (λ (e : Entry). 0 < times e.who names → (e.who ≡ number) × Asks IsWorkersCall e.event) more
+  pub stream : ℕ
+  pub one : AllByRecursion (IsReplyOn stream) (accepted names more)

@@ -1,5 +1,5 @@
 -- What the calls of a worker do to its job.
-use Rattle.std.specs.Prelude.{◌≡◌, ◌≢◌, ◌≤◌, ◌^◌, ℕ, Bool, true, false, if◌then◌else◌, List, [], ◌∷◌, ◌++◌, length, Option, Some, None}
+use Rattle.std.specs.Prelude.{◌≡◌, ◌≢◌, ◌≤◌, ◌↔◌, ◌+◌, ◌^◌, ℕ, Bool, true, false, if◌then◌else◌, List, [], ◌∷◌, ◌++◌, length, Option, Some, None}
 use Rattle.rs_wire.specs.declared.words.Kind.{Kind}
 use Rattle.rs_wire.specs.declared.words.Kind.TheVariants as kind
 use Rattle.rs_wire.specs.declared.message.Message.{Message}
@@ -11,6 +11,11 @@ use Rattle.tape.specs.Answers.{leaves}
 use Rattle.tape.specs.declared.answer.Answer.{Answer}
 use Rattle.tape.specs.declared.answer.Answer.TheVariants as answer
 use Rattle.tape.specs.declared.entry.Entry.{Entry}
+use Rattle.tape.specs.declared.event.Event.TheVariants as event
+use Rattle.rs_wire.specs.declared.settings.Settings.{Settings}
+use Rattle.session_model.specs.Answers.{answer_to}
+use Rattle.session_core.specs.Seen.{IsUnlessWant}
+use Rattle.conn_shared.specs.Members.{Continues}
 use Rattle.handlers.specs.Listed.{Listed}
 use Rattle.handlers.specs.Values.{value}
 use Rattle.handlers.specs.declared.law.Law.{Law}
@@ -27,8 +32,13 @@ use Rattle.workers.specs.declared.step.Step.{Step}
 use Rattle.workers.specs.declared.step.Step.TheVariants as step
 use Rattle.workers.specs.declared.going.Going.{Going}
 use Rattle.workers.specs.declared.going.Going.TheVariants as going
+use Rattle.workers.specs.declared.worked.Worked.{Worked}
+use Rattle.workers.specs.declared.worked.Worked.TheVariants as worked
+use Rattle.workers.specs.declared.worked.Progress.{Progress}
+use Rattle.workers.specs.declared.worked.Progress.TheVariants as progress
+use Rattle.std.specs.List.{AllByRecursion}
 use Rattle.workers.specs.Replies.{law_of, no_route, plain, response}
-use Rattle.workers.specs.Courses.{Course, after_call, course}
+use Rattle.workers.specs.Courses.{Course, GoesOn, IsOfJob, IsReplyOn, IsWorkersCall, WorksOn, after_call, course}
 use Rattle.workers.specs.Serving.{AreRouted, IsRouted, IsServed, Serving, Stands, jobs_on}
 
 -- ---- what a job says next
@@ -62,15 +72,6 @@ plan_of l j = plan_by l j.kind j.stream j.message.content j.made j.stage
 abbrev pub IsPlan : Plan → Plan → Type 0
 IsPlan right plan.OutOfMemory = Unit {0}
 IsPlan right p = p ≡ right
-
--- ---- a reply of a job
-
--- the call is a reply on stream s
-abbrev pub IsReplyOn : ℕ → Call → Type 0
-IsReplyOn s (call.Next q message complete) = q ≡ s
-IsReplyOn s (call.Done q) = q ≡ s
-IsReplyOn s (call.Fail q code content) = q ≡ s
-IsReplyOn s _ = ⊥
 
 -- ---- what a call leaves
 
@@ -127,6 +128,48 @@ taken_of answer.NotYet = taken.Blocked
 taken_of answer.OutOfMemory = taken.OutOfMemory
 taken_of a = taken.Final a
 
+-- ---- why a job does not go on
+
+-- between two fronts a call was so answered, after the entries before it
+pub record WasAnswered (g : Settings) (old new : List Entry) (asked : Call) (a : Answer) : Type 0 where
+  pub before : List Entry
+  pub since : Continues old before
+  pub up_to : Continues before new
+  pub answered : IsUnlessWant a (answer_to g before (event.Asked asked))
+  pub full : (a ≡ answer.TapeFull) ↔ (2 ^ 63 ≤ length before)
+
+-- no credit, no room in the queue, or nothing to take yet
+abbrev pub IsHindrance : Answer → Type 0
+IsHindrance (answer.Refused (refusal.NoCredit granted)) = Unit {0}
+IsHindrance (answer.Refused (refusal.OutFull queued)) = Unit {0}
+IsHindrance answer.NotYet = Unit {0}
+IsHindrance _ = ⊥
+
+-- the next call of the job of stream s met one of these
+pub record IsHindered (g : Settings) (old new : List Entry) (s : ℕ) : Type 0 where
+  pub asked : Call
+  pub met : Answer
+  pub on : IsOfJob s asked
+  pub hindered : IsHindrance met
+  pub was : WasAnswered g old new asked met
+
+-- the next call of the job of stream s was answered so, and that is no hindrance
+pub record IsStoppedBy (g : Settings) (old new : List Entry) (s : ℕ) (a : Answer) : Type 0 where
+  pub asked : Call
+  pub on : IsOfJob s asked
+  pub stopped : (IsHindrance a → ⊥) × MayAnswer asked a
+  pub was : WasAnswered g old new asked a
+
+abbrev pub CauseOfStep : Settings → List Entry → List Entry → ℕ → Step → Type 0
+CauseOfStep g old new s step.Blocked = IsHindered g old new s
+CauseOfStep g old new s (step.Stopped a) = IsStoppedBy g old new s a
+CauseOfStep g old new s _ = Unit {0}
+
+abbrev pub CauseOf : Settings → List Entry → List Entry → ℕ → Going → Type 0
+CauseOf g old new s going.Blocked = IsHindered g old new s
+CauseOf g old new s (going.Stopped a) = IsStoppedBy g old new s a
+CauseOf g old new s _ = Unit {0}
+
 -- ---- how a job goes on
 
 -- what is left after a reply with this outcome
@@ -164,8 +207,14 @@ pub record HasGone (names : List ℕ) (routes : List Listed) (old new : List Ent
   pub apart : (q : ℕ) → q ≢ was.stream → course names q new ≡ course names q old
   pub longer : length old ≤ length new
 
+-- the caller's calls since were those of the job, which has as many replies more as were accepted
+pub record HasWorked (names : List ℕ) (number : ℕ) (old new : List Entry) (was now : OpenJob) : Type 0 where
+  pub replies : ℕ
+  pub goes : GoesOn (IsOfJob was.stream) names number old new replies
+  pub made : now.made ≡ was.made + replies
+
 -- among these jobs the one at that place went on, to that end
-pub record WentAt (names : List ℕ) (routes : List Listed) (old new : List Entry) (place : ℕ) (was now : List OpenJob) (how : Going) : Type 0 where
+pub record WentAt (names : List ℕ) (routes : List Listed) (number : ℕ) (g : Settings) (old new : List Entry) (place : ℕ) (was now : List OpenJob) (how : Going) : Type 0 where
   pub before : List OpenJob
   pub job : OpenJob
   pub left : OpenJob
@@ -175,6 +224,8 @@ pub record WentAt (names : List ℕ) (routes : List Listed) (old new : List Entr
   pub at : length before ≡ place
   pub same : IsSameJob job left
   pub gone : HasGone names routes old new job (left_by how left)
+  pub worked : HasWorked names number old new job left
+  pub cause : CauseOf g old new job.stream how
 
 -- the job at that place stays or leaves
 abbrev pub IsSettled : ℕ → Going → List OpenJob → List OpenJob → Type 0
@@ -209,3 +260,50 @@ pub record Awaits (routes : List Listed) (j : OpenJob) : Type 0 where
   pub found : law_of routes j.kind j.message ≡ Some law
   pub channel : j.kind ≡ kind.Channel
   pub answered : j.stage ≡ stage.Answered
+
+-- ---- what a worker says
+
+-- the next call of each of these jobs was hindered
+abbrev pub AreHindered : Settings → List Entry → List Entry → List OpenJob → Type 0
+AreHindered g old new jobs = AllByRecursion (λ (j : OpenJob). IsHindered g old new j.stream) jobs
+
+-- TakeJob was so answered
+abbrev pub IsNoMore : Settings → List Entry → List Entry → Answer → Type 0
+IsNoMore g old new a = WasAnswered g old new call.TakeJob a × MayAnswer call.TakeJob a × (IsHindrance a → ⊥)
+
+-- why a worker says that, with this work left
+abbrev pub CauseOfWorked : Settings → List ℕ → ℕ → List Entry → List Entry → List OpenJob → Worked → Type 0
+CauseOfWorked g names number old new work (worked.Served stream items) = Unit {0}
+CauseOfWorked g names number old new work (worked.Waiting s) = IsHindered g old new s
+CauseOfWorked g names number old new work (worked.Stopped a) = (s : ℕ) × IsStoppedBy g old new s a
+CauseOfWorked g names number old new work (worked.NoMore a) = GoesOn IsWorkersCall names number old new 0 × IsNoMore g old new a
+CauseOfWorked g names number old new work worked.Idle =
+    GoesOn IsWorkersCall names number old new 0 × WasAnswered g old new call.TakeJob answer.NotYet × AreHindered g old new work
+CauseOfWorked g names number old new work worked.OutOfMemory = Unit {0}
+
+abbrev pub CauseOfProgress : Settings → List ℕ → ℕ → List Entry → List Entry → List OpenJob → Progress → Type 0
+CauseOfProgress g names number old new work (progress.More s) = Unit {0}
+CauseOfProgress g names number old new work (progress.Worked w) = CauseOfWorked g names number old new work w
+
+-- what is said of the job of stream s that went on so
+abbrev pub progress_of : ℕ → Going → Progress
+progress_of s (going.Served items) = progress.Worked (worked.Served s items)
+progress_of s going.Blocked = progress.Worked (worked.Waiting s)
+progress_of s going.More = progress.More s
+progress_of s (going.Stopped a) = progress.Worked (worked.Stopped a)
+progress_of s going.OutOfMemory = progress.Worked worked.OutOfMemory
+
+abbrev pub IsNotMore : Progress → Type 0
+IsNotMore (progress.More s) = ⊥
+IsNotMore (progress.Worked w) = Unit {0}
+
+-- the job at that place was hindered, and the others stayed
+pub record IsHinderedAt (g : Settings) (old new : List Entry) (place : ℕ) (was now : List OpenJob) : Type 0 where
+  pub before : List OpenJob
+  pub job : OpenJob
+  pub left : OpenJob
+  pub after : List OpenJob
+  pub were : was ≡ before ++ job ∷ after
+  pub are : now ≡ before ++ left ∷ after
+  pub at : length before ≡ place
+  pub hindered : IsHindered g old new left.stream

@@ -2,8 +2,8 @@
 
 ghost use Rattle.std.specs.Prelude.{◌≡◌, ◌≤◌, ◌^◌, ℕ, length};
 ghost use Rattle.rs_wire.specs.Calls.{CanBeAsked};
-ghost use Rattle.workers.specs.Courses.{GoesOn, IsWorkersCall, course};
-ghost use Rattle.workers.specs.Going.{MayAnswer, told};
+ghost use Rattle.workers.specs.Courses.{GoesOn, IsWorkersCall, accepted_of, course};
+ghost use Rattle.workers.specs.Going.{MayAnswer, WasAnswered, told};
 
 use conn::{Caller, Connection};
 use rs_wire::Call;
@@ -21,10 +21,15 @@ pub fn ask<R: Wait, T: Tape>(
     requires of { caller.old.of ≡ connection.now }
     requires workers { IsWorkersCall call.now }
     requires askable { CanBeAsked call.now }
-    ensures same { caller.new ≡ record caller.old { front = caller.new.front; note = caller.new.note } }
-    ensures told { (s : ℕ) → course caller.old.names s caller.new.front ≡ told s call.now result (course caller.old.names s caller.old.front) }
-    ensures goes { GoesOn caller.old.names caller.old.number caller.old.front caller.new.front }
+    ensures same { caller.new ≡
+        record caller.old { front = caller.new.front; note = caller.new.note } }
+    ensures told { (s : ℕ) → course caller.old.names s caller.new.front
+        ≡ told s call.now result (course caller.old.names s caller.old.front) }
+    ensures goes { GoesOn (λ c. c ≡ call.now) caller.old.names caller.old.number
+        caller.old.front caller.new.front (length (accepted_of call.now result)) }
     ensures may { MayAnswer call.now result }
+    ensures was { WasAnswered connection.now.settings caller.old.front caller.new.front
+        call.now result }
     ensures full { result ≡ Answer.TapeFull → 2 ^ 63 ≤ length caller.new.front }
 {
     // The caller's number is one of its names, which contracts have from this call alone.

@@ -2,9 +2,8 @@
 
 ghost use Rattle.std.specs.Prelude.{◌≡◌, ◌≢◌, None, false};
 ghost use Rattle.workers.specs.declared.going.Going.TheVariants as goings;
-ghost use Rattle.workers.specs.Courses.{GoesOn};
 ghost use Rattle.workers.specs.Serving.{IsRouted};
-ghost use Rattle.workers.specs.Going.{HasGone, IsSameJob, left_by};
+ghost use Rattle.workers.specs.Going.{CauseOf, HasGone, HasWorked, IsSameJob, left_by};
 
 use crate::gate::Gate;
 use crate::job::OpenJob;
@@ -55,8 +54,11 @@ pub fn go_on<R: Wait, T: Tape, F: Handler, G: Gate>(
     requires routed { IsRouted routes.now job.old }
     ensures same { caller.new ≡
         record caller.old { front = caller.new.front; note = caller.new.note } }
-    ensures goes { GoesOn caller.old.names caller.old.number caller.old.front caller.new.front }
+    ensures worked { HasWorked caller.old.names caller.old.number caller.old.front
+        caller.new.front job.old job.new }
     ensures job { IsSameJob job.old job.new }
+    ensures cause { CauseOf connection.now.settings caller.old.front caller.new.front
+        job.old.stream result }
     ensures kept { HasGone caller.old.names routes.now caller.old.front caller.new.front job.old
         (left_by result job.new) }
     ensures unbounded { most ≡ None → result ≢ goings.More }

@@ -1,13 +1,14 @@
 //! One job of a connection is served.
 
-ghost use Rattle.std.specs.Prelude.{◌≡◌, ◌≢◌, ◌<◌, ◌+◌, ℕ, None, Some, IfNone, IfSome, length, vec_len, vec_capacity};
+ghost use Rattle.std.specs.Prelude.{◌≡◌, ◌≢◌, ◌<◌, ◌≤◌, ◌+◌, ℕ, true, [], None, Some, IfNone, IfSome, length, vec_len, vec_capacity};
 ghost use Rattle.handlers.specs.Listed.{place as place_of};
 ghost use Rattle.workers.specs.declared.going.Going.TheVariants as goings;
 ghost use Rattle.workers.specs.declared.worked.Progress.TheVariants as progresses;
-ghost use Rattle.workers.specs.Courses.{GoesOn};
+ghost use Rattle.workers.specs.declared.worked.Worked.TheVariants as workeds;
+ghost use Rattle.workers.specs.Courses.{GoesOn, IsWorkersCall, WorksOn};
 ghost use Rattle.workers.specs.Replies.{name_of};
 ghost use Rattle.workers.specs.Serving.{AreRouted, Serving};
-ghost use Rattle.workers.specs.Going.{IsForgotten, IsPut, IsSettled, Keeps, WentAt};
+ghost use Rattle.workers.specs.Going.{CauseOfProgress, CauseOfWorked, IsForgotten, IsHinderedAt, IsNotMore, IsPut, IsSettled, Keeps, WentAt, progress_of};
 
 use crate::ask::ask;
 use crate::gate::Gate;
@@ -54,9 +55,8 @@ fn go_at<R: Wait, T: Tape, F: Handler, G: Gate>(
     requires routed { AreRouted routes.now jobs.old.items }
     ensures same { caller.new ≡
         record caller.old { front = caller.new.front; note = caller.new.note } }
-    ensures goes { GoesOn caller.old.names caller.old.number caller.old.front caller.new.front }
-    ensures went { WentAt caller.old.names routes.now caller.old.front caller.new.front place
-        jobs.old.items jobs.new.items result }
+    ensures went { WentAt caller.old.names routes.now caller.old.number connection.now.settings
+        caller.old.front caller.new.front place jobs.old.items jobs.new.items result }
     ensures unbounded { most ≡ None → result ≢ goings.More }
 {
     go_on(
@@ -75,7 +75,7 @@ fn go_at<R: Wait, T: Tape, F: Handler, G: Gate>(
 fn settle(jobs: &mut Vec<OpenJob>, place: usize, stream: u32, going: Going) -> Progress
     requires place { place < length jobs.old.items }
     ensures settled { IsSettled place going jobs.old.items jobs.new.items }
-    ensures unbounded { going ≢ goings.More → result ≢ progresses.More stream }
+    ensures said { result ≡ progress_of stream going }
 {
     match going {
         Going::Served(items) => {
@@ -115,11 +115,18 @@ fn try_job<R: Wait, T: Tape, F: Handler, G: Gate>(
     requires routed { AreRouted routes.now jobs.old.items }
     ensures same { caller.new ≡
         record caller.old { front = caller.new.front; note = caller.new.note } }
-    ensures goes { GoesOn caller.old.names caller.old.number caller.old.front caller.new.front }
     ensures routed { AreRouted routes.now jobs.new.items }
     ensures kept { Keeps caller.old.names routes.now caller.old.front caller.new.front
         jobs.old.items jobs.new.items }
-    ensures many { IfNone result (length jobs.new.items ≡ length jobs.old.items) }
+    ensures works { IfSome result (λ p.
+        WorksOn caller.old.names caller.old.number caller.old.front caller.new.front) }
+    ensures cause { IfSome result (λ p. CauseOfProgress connection.now.settings
+        caller.old.names caller.old.number caller.old.front caller.new.front jobs.new.items p) }
+    ensures quiet { IfNone result (GoesOn IsWorkersCall caller.old.names caller.old.number
+        caller.old.front caller.new.front 0) }
+    ensures hindered { IfNone result (IsHinderedAt connection.now.settings caller.old.front
+        caller.new.front place jobs.old.items jobs.new.items) }
+    ensures unbounded { most ≡ None → IfSome result IsNotMore }
 {
     let stream = jobs[place].stream;
     let made = jobs[place].made;
@@ -182,10 +189,15 @@ fn take_job<R: Wait, T: Tape, F: Handler, G: Gate>(
     requires routed { AreRouted routes.now jobs.old.items }
     ensures same { caller.new ≡
         record caller.old { front = caller.new.front; note = caller.new.note } }
-    ensures goes { GoesOn caller.old.names caller.old.number caller.old.front caller.new.front }
+    ensures works { WorksOn caller.old.names caller.old.number caller.old.front caller.new.front }
     ensures routed { AreRouted routes.now jobs.new.items }
     ensures kept { Keeps caller.old.names routes.now caller.old.front caller.new.front
         jobs.old.items jobs.new.items }
+    ensures cause { CauseOfProgress connection.now.settings caller.old.names caller.old.number
+        caller.old.front caller.new.front [] result }
+    ensures idle { result ≡ progresses.Worked workeds.Idle →
+        jobs.new.items ≡ jobs.old.items }
+    ensures unbounded { most ≡ None → IsNotMore result }
 {
     if jobs.reserve(1).is_err() {
         return Progress::Worked(Worked::OutOfMemory);
@@ -235,10 +247,13 @@ fn serve<R: Wait, T: Tape, F: Handler, G: Gate>(
     requires routed { AreRouted routes.now jobs.old.items }
     ensures same { caller.new ≡
         record caller.old { front = caller.new.front; note = caller.new.note } }
-    ensures goes { GoesOn caller.old.names caller.old.number caller.old.front caller.new.front }
+    ensures works { WorksOn caller.old.names caller.old.number caller.old.front caller.new.front }
     ensures routed { AreRouted routes.now jobs.new.items }
     ensures kept { Keeps caller.old.names routes.now caller.old.front caller.new.front
         jobs.old.items jobs.new.items }
+    ensures cause { CauseOfProgress connection.now.settings caller.old.names caller.old.number
+        caller.old.front caller.new.front jobs.new.items result }
+    ensures unbounded { most ≡ None → IsNotMore result }
 {
     let count = jobs.len();
     for place in 0..count {
@@ -269,10 +284,12 @@ pub fn serve_job<R: Wait, T: Tape, F: Handler, G: Gate>(
     ensures same { caller.new ≡
         record caller.old { front = caller.new.front; note = caller.new.note } }
     // The caller's entries that are added are a worker's calls under its number.
-    ensures goes { GoesOn caller.old.names caller.old.number caller.old.front caller.new.front }
+    ensures works { WorksOn caller.old.names caller.old.number caller.old.front caller.new.front }
     ensures routed { AreRouted routes.now work.new }
     ensures kept { Serving caller.old.names caller.old.front routes.now work.old →
         Serving caller.old.names caller.new.front routes.now work.new }
+    ensures cause { CauseOfWorked connection.now.settings caller.old.names caller.old.number
+        caller.old.front caller.new.front work.new result }
 {
     match serve(
         rt,
@@ -285,7 +302,7 @@ pub fn serve_job<R: Wait, T: Tape, F: Handler, G: Gate>(
         None,
     ) {
         Progress::Worked(worked) => worked,
-        Progress::More(stream) => Worked::Waiting(stream),
+        Progress::More(_) => unreachable!(),
     }
 }
 
@@ -306,10 +323,12 @@ pub fn serve_some<R: Wait, T: Tape, F: Handler, G: Gate>(
     ensures same { caller.new ≡
         record caller.old { front = caller.new.front; note = caller.new.note } }
     // The caller's entries that are added are a worker's calls under its number.
-    ensures goes { GoesOn caller.old.names caller.old.number caller.old.front caller.new.front }
+    ensures works { WorksOn caller.old.names caller.old.number caller.old.front caller.new.front }
     ensures routed { AreRouted routes.now work.new }
     ensures kept { Serving caller.old.names caller.old.front routes.now work.old →
         Serving caller.old.names caller.new.front routes.now work.new }
+    ensures cause { CauseOfProgress connection.now.settings caller.old.names caller.old.number
+        caller.old.front caller.new.front work.new result }
 {
     serve(
         rt,

@@ -8,9 +8,9 @@ ghost use Rattle.workers.specs.declared.plan.Plan.TheVariants as plans;
 ghost use Rattle.workers.specs.declared.job.Stage.TheVariants as stages;
 ghost use Rattle.workers.specs.declared.outcome.Outcome.TheVariants as outcomes;
 ghost use Rattle.workers.specs.Replies.{law_of};
-ghost use Rattle.workers.specs.Courses.{GoesOn};
+ghost use Rattle.workers.specs.Courses.{IsReplyOn};
 ghost use Rattle.workers.specs.Serving.{IsRouted};
-ghost use Rattle.workers.specs.Going.{Awaits, HasGone, IsReplyOn, IsSameJob, left_after, left_by_step, plan_of};
+ghost use Rattle.workers.specs.Going.{Awaits, CauseOfStep, HasGone, HasWorked, IsSameJob, left_after, left_by_step, plan_of};
 
 use crate::ask::ask;
 use crate::gate::Gate;
@@ -77,8 +77,11 @@ fn take_content<R: Wait, T: Tape>(
     requires of { caller.old.of ≡ connection.now }
     ensures same { caller.new ≡
         record caller.old { front = caller.new.front; note = caller.new.note } }
-    ensures goes { GoesOn caller.old.names caller.old.number caller.old.front caller.new.front }
+    ensures worked { HasWorked caller.old.names caller.old.number caller.old.front
+        caller.new.front job.old job.new }
     ensures job { IsSameJob job.old job.new }
+    ensures cause { CauseOfStep connection.now.settings caller.old.front caller.new.front
+        job.old.stream result }
     ensures kept { (routes : List Listed) → Awaits routes job.old → HasGone caller.old.names routes
         caller.old.front caller.new.front job.old (left_by_step result job.new) }
 {
@@ -128,8 +131,11 @@ fn say<R: Wait, T: Tape>(
     requires askable { CanBeAsked call.now }
     ensures same { caller.new ≡
         record caller.old { front = caller.new.front; note = caller.new.note } }
-    ensures goes { GoesOn caller.old.names caller.old.number caller.old.front caller.new.front }
+    ensures worked { HasWorked caller.old.names caller.old.number caller.old.front
+        caller.new.front job.old job.new }
     ensures job { IsSameJob job.old job.new }
+    ensures cause { CauseOfStep connection.now.settings caller.old.front caller.new.front
+        job.old.stream result }
     ensures kept { (routes : List Listed) →
         plan_of (law_of routes job.old.kind job.old.message) job.old ≡ plans.Say call.now last →
         HasGone caller.old.names routes caller.old.front caller.new.front job.old
@@ -161,8 +167,11 @@ fn answer<R: Wait, T: Tape, F: Handler>(
     requires routed { IsRouted routes.now job.old }
     ensures same { caller.new ≡
         record caller.old { front = caller.new.front; note = caller.new.note } }
-    ensures goes { GoesOn caller.old.names caller.old.number caller.old.front caller.new.front }
+    ensures worked { HasWorked caller.old.names caller.old.number caller.old.front
+        caller.new.front job.old job.new }
     ensures job { IsSameJob job.old job.new }
+    ensures cause { CauseOfStep connection.now.settings caller.old.front caller.new.front
+        job.old.stream result }
     ensures kept { HasGone caller.old.names routes.now caller.old.front caller.new.front job.old
         (left_by_step result job.new) }
 {
@@ -191,8 +200,11 @@ pub fn make_step<R: Wait, T: Tape, F: Handler, G: Gate>(
     requires routed { IsRouted routes.now job.old }
     ensures same { caller.new ≡
         record caller.old { front = caller.new.front; note = caller.new.note } }
-    ensures goes { GoesOn caller.old.names caller.old.number caller.old.front caller.new.front }
+    ensures worked { HasWorked caller.old.names caller.old.number caller.old.front
+        caller.new.front job.old job.new }
     ensures job { IsSameJob job.old job.new }
+    ensures cause { CauseOfStep connection.now.settings caller.old.front caller.new.front
+        job.old.stream result }
     ensures kept { HasGone caller.old.names routes.now caller.old.front caller.new.front job.old
         (left_by_step result job.new) }
 {
