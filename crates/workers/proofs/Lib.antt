@@ -4,5 +4,6 @@ pub mod Jobs
 pub mod Plans
 pub mod Putting
 pub mod Rows
+pub mod Served
 pub mod Standing
 pub mod Values
