@@ -209,16 +209,16 @@ on_stream s (event.Came conn frame) a h = absurd h
 on_stream s (event.Bad conn rule) a h = absurd h
 on_stream s (event.Tick now) a h = absurd h
 
+named_above : (names : List ℕ) (n : ℕ) → is_named names n ≡ true → 0 < times n names
+named_above names n is = grind (arith, nat_tests)
+
 all_on : (s : ℕ) (names : List ℕ) (number : ℕ) (more : List Entry) → AllByRecursion (IsOwn (IsOfJob s) names number) more → AllByRecursion (IsReplyOn s) (accepted names more)
 all_on s names number [] h = tt
 all_on s names number (x ∷ more) h = by (is_named names x.who) refl (all_on s names number more h.1)
   where
     by : (b : Bool) → is_named names x.who ≡ b → AllByRecursion (IsReplyOn s) (accepted names more) → AllByRecursion (IsReplyOn s) (if b then accepted_in x.event x.answer ++ accepted names more else accepted names more)
-    by true is rest = all_append (IsReplyOn s) (accepted_in x.event x.answer) (accepted names more) (on_stream s x.event x.answer (h.0 (named_above x.who is)).1) rest
+    by true is rest = all_append (IsReplyOn s) (accepted_in x.event x.answer) (accepted names more) (on_stream s x.event x.answer (h.0 (named_above names x.who is)).1) rest
     by false is rest = rest
-
-    named_above : (n : ℕ) → is_named names n ≡ true → 0 < times n names
-    named_above n is = grind (arith, nat_tests)
 
 job_works : (s : ℕ) (asked : Call) → IsOfJob s asked → IsWorkersCall asked
 job_works s (call.Take q) on = tt
@@ -238,6 +238,7 @@ of_worker s names number a b n h = goes_weaker (IsOfJob s) IsWorkersCall names n
 
 -- one job went on
 pub works_job : (s : ℕ) (names : List ℕ) (number : ℕ) (a b : List Entry) (n : ℕ) → GoesOn (IsOfJob s) names number a b n → WorksOn names number a b
+unfolding of_worker goes_weaker
 works_job s names number a b n h =
     let w = of_worker s names number a b n h in
     record { more = w.more; on = w.on; own = w.own; stream = s; one = all_on s names number h.more h.own }

@@ -24,7 +24,8 @@ use Rattle.workers.specs.Courses.{Course, GoesOn, IsOfJob, IsReplyOn, accepted_o
 use Rattle.workers.specs.Serving.{IsFinal, IsFinalTake, IsGone, IsServed, Stands}
 use Rattle.workers.specs.Going.{Awaits, HasGone, HasWorked, IsHindered, IsHindrance, IsStoppedBy, WasAnswered, IsOfReply, IsOfTake, IsSameJob, MayAnswer, left_after, left_with, outcome_of, plan_of, taken_of, told}
 use Rattle.rs_wire.specs.declared.settings.Settings.{Settings}
-use Rattle.workers.proofs.Calling.{goes_both, goes_none, goes_weaker}
+use Rattle.conn_shared.specs.Members.{Continues, Knowledge}
+use Rattle.workers.proofs.Calling.{goes_both, goes_later, goes_longer, goes_none, goes_weaker, hindered_between, stopped_between}
 use Rattle.workers.proofs.Plans.{after_apart, after_said, other_test, same_test}
 use Rattle.workers.proofs.Standing.{full_for_good, nothing_said, said_for_good, said_in_vain, said_last, said_more, skipped, took_end, took_in_vain, took_item, took_no_more}
 
@@ -263,10 +264,17 @@ hindered_reply g old new s asked a on is was = record { asked = asked; met = a; 
 pub stopped_reply : (g : Settings) (old new : List Entry) (s : ℕ) (asked : Call) (a : Answer) → IsReplyOn s asked → outcome_of a ≡ outcome.Final → MayAnswer asked a → WasAnswered g old new asked a → IsStoppedBy g old new s a
 stopped_reply g old new s asked a on is may was = record { asked = asked; on = is_of_job s asked on; stopped = (final_stops a is, may); was = was }
 
+got_blocks_not : (d : Delivery) → taken_of (answer.Got d) ≡ taken.Blocked → ⊥
+got_blocks_not (delivery.Item message) h = absurd (cc)
+got_blocks_not delivery.Complete h = absurd (cc)
+got_blocks_not (delivery.Error code content) h = absurd (cc)
+got_blocks_not delivery.Canceled h = absurd (cc)
+
 blocked_take : (a : Answer) → taken_of a ≡ taken.Blocked → IsHindrance a
 blocked_take (answer.Refused (refusal.NoCredit granted)) h = tt
 blocked_take (answer.Refused (refusal.OutFull queued)) h = tt
 blocked_take answer.NotYet h = tt
+blocked_take (answer.Got d) h = absurd (got_blocks_not d h)
 blocked_take _ h = absurd (cc)
 
 -- a Take that was refused for good
@@ -292,3 +300,48 @@ pub stopped_take : (g : Settings) (old new : List Entry) (s : ℕ) (a b : Answer
 stopped_take g old new s a b is may was =
     let f = final_take a b is in
     subst (IsStoppedBy g old new s) f.0 (record { asked = call.Take s; on = refl; stopped = (f.1, may); was = was })
+
+-- ---- by the outcome
+
+pub said_by : (names : List ℕ) (routes : List Listed) (number : ℕ) (old new : List Entry) (j : OpenJob) (asked : Call) (last : Bool) (a : Answer) (made : ℕ) (o : Outcome) → outcome_of a ≡ o → made ≡ j.made + 1
+    → IsReplyOn j.stream asked → MayAnswer asked a → ((s : ℕ) → course names s new ≡ told s asked a (course names s old)) → GoesOn (λ c. c ≡ asked) names number old new (length (accepted_of asked a))
+    → (a ≡ answer.TapeFull → 2 ^ 63 ≤ length new) → plan_of (law_of routes j.kind j.message) j ≡ plan.Say asked last → HasGone names routes old new j (left_after o last j made)
+said_by names routes number old new j asked last a made o is more on may tells goes full plans =
+    subst (λ u. HasGone names routes old new j (left_after u last j made)) is
+    (gone_said names routes old new j asked last a made more on may tells (goes_longer (λ c. c ≡ asked) names number old new _ goes) full plans)
+
+pub took_by : (names : List ℕ) (routes : List Listed) (number : ℕ) (old new : List Entry) (j : OpenJob) (a : Answer) (t : Taken) → taken_of a ≡ t → Awaits routes j → MayAnswer (call.Take j.stream) a
+    → ((s : ℕ) → course names s new ≡ told s (call.Take j.stream) a (course names s old)) → GoesOn (λ c. c ≡ call.Take j.stream) names number old new (length (accepted_of (call.Take j.stream) a))
+    → (a ≡ answer.TapeFull → 2 ^ 63 ≤ length new) → HasGone names routes old new j (left_with t j)
+took_by names routes number old new j a t is w may tells goes full =
+    subst (λ u. HasGone names routes old new j (left_with u j)) is
+    (gone_took names routes old new j a w may tells (goes_longer (λ c. c ≡ call.Take j.stream) names number old new _ goes) full)
+
+-- ---- one after the other, as the caller knows
+
+-- only the front and the note differ
+abbrev pub IsOn : Knowledge → Knowledge → Type 0
+IsOn was now = now ≡ record was { front = now.front; note = now.note }
+
+pub on_both : (was mid now : Knowledge) → IsOn was mid → IsOn mid now → IsOn was now
+on_both was mid now h k = k ∙ ap (λ (x : Knowledge). record x { front = now.front; note = now.note }) h
+
+pub gone_after : (was mid now : Knowledge) (routes : List Listed) (i j : OpenJob) (left : List OpenJob) → IsOn was mid → IsSameJob i j
+    → HasGone was.names routes was.front mid.front i (j ∷ []) → HasGone mid.names routes mid.front now.front j left → HasGone was.names routes was.front now.front i left
+gone_after was mid now routes i j left on same h k =
+    gone_both was.names routes was.front mid.front now.front i j left same h (subst (λ names. HasGone names routes mid.front now.front j left) (ap (λ (x : Knowledge). x.names) on) k)
+
+pub worked_after : (was mid now : Knowledge) (i j k : OpenJob) → IsOn was mid → IsSameJob i j
+    → HasWorked was.names was.number was.front mid.front i j → HasWorked mid.names mid.number mid.front now.front j k → HasWorked was.names was.number was.front now.front i k
+worked_after was mid now i j k on same h w =
+    worked_both was.names was.number was.front mid.front now.front i j k same h
+    (subst (λ n. HasWorked was.names n mid.front now.front j k) (ap (λ (x : Knowledge). x.number) on) (subst (λ names. HasWorked names mid.number mid.front now.front j k) (ap (λ (x : Knowledge). x.names) on) w))
+
+pub worked_later : (names : List ℕ) (number : ℕ) (a b : List Entry) (i j : OpenJob) → HasWorked names number a b i j → Continues a b
+worked_later names number a b i j w = goes_later (IsOfJob i.stream) names number a b w.replies w.goes
+
+pub hindered_after : (g : Settings) (names : List ℕ) (number : ℕ) (a b c : List Entry) (i j : OpenJob) → IsSameJob i j → HasWorked names number a b i j → IsHindered g b c j.stream → IsHindered g a c i.stream
+hindered_after g names number a b c i j same w h = hindered_between g a b c c i.stream (worked_later names number a b i j w) ([], refl) (subst (IsHindered g b c) (ap (λ (x : OpenJob). x.stream) same) h)
+
+pub stopped_after : (g : Settings) (names : List ℕ) (number : ℕ) (a b c : List Entry) (i j : OpenJob) (r : Answer) → IsSameJob i j → HasWorked names number a b i j → IsStoppedBy g b c j.stream r → IsStoppedBy g a c i.stream r
+stopped_after g names number a b c i j r same w h = stopped_between g a b c c i.stream r (worked_later names number a b i j w) ([], refl) (subst (λ s. IsStoppedBy g b c s r) (ap (λ (x : OpenJob). x.stream) same) h)

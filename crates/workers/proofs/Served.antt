@@ -1,6 +1,7 @@
 -- What a worker keeps and says, over one job of its work.
 use Rattle.std.specs.List.{AllByRecursion, remove}
 use Rattle.std.proofs.Math.ListN.{set}
+use Rattle.std.proofs.Math.Seq.{get_or-append_seam}
 use Rattle.std.proofs.lemmas.List.{length-append}
 use Rattle.std.proofs.Common.{◌≡◌, ◌≢◌, ◌<◌, ◌≤◌, ◌+◌, ◌∙◌, ℕ, zero, suc, List, [], ◌∷◌, ◌++◌, length, take, drop, get_or, inl, inr, ◌⊎◌, refl, sym, ap, subst, arith, append_assoc, append-nil}
 use Rattle.rs_wire.specs.declared.settings.Settings.{Settings}
@@ -189,3 +190,37 @@ all_tried g old new place jobs le t =
     none_of : (xs : List OpenJob) → length xs ≡ 0 → xs ≡ []
     none_of [] h = refl
     none_of (x ∷ xs) h = absurd (omega arith)
+
+-- ---- what is read of the job at a place
+
+at_place : (before after : List OpenJob) (place : ℕ) (jobs : List OpenJob) (j x : OpenJob) → jobs ≡ before ++ j ∷ after → length before ≡ place → x ≡ get_or jobs place x → x ≡ j
+at_place before after place jobs j x are at is =
+    is ∙ (ap (λ js. get_or js place x) are ∙ (ap (λ n. get_or (before ++ j ∷ after) n x) (sym at) ∙ get_or-append_seam before j after x))
+
+-- where the job has as many replies as before, none was accepted
+pub went_quietly : (names : List ℕ) (routes : List Listed) (number : ℕ) (g : Settings) (old new : List Entry) (place : ℕ) (was now : List OpenJob) (how : Going) (x y : OpenJob)
+    → WentAt names routes number g old new place was now how → x ≡ get_or was place x → y ≡ get_or now place y → y.made ≡ x.made → GoesOn IsWorkersCall names number old new 0
+went_quietly names routes number g old new place was now how x y w isx isy same =
+    let a : x ≡ w.job = at_place w.before w.after place was w.job x w.were w.at isx in
+    let b : y ≡ w.left = at_place w.before w.after place now w.left y w.are w.at isy in
+    let made : w.left.made ≡ w.job.made = ap (λ (j : OpenJob). j.made) (sym b) ∙ (same ∙ ap (λ (j : OpenJob). j.made) a) in
+    let none : w.worked.replies ≡ 0 = (let m = w.worked.made in omega arith) in
+    subst (GoesOn IsWorkersCall names number old new) none (of_worker w.job.stream names number old new w.worked.replies w.worked.goes)
+
+pub went_hindered : (names : List ℕ) (routes : List Listed) (number : ℕ) (g : Settings) (old new : List Entry) (place : ℕ) (was now : List OpenJob) (how : Going) → how ≡ going.Blocked
+    → WentAt names routes number g old new place was now how → IsHinderedAt g old new place was now
+went_hindered names routes number g old new place was now how is w = record {
+  before = w.before;
+  job = w.job;
+  left = w.left;
+  after = w.after;
+  were = w.were;
+  are = w.are;
+  at = w.at;
+  hindered = subst (IsHindered g old new) (sym (ap (λ (j : OpenJob). j.stream) w.same)) (subst (CauseOf g old new w.job.stream) is w.cause);
+}
+
+pub went_cause : (names : List ℕ) (routes : List Listed) (number : ℕ) (g : Settings) (old new : List Entry) (place : ℕ) (was now : List OpenJob) (how : Going) (x : OpenJob) → x ≡ get_or was place x
+    → WentAt names routes number g old new place was now how → CauseOf g old new x.stream how
+went_cause names routes number g old new place was now how x is w =
+    subst (λ (j : OpenJob). CauseOf g old new j.stream how) (sym (at_place w.before w.after place was w.job x w.were w.at is)) w.cause
