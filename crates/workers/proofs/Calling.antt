@@ -25,7 +25,7 @@ use Rattle.conn_shared.specs.Calls.{IsCalled}
 use Rattle.workers.specs.declared.going.Going.{Going}
 use Rattle.workers.specs.declared.going.Going.TheVariants as going
 use Rattle.workers.specs.Courses.{Asks, Course, GoesOn, IsOfJob, IsReplyOn, IsWorkersCall, WorksOn, accepted, accepted_in, accepted_of, after_call, course, is_done, is_named}
-use Rattle.workers.specs.Going.{CauseOf, IsHindered, IsStoppedBy, MayAnswer, WasAnswered, told}
+use Rattle.workers.specs.Going.{CauseOf, IsHindered, IsRight, IsStoppedBy, MayAnswer, WasAnswered, told}
 
 -- ---- entries of others
 
@@ -260,6 +260,7 @@ works_after names number a b c h k = record {
 -- ---- what was answered
 
 pub was_answered : (g : Settings) (me : Knowledge) (asked : Call) (a : Answer) (new : List Entry) → IsCalled g me (event.Asked asked) a new → WasAnswered g me.front new asked a
+unfolding IsRight
 was_answered g me asked a new c = record {
   before = c.before;
   since = (c.follows.0, c.follows.1);
@@ -352,4 +353,3 @@ may_answer g me asked a new workers c = elim (right_or a (answer_to g c.before (
 pub full_at : (g : Settings) (me : Knowledge) (asked : Call) (a : Answer) (new : List Entry) → IsCalled g me (event.Asked asked) a new → a ≡ answer.TapeFull → 2 ^ 63 ≤ length new
 full_at g me asked a new c is = subst (λ es. 2 ^ 63 ≤ length es) (sym (c.step.after ∙ ap (λ b. entries_after me.number (event.Asked asked) b c.before) is)) (c.step.full.0 is)
 
-pub ruleset calling = (course_told, goes_call, may_answer, full_at, was_answered)

@@ -21,9 +21,11 @@ use Rattle.workers.specs.declared.job.Stage.TheVariants as stage
 use Rattle.workers.specs.Courses.{Course, after_job, course}
 use Rattle.workers.specs.Replies.{law_of}
 use Rattle.workers.specs.Serving.{AreRouted, IsAt, IsServed, Serving, Stands, jobs_on}
-use Rattle.workers.specs.Going.{IsForgotten, IsPut, Keeps, told}
+use Rattle.workers.specs.declared.outcome.Found.{Found}
+use Rattle.workers.specs.declared.outcome.Found.TheVariants as found
+use Rattle.workers.specs.Going.{IsForgotten, IsOfTakeJob, IsPut, IsRefusedOrFull, Keeps, found_of, told}
 use Rattle.workers.proofs.Plans.{other_test, same_test, test_other, test_same}
-use Rattle.workers.proofs.Jobs.{jobs-append, jobs_here, jobs_there, routed_both, routed_split, served_longer}
+use Rattle.workers.proofs.Jobs.{jobs-append, jobs_here, jobs_there, routed_both, routed_split, served_longer, serving_same}
 
 -- ---- places
 
@@ -166,3 +168,53 @@ pub told_no_job : (s : ℕ) (a : Answer) (c : Course) → no_job a → told s ca
 told_no_job s (answer.GotJob (job.Asked q k initial message complete)) c h = absurd h
 told_no_job s (answer.GotJob (job.Pushed metadata)) c h = refl
 told_no_job s _ c h = refl
+
+pub found_asked : (a : Answer) (s : ℕ) (k : Kind) (m : Message) → found_of a ≡ found.Asked s k m → (initial : Option ℕ) × (complete : Bool) × (a ≡ answer.GotJob (job.Asked s k initial m complete))
+found_asked (answer.GotJob (job.Asked q l initial n complete)) s k m h = (initial, complete, cc)
+found_asked (answer.GotJob (job.Pushed metadata)) s k m h = absurd (cc)
+found_asked answer.NotYet s k m h = absurd (cc)
+found_asked answer.OutOfMemory s k m h = absurd (cc)
+found_asked _ s k m h = absurd (cc)
+
+abbrev pub BringsNone : Found → Type 0
+BringsNone (found.Asked s k m) = ⊥
+BringsNone _ = Unit {0}
+
+none_found : (a : Answer) → BringsNone (found_of a) → no_job a
+none_found (answer.GotJob (job.Asked q l initial n complete)) h = h
+none_found (answer.GotJob (job.Pushed metadata)) h = tt
+none_found _ h = tt
+
+-- where no request comes, the statement is as before
+pub keeps_none : (names : List ℕ) (routes : List Listed) (old new : List Entry) (work : List OpenJob) (a : Answer) (f : Found) → found_of a ≡ f → BringsNone f
+    → ((q : ℕ) → course names q new ≡ told q call.TakeJob a (course names q old)) → length old ≤ length new → Keeps names routes old new work work
+keeps_none names routes old new work a f is none tells longer =
+    serving_same names routes old new work (λ q. tells q ∙ told_no_job q a (course names q old) (none_found a (subst BringsNone (sym is) none))) longer
+
+pub keeps_put : (names : List ℕ) (routes : List Listed) (old new : List Entry) (s : ℕ) (k : Kind) (m : Message) (a : Answer) (was now : List OpenJob) → found_of a ≡ found.Asked s k m
+    → ((q : ℕ) → course names q new ≡ told q call.TakeJob a (course names q old)) → length old ≤ length new → IsPut routes s k m was now → Keeps names routes old new was now
+keeps_put names routes old new s k m a was now is tells longer p =
+    let f = found_asked a s k m is in
+    serving_put names routes old new s k f.0 m f.1 was now (subst (λ b. (q : ℕ) → course names q new ≡ told q call.TakeJob b (course names q old)) f.2 tells) longer p
+
+pub no_more_found : (a b : Answer) → IsOfTakeJob a → found_of a ≡ found.NoMore b → (a ≡ b) × IsRefusedOrFull a
+no_more_found (answer.GotJob (job.Asked q l initial n complete)) b of h = absurd (cc)
+no_more_found (answer.GotJob (job.Pushed metadata)) b of h = absurd (cc)
+no_more_found answer.NotYet b of h = absurd (cc)
+no_more_found answer.OutOfMemory b of h = absurd (cc)
+no_more_found (answer.Refused why) b of h = (cc, tt)
+no_more_found answer.TapeFull b of h = (cc, tt)
+no_more_found _ b of h = absurd of
+
+pub not_yet_found : (a : Answer) → found_of a ≡ found.NotYet → a ≡ answer.NotYet
+not_yet_found (answer.GotJob (job.Asked q l initial n complete)) h = absurd (cc)
+not_yet_found (answer.GotJob (job.Pushed metadata)) h = absurd (cc)
+not_yet_found answer.NotYet h = refl
+not_yet_found answer.OutOfMemory h = absurd (cc)
+not_yet_found _ h = absurd (cc)
+
+pub put_routed : (routes : List Listed) (s : ℕ) (k : Kind) (m : Message) (was now : List OpenJob) → IsPut routes s k m was now → AreRouted routes was → AreRouted routes now
+put_routed routes s k m was now p h = subst (AreRouted routes) (sym p.are) (routed_both routes p.rest (p.job ∷ []) (p.forgotten.routed routes h) (p.routed, tt))
+
+pub put_some : (routes : List Listed) (s : ℕ) (k : Kind) (m : Message) (was now : List OpenJob) → IsPut routes s k m was now → 0 < length now
+put_some routes s k m was now p = let l : length now ≡ length p.rest + 1 = ap length p.are ∙ length-append p.rest (p.job ∷ []) in omega arith

@@ -6,7 +6,7 @@ use Rattle.std.proofs.lemmas.List.{length-append}
 use Rattle.std.proofs.Common.{◌≡◌, ◌≢◌, ◌<◌, ◌≤◌, ◌+◌, ◌∙◌, ℕ, zero, suc, List, [], ◌∷◌, ◌++◌, length, take, drop, get_or, inl, inr, ◌⊎◌, refl, sym, ap, subst, arith, append_assoc, append-nil}
 use Rattle.rs_wire.specs.declared.settings.Settings.{Settings}
 use Rattle.tape.specs.declared.entry.Entry.{Entry}
-use Rattle.conn_shared.specs.Members.{Continues}
+use Rattle.conn_shared.specs.Members.{Continues, Knowledge}
 use Rattle.handlers.specs.Listed.{Listed}
 use Rattle.workers.specs.declared.job.OpenJob.{OpenJob}
 use Rattle.workers.specs.declared.going.Going.{Going}
@@ -17,8 +17,9 @@ use Rattle.workers.specs.declared.worked.Progress.{Progress}
 use Rattle.workers.specs.declared.worked.Progress.TheVariants as progress
 use Rattle.workers.specs.Courses.{GoesOn, IsWorkersCall, WorksOn, course}
 use Rattle.workers.specs.Serving.{AreRouted, IsRouted, Serving}
-use Rattle.workers.specs.Going.{AreHindered, CauseOf, CauseOfProgress, CauseOfWorked, HasGone, HasWorked, IsHindered, IsHinderedAt, IsNotMore, IsSameJob, IsSettled, Keeps, WentAt, left_by, progress_of}
-use Rattle.workers.proofs.Calling.{all_weaker, answered_between, goes_both, goes_later, hindered_between, of_worker, stopped_between, works_job}
+use Rattle.workers.specs.Going.{AreHindered, CauseOf, CauseOfProgress, CauseOfWorked, HasGone, HasWorked, IsHindered, IsHinderedAt, IsNotMore, IsOfJobs, IsSameJob, IsSettled, Keeps, WentAt, left_by, progress_of}
+use Rattle.workers.proofs.Calling.{all_weaker, answered_between, goes_both, goes_later, hindered_between, of_worker, stopped_between, works_after, works_job}
+use Rattle.workers.proofs.Gone.{IsOn}
 use Rattle.workers.proofs.Jobs.{IsLeft, none_left, one_left, routed_both, routed_split, serving_job}
 use Rattle.workers.proofs.Putting.{cut_at, cut_length, set_split}
 
@@ -103,6 +104,25 @@ cause_of_progress g names number old new work s going.More c = tt
 cause_of_progress g names number old new work s (going.Stopped a) c = (s, c)
 cause_of_progress g names number old new work s going.OutOfMemory c = tt
 
+pub of_jobs : (g : Settings) (old new : List Entry) (s : ℕ) (how : Going) → CauseOf g old new s how → IsOfJobs g old new (progress_of s how)
+of_jobs g old new s (going.Served items) c = tt
+of_jobs g old new s going.Blocked c = c
+of_jobs g old new s going.More c = tt
+of_jobs g old new s (going.Stopped a) c = (s, c)
+of_jobs g old new s going.OutOfMemory c = tt
+
+pub progress_of_jobs : (g : Settings) (names : List ℕ) (number : ℕ) (old new : List Entry) (work : List OpenJob) (p : Progress) → IsOfJobs g old new p → CauseOfProgress g names number old new work p
+progress_of_jobs g names number old new work (progress.More s) c = tt
+progress_of_jobs g names number old new work (progress.Worked (worked.Served s items)) c = tt
+progress_of_jobs g names number old new work (progress.Worked (worked.Waiting s)) c = c
+progress_of_jobs g names number old new work (progress.Worked (worked.Stopped a)) c = c
+progress_of_jobs g names number old new work (progress.Worked worked.OutOfMemory) c = tt
+progress_of_jobs g names number old new work (progress.Worked (worked.NoMore a)) c = absurd c
+progress_of_jobs g names number old new work (progress.Worked worked.Idle) c = absurd c
+
+pub of_jobs_not_idle : (g : Settings) (old new : List Entry) (p : Progress) → IsOfJobs g old new p → p ≡ progress.Worked worked.Idle → ⊥
+of_jobs_not_idle g old new p c is = subst (IsOfJobs g old new) is c
+
 pub not_more : (s : ℕ) (how : Going) → how ≢ going.More → IsNotMore (progress_of s how)
 not_more s (going.Served items) h = tt
 not_more s going.Blocked h = tt
@@ -125,7 +145,7 @@ progress_since g names number a b c work (progress.Worked (worked.Waiting s)) h 
 progress_since g names number a b c work (progress.Worked (worked.Stopped r)) h k = (k.0, stopped_between g a b c c k.0 r (goes_later IsWorkersCall names number a b 0 h) ([], refl) k.1)
 progress_since g names number a b c work (progress.Worked (worked.NoMore r)) h k =
     let later = goes_later IsWorkersCall names number a b 0 h in
-    (goes_both IsWorkersCall names number a b c 0 0 h k.0, (answered_between g a b c c _ r later ([], refl) k.1.0, k.1.1, k.1.2))
+    (goes_both IsWorkersCall names number a b c 0 0 h k.0, (answered_between g a b c c _ r later ([], refl) k.1.0, k.1.1))
 progress_since g names number a b c work (progress.Worked worked.Idle) h k =
     let later = goes_later IsWorkersCall names number a b 0 h in
     (goes_both IsWorkersCall names number a b c 0 0 h k.0, answered_between g a b c c _ _ later ([], refl) k.1, hindered_since g a b c work later k.2)
@@ -224,3 +244,36 @@ pub went_cause : (names : List ℕ) (routes : List Listed) (number : ℕ) (g : S
     → WentAt names routes number g old new place was now how → CauseOf g old new x.stream how
 went_cause names routes number g old new place was now how x is w =
     subst (λ (j : OpenJob). CauseOf g old new j.stream how) (sym (at_place w.before w.after place was w.job x w.were w.at is)) w.cause
+
+pub of_jobs_since : (g : Settings) (a b c : List Entry) (p : Progress) → Continues a b → IsOfJobs g b c p → IsOfJobs g a c p
+of_jobs_since g a b c (progress.More s) h k = tt
+of_jobs_since g a b c (progress.Worked (worked.Served s items)) h k = tt
+of_jobs_since g a b c (progress.Worked (worked.Waiting s)) h k = hindered_between g a b c c s h ([], refl) k
+of_jobs_since g a b c (progress.Worked (worked.Stopped r)) h k = (k.0, stopped_between g a b c c k.0 r h ([], refl) k.1)
+of_jobs_since g a b c (progress.Worked worked.OutOfMemory) h k = tt
+of_jobs_since g a b c (progress.Worked (worked.NoMore r)) h k = absurd k
+of_jobs_since g a b c (progress.Worked worked.Idle) h k = absurd k
+
+-- ---- one after the other, as the caller knows
+
+pub keeps_after : (was mid now : Knowledge) (routes : List Listed) (a b c : List OpenJob) → IsOn was mid → Keeps was.names routes was.front mid.front a b → Keeps mid.names routes mid.front now.front b c → Keeps was.names routes was.front now.front a c
+keeps_after was mid now routes a b c on h k s = subst (λ names. Keeps names routes mid.front now.front b c) (ap (λ (x : Knowledge). x.names) on) k (h s)
+
+pub works_since : (was mid now : Knowledge) → IsOn was mid → GoesOn IsWorkersCall was.names was.number was.front mid.front 0 → WorksOn mid.names mid.number mid.front now.front → WorksOn was.names was.number was.front now.front
+works_since was mid now on h k =
+    works_after was.names was.number was.front mid.front now.front h
+    (subst (λ n. WorksOn was.names n mid.front now.front) (ap (λ (x : Knowledge). x.number) on) (subst (λ names. WorksOn names mid.number mid.front now.front) (ap (λ (x : Knowledge). x.names) on) k))
+
+pub quiet_since : (was mid now : Knowledge) → IsOn was mid → GoesOn IsWorkersCall was.names was.number was.front mid.front 0 → GoesOn IsWorkersCall mid.names mid.number mid.front now.front 0 → GoesOn IsWorkersCall was.names was.number was.front now.front 0
+quiet_since was mid now on h k =
+    goes_both IsWorkersCall was.names was.number was.front mid.front now.front 0 0 h
+    (subst (λ n. GoesOn IsWorkersCall was.names n mid.front now.front 0) (ap (λ (x : Knowledge). x.number) on) (subst (λ names. GoesOn IsWorkersCall names mid.number mid.front now.front 0) (ap (λ (x : Knowledge). x.names) on) k))
+
+pub progress_after : (g : Settings) (was mid now : Knowledge) (work : List OpenJob) (p : Progress) → IsOn was mid → GoesOn IsWorkersCall was.names was.number was.front mid.front 0
+    → CauseOfProgress g mid.names mid.number mid.front now.front work p → CauseOfProgress g was.names was.number was.front now.front work p
+progress_after g was mid now work p on h k =
+    progress_since g was.names was.number was.front mid.front now.front work p h
+    (subst (λ n. CauseOfProgress g was.names n mid.front now.front work p) (ap (λ (x : Knowledge). x.number) on) (subst (λ names. CauseOfProgress g names mid.number mid.front now.front work p) (ap (λ (x : Knowledge). x.names) on) k))
+
+pub later_of : (names : List ℕ) (number : ℕ) (a b : List Entry) → GoesOn IsWorkersCall names number a b 0 → Continues a b
+later_of names number a b h = goes_later IsWorkersCall names number a b 0 h

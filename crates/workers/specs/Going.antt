@@ -6,6 +6,7 @@ use Rattle.rs_wire.specs.declared.message.Message.{Message}
 use Rattle.rs_wire.specs.declared.call.Call.{Call}
 use Rattle.rs_wire.specs.declared.call.Call.TheVariants as call
 use Rattle.rs_wire.specs.declared.delivery.Delivery.TheVariants as delivery
+use Rattle.rs_wire.specs.declared.delivery.Job.TheVariants as job
 use Rattle.rs_wire.specs.declared.fault.Refusal.TheVariants as refusal
 use Rattle.tape.specs.Answers.{leaves}
 use Rattle.tape.specs.declared.answer.Answer.{Answer}
@@ -26,6 +27,8 @@ use Rattle.workers.specs.declared.plan.Plan.{Plan}
 use Rattle.workers.specs.declared.plan.Plan.TheVariants as plan
 use Rattle.workers.specs.declared.outcome.Outcome.{Outcome}
 use Rattle.workers.specs.declared.outcome.Outcome.TheVariants as outcome
+use Rattle.workers.specs.declared.outcome.Found.{Found}
+use Rattle.workers.specs.declared.outcome.Found.TheVariants as found
 use Rattle.workers.specs.declared.outcome.Taken.{Taken}
 use Rattle.workers.specs.declared.outcome.Taken.TheVariants as taken
 use Rattle.workers.specs.declared.step.Step.{Step}
@@ -128,14 +131,26 @@ taken_of answer.NotYet = taken.Blocked
 taken_of answer.OutOfMemory = taken.OutOfMemory
 taken_of a = taken.Final a
 
+-- what a TakeJob gave
+abbrev pub found_of : Answer → Found
+found_of (answer.GotJob (job.Asked s k initial message complete)) = found.Asked s k message
+found_of (answer.GotJob (job.Pushed metadata)) = found.Pushed
+found_of answer.NotYet = found.NotYet
+found_of answer.OutOfMemory = found.OutOfMemory
+found_of a = found.NoMore a
+
 -- ---- why a job does not go on
+
+-- the answer to a call after these entries, but for a full tape and out of memory
+unfoldable pub IsRight : Settings → List Entry → Call → Answer → Type 0
+IsRight g before asked a = IsUnlessWant a (answer_to g before (event.Asked asked))
 
 -- between two fronts a call was so answered, after the entries before it
 pub record WasAnswered (g : Settings) (old new : List Entry) (asked : Call) (a : Answer) : Type 0 where
   pub before : List Entry
   pub since : Continues old before
   pub up_to : Continues before new
-  pub answered : IsUnlessWant a (answer_to g before (event.Asked asked))
+  pub answered : IsRight g before asked a
   pub full : (a ≡ answer.TapeFull) ↔ (2 ^ 63 ≤ length before)
 
 -- no credit, no room in the queue, or nothing to take yet
@@ -267,9 +282,14 @@ pub record Awaits (routes : List Listed) (j : OpenJob) : Type 0 where
 abbrev pub AreHindered : Settings → List Entry → List Entry → List OpenJob → Type 0
 AreHindered g old new jobs = AllByRecursion (λ (j : OpenJob). IsHindered g old new j.stream) jobs
 
+abbrev pub IsRefusedOrFull : Answer → Type 0
+IsRefusedOrFull (answer.Refused why) = Unit {0}
+IsRefusedOrFull answer.TapeFull = Unit {0}
+IsRefusedOrFull _ = ⊥
+
 -- TakeJob was so answered
 abbrev pub IsNoMore : Settings → List Entry → List Entry → Answer → Type 0
-IsNoMore g old new a = WasAnswered g old new call.TakeJob a × MayAnswer call.TakeJob a × (IsHindrance a → ⊥)
+IsNoMore g old new a = WasAnswered g old new call.TakeJob a × IsRefusedOrFull a
 
 -- why a worker says that, with this work left
 abbrev pub CauseOfWorked : Settings → List ℕ → ℕ → List Entry → List Entry → List OpenJob → Worked → Type 0
@@ -307,3 +327,12 @@ pub record IsHinderedAt (g : Settings) (old new : List Entry) (place : ℕ) (was
   pub are : now ≡ before ++ left ∷ after
   pub at : length before ≡ place
   pub hindered : IsHindered g old new left.stream
+
+-- what is said of a job's end, with its cause
+abbrev pub IsOfJobs : Settings → List Entry → List Entry → Progress → Type 0
+IsOfJobs g old new (progress.More s) = Unit {0}
+IsOfJobs g old new (progress.Worked (worked.Served s items)) = Unit {0}
+IsOfJobs g old new (progress.Worked (worked.Waiting s)) = IsHindered g old new s
+IsOfJobs g old new (progress.Worked (worked.Stopped a)) = (s : ℕ) × IsStoppedBy g old new s a
+IsOfJobs g old new (progress.Worked worked.OutOfMemory) = Unit {0}
+IsOfJobs g old new (progress.Worked _) = ⊥

@@ -11,7 +11,6 @@ use std::sync::Wait;
 use tape::{Answer, Tape};
 
 /// Makes one of a worker's calls.
-#[tactic(auto, using(crate::proofs::Calling::calling))]
 pub fn ask<R: Wait, T: Tape>(
     rt: &R,
     connection: &Connection<T>,

@@ -1,9 +1,9 @@
 //! What the answer to a call says of the job.
 
 ghost use Rattle.std.specs.Prelude.{◌≡◌};
-ghost use Rattle.workers.specs.Going.{outcome_of, taken_of};
+ghost use Rattle.workers.specs.Going.{found_of, outcome_of, taken_of};
 
-use rs_wire::{Blob, Delivery, Refusal};
+use rs_wire::{Blob, Delivery, Job, Kind, Message, Refusal};
 use tape::Answer;
 
 /// What the answer to a reply says of the job.
@@ -32,6 +32,28 @@ pub enum Taken {
     OutOfMemory,
     /// It is refused for good, or the tape is full.
     Final(Answer),
+}
+
+/// What a TakeJob gave.
+#[derive(Debug, Drop)]
+pub enum Found {
+    /// A request.
+    Asked {
+        /// The stream that the answer goes on.
+        stream: u32,
+        /// The interaction that the stream carries.
+        kind: Kind,
+        /// What the request carries.
+        message: Message,
+    },
+    /// Metadata for the whole connection.
+    Pushed,
+    /// Nothing yet.
+    NotYet,
+    /// There was not enough memory.
+    OutOfMemory,
+    /// It is refused, or the tape is full.
+    NoMore(Answer),
 }
 
 /// What the answer to a reply says of the job.
@@ -77,5 +99,35 @@ pub fn sort(answer: Answer) -> Taken
         Answer::NotYet => Taken::Blocked,
         Answer::OutOfMemory => Taken::OutOfMemory,
         answer => Taken::Final(answer),
+    }
+}
+
+fn asked_or_pushed(job: Job) -> Found
+    ensures { result ≡ found_of (Answer.GotJob job) }
+{
+    match job {
+        Job::Asked {
+            stream,
+            kind,
+            message,
+            ..
+        } => Found::Asked {
+            stream,
+            kind,
+            message,
+        },
+        Job::Pushed { .. } => Found::Pushed,
+    }
+}
+
+/// What a TakeJob so answered gave.
+pub fn sort_job(answer: Answer) -> Found
+    ensures { result ≡ found_of answer }
+{
+    match answer {
+        Answer::GotJob(job) => asked_or_pushed(job),
+        Answer::NotYet => Found::NotYet,
+        Answer::OutOfMemory => Found::OutOfMemory,
+        answer => Found::NoMore(answer),
     }
 }

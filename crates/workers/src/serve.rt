@@ -8,20 +8,21 @@ ghost use Rattle.workers.specs.declared.worked.Worked.TheVariants as workeds;
 ghost use Rattle.workers.specs.Courses.{GoesOn, IsWorkersCall, WorksOn};
 ghost use Rattle.workers.specs.Replies.{name_of};
 ghost use Rattle.workers.specs.Serving.{AreRouted, Serving};
-ghost use Rattle.workers.specs.Going.{CauseOfProgress, CauseOfWorked, IsForgotten, IsHinderedAt, IsNotMore, IsPut, IsSettled, Keeps, WentAt, progress_of};
+ghost use Rattle.workers.specs.Going.{CauseOfProgress, CauseOfWorked, IsForgotten, IsHinderedAt, IsNotMore, IsOfJobs, IsPut, IsSettled, Keeps, WentAt, progress_of};
 
 use crate::ask::ask;
 use crate::gate::Gate;
 use crate::going::{Going, go_on};
 use crate::job::{OpenJob, Stage};
+use crate::outcome::{Found, sort_job};
 use crate::work::Work;
 use crate::worked::{Progress, Worked};
 use conn::{Caller, Connection};
 use handlers::{Handler, Routes};
-use rs_wire::{Blob, Call, Job, Kind, Message};
+use rs_wire::{Blob, Call, Kind, Message};
 use std::alloc::Global;
 use std::sync::Wait;
-use tape::{Answer, Tape};
+use tape::Tape;
 
 // The route of a request: the name is its metadata, and without metadata it is empty.
 fn route_of<F: Handler>(
@@ -120,8 +121,8 @@ fn try_job<R: Wait, T: Tape, F: Handler, G: Gate>(
         jobs.old.items jobs.new.items }
     ensures works { IfSome result (λ p.
         WorksOn caller.old.names caller.old.number caller.old.front caller.new.front) }
-    ensures cause { IfSome result (λ p. CauseOfProgress connection.now.settings
-        caller.old.names caller.old.number caller.old.front caller.new.front jobs.new.items p) }
+    ensures cause { IfSome result (λ p.
+        IsOfJobs connection.now.settings caller.old.front caller.new.front p) }
     ensures quiet { IfNone result (GoesOn IsWorkersCall caller.old.names caller.old.number
         caller.old.front caller.new.front 0) }
     ensures hindered { IfNone result (IsHinderedAt connection.now.settings caller.old.front
@@ -174,6 +175,35 @@ fn put<F: Handler>(
     });
 }
 
+// Goes on with the last job, which was got just now.
+fn go_first<R: Wait, T: Tape, F: Handler, G: Gate>(
+    rt: &R,
+    alloc: Global,
+    connection: &Connection<T>,
+    caller: &mut Caller<T>,
+    routes: &Routes<F>,
+    gate: &G,
+    jobs: &mut Vec<OpenJob>,
+    most: Option<u64>,
+) -> Progress
+    requires of { caller.old.of ≡ connection.now }
+    requires some { 0 < length jobs.old.items }
+    requires routed { AreRouted routes.now jobs.old.items }
+    ensures same { caller.new ≡
+        record caller.old { front = caller.new.front; note = caller.new.note } }
+    ensures works { WorksOn caller.old.names caller.old.number caller.old.front caller.new.front }
+    ensures routed { AreRouted routes.now jobs.new.items }
+    ensures kept { Keeps caller.old.names routes.now caller.old.front caller.new.front
+        jobs.old.items jobs.new.items }
+    ensures cause { IsOfJobs connection.now.settings caller.old.front caller.new.front result }
+    ensures unbounded { most ≡ None → IsNotMore result }
+{
+    let place = jobs.len() - 1;
+    let stream = jobs[place].stream;
+    let going = go_at(rt, alloc, connection, caller, routes, gate, jobs, place, most);
+    settle(jobs, place, stream, going)
+}
+
 // Takes a job, and goes on with it.
 fn take_job<R: Wait, T: Tape, F: Handler, G: Gate>(
     rt: &R,
@@ -202,33 +232,19 @@ fn take_job<R: Wait, T: Tape, F: Handler, G: Gate>(
     if jobs.reserve(1).is_err() {
         return Progress::Worked(Worked::OutOfMemory);
     }
-    match ask(rt, connection, caller, &Call::TakeJob) {
-        Answer::GotJob(
-            Job::Asked {
-                stream,
-                kind,
-                message,
-                ..
-            },
-        ) => {
+    match sort_job(ask(rt, connection, caller, &Call::TakeJob)) {
+        Found::Asked {
+            stream,
+            kind,
+            message,
+        } => {
             put(alloc, routes, jobs, stream, kind, message);
-            let place = jobs.len() - 1;
-            match try_job(
-                rt, alloc, connection, caller, routes, gate, jobs, place, most,
-            ) {
-                Some(progress) => progress,
-                None => Progress::Worked(Worked::Waiting(stream)),
-            }
+            go_first(rt, alloc, connection, caller, routes, gate, jobs, most)
         }
-        Answer::GotJob(Job::Pushed { .. }) => {
-            Progress::Worked(Worked::Served {
-                stream: 0,
-                items: 0,
-            })
-        }
-        Answer::NotYet => Progress::Worked(Worked::Idle),
-        Answer::OutOfMemory => Progress::Worked(Worked::OutOfMemory),
-        answer => Progress::Worked(Worked::NoMore(answer)),
+        Found::Pushed => Progress::Worked(Worked::Served { stream: 0, items: 0 }),
+        Found::NotYet => Progress::Worked(Worked::Idle),
+        Found::OutOfMemory => Progress::Worked(Worked::OutOfMemory),
+        Found::NoMore(answer) => Progress::Worked(Worked::NoMore(answer)),
     }
 }
 
