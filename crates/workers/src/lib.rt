@@ -8,6 +8,9 @@
 //! got, the replies accepted so far are the first ones of its law, in order, each once, and the job
 //! is in the work, or it is whole, or its next reply was refused for good.
 //!
+//! It is not proved yet of `serve_job` and `serve_some` (`docs/roadmap.md`): their contracts say it, and the
+//! lemmas for it stand, but the functions between are open.
+//!
 //! Handlers run outside the connection's lock, so two workers run theirs at one time. That is shown
 //! by a test, and by no contract. Left out: that a job comes to its turn, and any order between the
 //! jobs of two workers.
