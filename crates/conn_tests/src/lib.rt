@@ -1,0 +1,12 @@
+//! Trials of `conn`: callers of one connection, alone and in threads.
+//!
+//! They are in a crate of their own, so that `conn` is not proved again for them. That a caller's calls
+//! are its entries in one legal list is proved; the trials show that the calls that wait come back, and
+//! that nothing is lost between two ends.
+#![tactic(auto)]
+
+/// How many items of a stream cross between two connections in the trial of four threads.
+pub const ITEMS: u32 = 10_000;
+
+#[cfg(test)]
+mod tests;
