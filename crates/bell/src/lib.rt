@@ -1,21 +1,45 @@
-//! A bell, for threads that wait until something happens.
+//! A bell, for whoever waits until something happens: threads that are parked, and a link that
+//! waits in its poll.
 //!
-//! A waiter listens first, looks whether what it waits for is there, and sleeps only where it is
-//! not. Whoever makes it happen rings afterwards. So a ring between the look and the sleep is heard.
-//! To ring costs one load where nobody listens.
+//! A waiter looks at the bell first, then whether what it waits for is there, and sleeps only where
+//! it is not and the bell has not rung meanwhile. Whoever makes it happen rings afterwards. So a
+//! ring between the look and the sleep is heard. A ring that finds nobody asleep adds to one word,
+//! reads two, and makes no call of the system.
 //!
-//! Nothing is promised of who wakes, and when: contracts do not see a bell.
+//! Nothing is promised of who wakes, and when: contracts do not see a bell. The system may refuse
+//! to wake a link, so a link waits for a bounded time alone.
 #![tactic(auto)]
 
 use crossbeam_utils::CachePadded;
 use crossbeam_utils::sync::{EventCount, Key};
-use std::sync::Wait;
+use mio::{Registry, Token, Waker};
+use std::io;
+use std::sync::atomic::{AtomicBool, AtomicU64, Ordering};
+use std::sync::{RwLock, Wait};
 
 /// A bell. Threads share it by reference.
+///
+/// ```text
+///   a thread                            a link
+///   --------                            ------
+///   listener = bell.listen()            seen = bell.rung()
+///   is it there? if so, go on           is it there? if so, go on
+///   listener.wait(rt)                   if bell.begin_sleep(seen): wait in the poll
+///                                       bell.end_sleep()
+/// ```
+///
+/// Any number of threads listen. One link hears the bell, the last one that asked for it.
 #[derive(Drop)]
 pub struct Bell {
-    /// On cache lines of its own, since every ring reads it.
-    rings: CachePadded<EventCount>,
+    /// How often it rang. Each of the first three is on cache lines of its own, since a ring writes
+    /// this one and reads the other two.
+    rung: CachePadded<AtomicU64>,
+    /// The threads that listen.
+    listeners: CachePadded<EventCount>,
+    /// Whether the link that hears it sleeps, or is about to.
+    asleep: CachePadded<AtomicBool>,
+    /// What ends a wait in the poll of that link.
+    waker: RwLock<Option<Waker>>,
 }
 
 /// Someone who listens to a bell, to sleep until it rings, or to go away.
@@ -24,23 +48,82 @@ pub struct Listener<'a> {
 }
 
 impl Bell {
-    /// A bell that nobody listens to.
+    /// A bell that nobody listens to and no link hears.
     pub const fn new() -> Bell {
         Bell {
-            rings: CachePadded::new(EventCount::new()),
+            rung: CachePadded::new(AtomicU64::new(0)),
+            listeners: CachePadded::new(EventCount::new()),
+            asleep: CachePadded::new(AtomicBool::new(false)),
+            waker: RwLock::new(None),
         }
     }
 
-    /// Wakes everyone who listens. Call it after what they wait for has happened.
+    // Wakes the link that hears the bell. Nobody's wake-up is lost where the waker can't be read:
+    // threads that ring read it side by side, so there is a link just then that begins to hear the
+    // bell (`heard_by`). That link is awake, and looks for what this ring is about after that; and
+    // the link that heard the bell until then hears it no longer.
+    fn wake_link(&self) {
+        if let Some(waker) = self.waker.try_read()
+            && let Some(waker) = &*waker
+        {
+            // Where the system refuses, the link sleeps for its bounded time.
+            let _ = waker.wake();
+        }
+    }
+
+    /// Wakes everyone who listens, and the link that hears the bell, if it sleeps. Call it after
+    /// what they wait for has happened. It waits for nobody.
     pub fn ring(&self) {
-        self.rings.notify_all();
+        // A link writes that it sleeps and then reads the count, and a ring does it the other way
+        // round. So the link reads this ring, or this ring reads that the link sleeps.
+        self.rung.fetch_add(1, Ordering::SeqCst);
+        self.listeners.notify_all();
+        if self.asleep.load(Ordering::SeqCst) && self.asleep.swap(false, Ordering::SeqCst) {
+            self.wake_link();
+        }
     }
 
     /// Listens from now on. Call it before the look whether there is anything to wait for.
     pub fn listen(&self) -> Listener<'_> {
         Listener {
-            key: self.rings.prepare_wait(),
+            key: self.listeners.prepare_wait(),
         }
+    }
+
+    /// From now on the link with this poll hears the bell, by events of this token, and no link
+    /// that heard it before. The link reads [`rung`](Bell::rung) after this call and looks whether there
+    /// is anything to wait for after that. An error leaves the bell as it was.
+    ///
+    /// A link that no longer hears the bell may call [`end_sleep`](Bell::end_sleep) when the other
+    /// one sleeps, which then sleeps for its bounded time, once.
+    pub fn heard_by<R: Wait>(&self, rt: &R, registry: &Registry, token: Token) -> io::Result<()> {
+        let waker = Waker::new(registry, token)?;
+        *self.waker.write(rt) = Some(waker);
+        Ok(())
+    }
+
+    /// How often the bell rang. A link reads it before the look whether there is anything to wait
+    /// for. A thread that sleeps by itself sees by it whether anything happened meanwhile.
+    pub fn rung(&self) -> u64 {
+        self.rung.load(Ordering::SeqCst)
+    }
+
+    /// Says that the link that hears the bell is about to wait in its poll, so that the next ring
+    /// ends that wait. False where the bell has rung since the link read `seen`; then it must not
+    /// wait.
+    pub fn begin_sleep(&self, seen: u64) -> bool {
+        self.asleep.store(true, Ordering::SeqCst);
+        let may_sleep = self.rung() == seen;
+        if !may_sleep {
+            self.end_sleep();
+        }
+        may_sleep
+    }
+
+    /// Says that the link no longer waits, so that a ring makes no call of the system. The poll may
+    /// still have an event of the bell.
+    pub fn end_sleep(&self) {
+        self.asleep.store(false, Ordering::SeqCst);
     }
 }
 

@@ -1,7 +1,8 @@
 -- A caller may go to another thread, and threads may share a connection, where the tape may go to another thread.
 use denote.RattleType.{RattleType}
-use denote.Param.Send.{IsSend, IsSync, plain_sync, recorded_send, recorded_sync, struct_send, struct_sync, view_send, view_sync}
+use denote.Param.Send.{IsSend, IsSync, plain_sync, recorded_send, recorded_sync, struct_send, struct_sync, view_send, view_sync, sendable}
 use denote.Struct.Declared.{shape}
+use Rattle.std.proofs.Crossing.{crosses}
 use Rattle.std.proofs.option.Option.TheSendSync as option
 use Rattle.tape.specs.declared.tapes.Tape.{Ghosts}
 use Rattle.bell.proofs.Bell.TheSendSync as bell
@@ -19,4 +20,4 @@ module _ (T : RattleType) (g : Ghosts T.Denot) (s : IsSend T) where
 
   pub connection_sync : IsSync (connection.the_row T g)
   connection_sync = view_sync (connection_inside.the_row T g) _ _ _ _ (recorded_sync (connection_inside.the_field T g).row _ _ (connection_inside.the_type T g).to_one
-      (struct_sync (shape (connection_inside.the_type T g)) (shared_sync T g s, (plain_sync _ _ _ _ _, (bell.the_field_sync, tt)))))
+      (struct_sync (shape (connection_inside.the_type T g)) (shared_sync T g s, (plain_sync _ _ _ _ _, (search (bell.the_send, bell.the_sync, crosses, sendable) depth 20, tt)))))

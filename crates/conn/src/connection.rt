@@ -10,6 +10,7 @@ use rs_wire::OutOfMemory;
 use session_core::Session;
 use std::alloc::Global;
 use std::marker::Model;
+use std::sync::Arc;
 use tape::{Answer, Tape};
 
 /// A session that threads share by reference. Contracts see which connection it is, and its settings.
@@ -19,8 +20,9 @@ pub struct Connection<T: Tape> {
     pub(crate) shared: SharedSession<T>,
     /// How many bytes a frame that comes may have, of the session's settings.
     pub(crate) max_in: u32,
-    /// It rings after each turn that left an entry for which somebody may wait.
-    pub(crate) bell: Bell,
+    /// It rings after each turn that left an entry for which somebody may wait. The link that hears
+    /// it owns it, too.
+    pub(crate) bell: Arc<Bell>,
 }
 
 impl<T: Tape> Model for Connection<T> {
@@ -49,12 +51,15 @@ impl<T: Tape> Connection<T> {
         ensures kept { IfErr result (λ r. r.0 ≡ session) }
     {
         let max_in = session.settings().settings().max_in;
+        let Ok(bell) = Arc::new(alloc, Bell::new()) else {
+            return Err((session, OutOfMemory));
+        };
         let (shared, member) = SharedSession::new(alloc, session)?;
         Ok((
             Connection {
                 shared,
                 max_in,
-                bell: Bell::new(),
+                bell,
             },
             Caller {
                 member: Some(member),
@@ -68,6 +73,12 @@ impl<T: Tape> Connection<T> {
         ensures range { (64 ≤ result) × (result ≤ 16777215) }
     {
         self.max_in
+    }
+
+    /// The bell, for a link to hear. It rings after each step, whoever made it, that left an entry
+    /// other than a draw or a quiet moment: there may be something to draw then.
+    pub fn bell(&self) -> &Arc<Bell> {
+        &self.bell
     }
 
     /// Rings where others may wait for what an event so answered left: also where the connection is

@@ -2,7 +2,7 @@
 //! peers, where links come from, and the time.
 //!
 //! A [`Source`] gives bytes and a [`Sink`] takes them, as many in a call as it can. A [`Link`] does
-//! both, and says when nothing can move for now; a [`Net`] hands links out and takes them back; a
+//! both, says when nothing can move for now, and may hear the bell of its connection; a [`Net`] hands links out and takes them back; a
 //! [`Clock`] gives the moment. Each has a meaning that contracts see: the bytes left, written, taken
 //! or given, the calls asked of a net and the links put back, the moments of a clock, where it shows
 //! them, and the counts of its faults and lulls. The promise to the crates above: a call that fails

@@ -4,6 +4,9 @@ ghost use Rattle.std.specs.Prelude.{◌≡◌, ◌<◌, length};
 ghost use Rattle.outside.specs.Causes.{Rose};
 ghost use Rattle.outside.specs.Links.{IsGive, IsTake, NoneFell, Shown, counts_after_give, counts_after_take};
 
+use bell::Bell;
+use std::sync::{Arc, Wait};
+
 /// What one take gave.
 #[derive(Clone, Copy, Debug, PartialEq, Eq)]
 pub enum Taken {
@@ -63,4 +66,11 @@ pub trait Link {
             (shown self.new).counts.stalls }
         ensures counts { (shown self.new).counts ≡
             counts_after_give result (shown self.old).counts };
+
+    /// Hands the link the bell of its connection. A link that waits in [`take`](Link::take) ends
+    /// that wait, as a lull, when the bell rings, and does not wait where it rang since the last
+    /// take. A link that never waits leaves the bell alone, as one may where the system refuses.
+    fn hear<R: Wait>(&mut self, _rt: &R, _bell: &Arc<Bell>)
+        ensures same { shown self.new ≡ shown self.old }
+    {}
 }
