@@ -14,7 +14,7 @@ use Rattle.conn_lock.specs.Callers.{times}
 use Rattle.conn_shared.specs.Members.{Continues}
 use Rattle.workers.specs.declared.going.Going.{Going}
 use Rattle.workers.specs.declared.going.Going.TheVariants as going
-use Rattle.workers.specs.Courses.{Asks, GoesOn, IsOfJob, IsReplyOn, IsWorkersCall, WorksOn, accepted, accepted_in, is_done, is_named}
+use Rattle.workers.specs.Courses.{Asks, GoesOn, IsOfJob, IsReplyOn, IsWorkersCall, WorksOn, accepted, accepted_in, accepted_of, is_done, is_named}
 use Rattle.workers.specs.Going.{CauseOf, IsHindered, IsStoppedBy, WasAnswered}
 
 -- ---- which entries are added
@@ -145,6 +145,10 @@ unfolding of_worker goes_weaker
 works_job s names number a b n h =
     let w = of_worker s names number a b n h in
     record { more = w.more; on = w.on; own = w.own; stream = s; one = all_on s names number h.more h.own }
+
+-- a TakeJob makes no reply
+pub job_taken_quietly : (names : List ℕ) (number : ℕ) (a b : List Entry) (r : Answer) → GoesOn (λ c. c ≡ call.TakeJob) names number a b (length (accepted_of call.TakeJob r)) → GoesOn IsWorkersCall names number a b 0
+job_taken_quietly names number a b r h = goes_weaker (λ c. c ≡ call.TakeJob) IsWorkersCall names number a b 0 (λ c is. subst IsWorkersCall (sym is) tt) h
 
 -- no reply was accepted
 pub works_quietly : (names : List ℕ) (number : ℕ) (a b : List Entry) → GoesOn IsWorkersCall names number a b 0 → WorksOn names number a b

@@ -46,6 +46,17 @@ went_at names routes number g old new place was d left how within same gone work
       cause = cause;
     }
 
+-- the same, of the job that is read there
+pub went_here : (names : List ℕ) (routes : List Listed) (number : ℕ) (g : Settings) (old new : List Entry) (place : ℕ) (was : List OpenJob) (x left : OpenJob) (how : Going) → place < length was
+    → x ≡ get_or was place x → IsSameJob x left → HasGone names routes old new x (left_by how left) → HasWorked names number old new x left
+    → CauseOf g old new x.stream how → WentAt names routes number g old new place was (set was place left) how
+went_here names routes number g old new place was x left how within is same gone worked cause =
+    went_at names routes number g old new place was x left how within
+    (subst (λ (j : OpenJob). IsSameJob j left) is same)
+    (subst (λ (j : OpenJob). HasGone names routes old new j (left_by how left)) is gone)
+    (subst (λ (j : OpenJob). HasWorked names number old new j left) is worked)
+    (subst (λ (j : OpenJob). CauseOf g old new j.stream how) is cause)
+
 is_left : (job left : OpenJob) (how : Going) → left.stream ≡ job.stream → IsLeft job.stream (left_by how left)
 is_left job left (going.Served items) same = none_left job.stream
 is_left job left (going.Stopped a) same = none_left job.stream
@@ -239,6 +250,12 @@ went_hindered names routes number g old new place was now how is w = record {
   at = w.at;
   hindered = subst (IsHindered g old new) (sym (ap (λ (j : OpenJob). j.stream) w.same)) (subst (CauseOf g old new w.job.stream) is w.cause);
 }
+
+pub hindered_length : (g : Settings) (old new : List Entry) (place : ℕ) (was now : List OpenJob) → IsHinderedAt g old new place was now → length now ≡ length was
+hindered_length g old new place was now w =
+    let a : length was ≡ length w.before + length (w.job ∷ w.after) = ap length w.were ∙ length-append w.before (w.job ∷ w.after) in
+    let b : length now ≡ length w.before + length (w.left ∷ w.after) = ap length w.are ∙ length-append w.before (w.left ∷ w.after) in
+    omega arith
 
 pub went_cause : (names : List ℕ) (routes : List Listed) (number : ℕ) (g : Settings) (old new : List Entry) (place : ℕ) (was now : List OpenJob) (how : Going) (x : OpenJob) → x ≡ get_or was place x
     → WentAt names routes number g old new place was now how → CauseOf g old new x.stream how

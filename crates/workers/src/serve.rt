@@ -1,6 +1,6 @@
 //! One job of a connection is served.
 
-ghost use Rattle.std.specs.Prelude.{◌≡◌, ◌≢◌, ◌<◌, ◌≤◌, ◌+◌, ℕ, true, [], None, Some, IfNone, IfSome, length, vec_len, vec_capacity};
+ghost use Rattle.std.specs.Prelude.{◌≡◌, ◌≢◌, ◌<◌, ◌≤◌, ◌+◌, ◌==◌, ℕ, true, [], None, Some, IfNone, IfSome, length, position, vec_len, vec_capacity};
 ghost use Rattle.handlers.specs.Listed.{place as place_of};
 ghost use Rattle.workers.specs.declared.going.Going.TheVariants as goings;
 ghost use Rattle.workers.specs.declared.worked.Progress.TheVariants as progresses;
@@ -140,13 +140,21 @@ fn try_job<R: Wait, T: Tape, F: Handler, G: Gate>(
     Some(settle(jobs, place, stream, going))
 }
 
+// The place of the first job of a stream.
+fn find(jobs: &[OpenJob], stream: u32) -> Option<usize>
+    ensures place { result ≡ position (λ j. j.stream == stream) jobs.now }
+    ensures within { IfSome result (λ n. n < length jobs.now) }
+{
+    jobs.iter().position(|job| job.stream == stream)
+}
+
 // Lets go of the job of a stream, where there is one: the peer uses its id anew, so the stream is over.
 fn forget(jobs: &mut Vec<OpenJob>, stream: u32)
     ensures forgotten { IsForgotten stream jobs.old.items jobs.new.items }
     ensures fewer { vec_len jobs.new ≤ vec_len jobs.old }
     ensures capacity { vec_capacity jobs.new ≡ vec_capacity jobs.old }
 {
-    if let Some(place) = jobs.iter().position(|job| job.stream == stream) {
+    if let Some(place) = find(jobs, stream) {
         jobs.remove(place);
     }
 }
