@@ -18,11 +18,13 @@ use Rattle.tape.specs.declared.answer.Answer.TheVariants as answer
 use Rattle.tape.specs.declared.entry.Entry.{Entry}
 use Rattle.session_model.specs.Answers.{Facts, accepted as accepted_call, answer_to, facts, got, got_job, refused_call, refused_or}
 use Rattle.session_core.specs.Seen.{IsUnlessWant, entries_after}
+use Rattle.handlers.specs.Listed.{Listed}
 use Rattle.conn_lock.specs.Callers.{IsOthers, calls, once, times}
 use Rattle.conn_shared.specs.Lines.{who_of}
 use Rattle.conn_shared.specs.Members.{Continues, Knowledge}
 use Rattle.conn_shared.specs.Calls.{IsCalled}
 use Rattle.workers.specs.Courses.{Asks, Course, GoesOn, IsWorkersCall, accepted, accepted_of, after_call, course, is_done, is_named}
+use Rattle.workers.specs.Serving.{IsServed, Serving}
 use Rattle.workers.proofs.Fronts.{IsOwn}
 use Rattle.workers.specs.Going.{IsRight, MayAnswer, WasAnswered, told}
 
@@ -48,6 +50,13 @@ pub course_others : (names : List ℕ) (s : ℕ) (others old : List Entry) → I
 unfolding course
 course_others names s [] old none = refl
 course_others names s (x ∷ others) old none = rw (unnamed names x others none) (course_others names s others old (fewer names x others none))
+
+-- where no entry carries one of the names, no job was got
+pub serving_begins : (names : List ℕ) (past : List Entry) (routes : List Listed) → IsOthers who_of names past → Serving names past routes []
+unfolding course
+serving_begins names past routes none s =
+    subst (λ c. IsServed routes (length past) s c [])
+    (sym (ap (course names s) (sym (append-nil past)) ∙ course_others names s past [] none)) refl
 
 -- ---- the caller's own entry
 

@@ -6,10 +6,8 @@
 //! finds no credit or no room, or is refused for good. The promise to the layer above is the
 //! statement `Serving` of `specs/Serving.antt`, which every call keeps: of each job that this caller
 //! got, the replies accepted so far are the first ones of its law, in order, each once, and the job
-//! is in the work, or it is whole, or its next reply was refused for good.
-//!
-//! It is not proved yet of `serve_job` and `serve_some` (`docs/roadmap.md`): their contracts say it, and the
-//! lemmas for it stand, but the functions between are open.
+//! is in the work, or it is whole, or its next reply was refused for good. It holds at the beginning
+//! ([`a_worker_begins`]).
 //!
 //! Handlers run outside the connection's lock, so two workers run theirs at one time. That is shown
 //! by a test, and by no contract. Left out: that a job comes to its turn, and any order between the
@@ -20,6 +18,7 @@ mod ask;
 mod gate;
 mod going;
 mod job;
+mod laws;
 mod outcome;
 mod plan;
 mod serve;
@@ -28,6 +27,7 @@ mod work;
 mod worked;
 
 pub use gate::{Gate, OpenGate};
+pub use laws::a_worker_begins;
 pub use serve::{serve_job, serve_some};
 pub use work::Work;
 pub use worked::{Progress, Worked};
