@@ -1,4 +1,5 @@
 pub mod Calling
+pub mod Ended
 pub mod Fronts
 pub mod Gone
 pub mod Jobs

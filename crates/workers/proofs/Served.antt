@@ -17,7 +17,7 @@ use Rattle.workers.specs.declared.worked.Progress.{Progress}
 use Rattle.workers.specs.declared.worked.Progress.TheVariants as progress
 use Rattle.workers.specs.Courses.{GoesOn, IsWorkersCall, WorksOn, course}
 use Rattle.workers.specs.Serving.{AreRouted, IsRouted, Serving}
-use Rattle.workers.specs.Going.{AreHindered, CauseOf, CauseOfProgress, CauseOfWorked, HasGone, HasWorked, IsHindered, IsHinderedAt, IsNotMore, IsOfJobs, IsSameJob, IsSettled, Keeps, WentAt, left_by, progress_of}
+use Rattle.workers.specs.Going.{AreHindered, CauseOf, CauseOfProgress, CauseOfWorked, HasGone, HasWorked, IsHindered, IsHinderedAt, IsNotMore, IsOfJobs, IsSameJob, IsSettled, Keeps, WentAt, WholeOf, left_by, progress_of}
 use Rattle.workers.proofs.Fronts.{all_weaker, answered_between, goes_both, goes_later, hindered_between, of_worker, stopped_between, works_after, works_job}
 use Rattle.workers.proofs.Gone.{IsOn}
 use Rattle.workers.proofs.Jobs.{IsLeft, none_left, one_left, routed_both, routed_split, serving_job}
@@ -26,10 +26,10 @@ use Rattle.workers.proofs.Putting.{cut_at, cut_length, set_split}
 -- ---- the job at a place
 
 -- of a job that is changed in place
-pub went_at : (names : List ℕ) (routes : List Listed) (number : ℕ) (g : Settings) (old new : List Entry) (place : ℕ) (was : List OpenJob) (d left : OpenJob) (how : Going) → place < length was
+went_at : (names : List ℕ) (routes : List Listed) (number : ℕ) (g : Settings) (old new : List Entry) (place : ℕ) (was : List OpenJob) (d left : OpenJob) (how : Going) → place < length was
     → IsSameJob (get_or was place d) left → HasGone names routes old new (get_or was place d) (left_by how left) → HasWorked names number old new (get_or was place d) left
-    → CauseOf g old new (get_or was place d).stream how → WentAt names routes number g old new place was (set was place left) how
-went_at names routes number g old new place was d left how within same gone worked cause =
+    → CauseOf g old new (get_or was place d).stream how → WholeOf names routes old new (get_or was place d) how → WentAt names routes number g old new place was (set was place left) how
+went_at names routes number g old new place was d left how within same gone worked cause whole =
     let cut = cut_at was place d within in
     let at = cut_length was place within in
     record {
@@ -44,18 +44,20 @@ went_at names routes number g old new place was d left how within same gone work
       gone = gone;
       worked = worked;
       cause = cause;
+      whole = whole;
     }
 
 -- the same, of the job that is read there
 pub went_here : (names : List ℕ) (routes : List Listed) (number : ℕ) (g : Settings) (old new : List Entry) (place : ℕ) (was : List OpenJob) (x left : OpenJob) (how : Going) → place < length was
     → x ≡ get_or was place x → IsSameJob x left → HasGone names routes old new x (left_by how left) → HasWorked names number old new x left
-    → CauseOf g old new x.stream how → WentAt names routes number g old new place was (set was place left) how
-went_here names routes number g old new place was x left how within is same gone worked cause =
+    → CauseOf g old new x.stream how → WholeOf names routes old new x how → WentAt names routes number g old new place was (set was place left) how
+went_here names routes number g old new place was x left how within is same gone worked cause whole =
     went_at names routes number g old new place was x left how within
     (subst (λ (j : OpenJob). IsSameJob j left) is same)
     (subst (λ (j : OpenJob). HasGone names routes old new j (left_by how left)) is gone)
     (subst (λ (j : OpenJob). HasWorked names number old new j left) is worked)
     (subst (λ (j : OpenJob). CauseOf g old new j.stream how) is cause)
+    (subst (λ (j : OpenJob). WholeOf names routes old new j how) is whole)
 
 is_left : (job left : OpenJob) (how : Going) → left.stream ≡ job.stream → IsLeft job.stream (left_by how left)
 is_left job left (going.Served items) same = none_left job.stream
@@ -224,7 +226,7 @@ all_tried g old new place jobs le t =
 
 -- ---- what is read of the job at a place
 
-at_place : (before after : List OpenJob) (place : ℕ) (jobs : List OpenJob) (j x : OpenJob) → jobs ≡ before ++ j ∷ after → length before ≡ place → x ≡ get_or jobs place x → x ≡ j
+pub at_place : (before after : List OpenJob) (place : ℕ) (jobs : List OpenJob) (j x : OpenJob) → jobs ≡ before ++ j ∷ after → length before ≡ place → x ≡ get_or jobs place x → x ≡ j
 at_place before after place jobs j x are at is =
     is ∙ (ap (λ js. get_or js place x) are ∙ (ap (λ n. get_or (before ++ j ∷ after) n x) (sym at) ∙ get_or-append_seam before j after x))
 

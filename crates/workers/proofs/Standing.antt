@@ -21,7 +21,7 @@ use Rattle.workers.specs.declared.plan.Plan.{Plan}
 use Rattle.workers.specs.declared.plan.Plan.TheVariants as plan
 use Rattle.workers.specs.Replies.{AreReplies, answers, channel_reply, law_of, reply}
 use Rattle.workers.specs.Courses.{Course, after_reply, after_take, got_in, tells_end}
-use Rattle.workers.specs.Serving.{IsAt, IsAtContent, IsDone, IsFinal, IsFinalTake, IsGone, IsStop, IsStopped, Stands, replies_of}
+use Rattle.workers.specs.Serving.{IsAt, IsAtContent, IsDone, IsFinal, IsFinalTake, IsGone, IsStop, IsStopped, IsWhole, IsWholeJob, Stands, replies_of}
 use Rattle.workers.specs.Going.{Awaits, plan_of}
 use Rattle.workers.proofs.Plans.{PlanFits, Says, answers-append, plan_fits, replies_grow}
 
@@ -56,6 +56,22 @@ said_more routes c j asked made is s plans =
 -- a job that stood is done, as its stream went since
 done_job : (routes : List Listed) (entries : ℕ) (c d : Course) (j : OpenJob) → Stands routes c j → d.job ≡ c.job → IsDone routes entries j.stream j.kind j.message d → IsGone routes entries j.stream d d.job
 done_job routes entries c d j s same done = subst (IsGone routes entries j.stream d) (sym (same ∙ s.got)) done
+
+-- and is whole
+whole_job : (routes : List Listed) (c d : Course) (j : OpenJob) → Stands routes c j → d.job ≡ c.job → IsWhole (law_of routes j.kind j.message) j.kind j.stream j.message d → IsWholeJob routes j.stream d d.job
+whole_job routes c d j s same whole = subst (IsWholeJob routes j.stream d) (sym (same ∙ s.got)) whole
+
+pub whole_last : (routes : List Listed) (c : Course) (j : OpenJob) (asked : Call) → Stands routes c j → plan_of (law_of routes j.kind j.message) j ≡ plan.Say asked true
+    → IsWholeJob routes j.stream (after_reply asked answer.Done c) c.job
+whole_last routes c j asked s plans =
+    let says = stands_fits routes c j (plan.Say asked true) s plans in
+    whole_job routes c (after_reply asked answer.Done c) j s refl
+    (subst (λ n. reply (law_of routes j.kind j.message) j.kind j.stream j.message.content c.got true (suc n) ≡ None) s.made says.after)
+
+pub whole_unsaid : (routes : List Listed) (c : Course) (j : OpenJob) → Stands routes c j → plan_of (law_of routes j.kind j.message) j ≡ plan.Nothing → IsWholeJob routes j.stream c c.job
+whole_unsaid routes c j s plans =
+    whole_job routes c c j s refl
+    (subst (λ n. reply (law_of routes j.kind j.message) j.kind j.stream j.message.content c.got true n ≡ None) s.made (stands_fits routes c j plan.Nothing s plans))
 
 pub said_last : (routes : List Listed) (entries : ℕ) (c : Course) (j : OpenJob) (asked : Call) → Stands routes c j → plan_of (law_of routes j.kind j.message) j ≡ plan.Say asked true
     → IsGone routes entries j.stream (after_reply asked answer.Done c) c.job

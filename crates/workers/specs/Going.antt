@@ -1,5 +1,5 @@
 -- What the calls of a worker do to its job.
-use Rattle.std.specs.Prelude.{◌≡◌, ◌≢◌, ◌≤◌, ◌↔◌, ◌+◌, ◌^◌, ℕ, Bool, true, false, if◌then◌else◌, List, [], ◌∷◌, ◌++◌, length, Option, Some, None}
+use Rattle.std.specs.Prelude.{◌≡◌, ◌≢◌, ◌≤◌, ◌↔◌, ◌⊎◌, ◌+◌, ◌^◌, ℕ, Bool, true, false, if◌then◌else◌, List, [], ◌∷◌, ◌++◌, length, Option, Some, None}
 use Rattle.rs_wire.specs.declared.words.Kind.{Kind}
 use Rattle.rs_wire.specs.declared.words.Kind.TheVariants as kind
 use Rattle.rs_wire.specs.declared.message.Message.{Message}
@@ -42,7 +42,7 @@ use Rattle.workers.specs.declared.worked.Progress.TheVariants as progress
 use Rattle.std.specs.List.{AllByRecursion}
 use Rattle.workers.specs.Replies.{law_of, no_route, plain, response}
 use Rattle.workers.specs.Courses.{Course, GoesOn, IsOfJob, IsReplyOn, IsWorkersCall, WorksOn, after_call, course}
-use Rattle.workers.specs.Serving.{AreRouted, IsRouted, IsServed, Serving, Stands, jobs_on}
+use Rattle.workers.specs.Serving.{AreRouted, IsRouted, IsServed, IsWholeJob, Serving, Stands, jobs_on}
 
 -- ---- what a job says next
 
@@ -228,6 +228,24 @@ pub record HasWorked (names : List ℕ) (number : ℕ) (old new : List Entry) (w
   pub goes : GoesOn (IsOfJob was.stream) names number old new replies
   pub made : now.made ≡ was.made + replies
 
+-- if the job stood, it is whole
+abbrev pub IsEnded : List ℕ → List Listed → List Entry → List Entry → OpenJob → Type 0
+IsEnded names routes old new was =
+    Stands routes (course names was.stream old) was → IsWholeJob routes was.stream (course names was.stream new) (course names was.stream new).job
+
+-- a job that is served is whole
+abbrev pub WholeOfStep : List ℕ → List Listed → List Entry → List Entry → OpenJob → Step → Type 0
+WholeOfStep names routes old new was (step.Served items) = IsEnded names routes old new was
+WholeOfStep names routes old new was _ = Unit {0}
+
+abbrev pub WholeOf : List ℕ → List Listed → List Entry → List Entry → OpenJob → Going → Type 0
+WholeOf names routes old new was (going.Served items) = IsEnded names routes old new was
+WholeOf names routes old new was _ = Unit {0}
+
+abbrev pub IsServedStep : Step → Type 0
+IsServedStep (step.Served items) = Unit {0}
+IsServedStep _ = ⊥
+
 -- among these jobs the one at that place went on, to that end
 pub record WentAt (names : List ℕ) (routes : List Listed) (number : ℕ) (g : Settings) (old new : List Entry) (place : ℕ) (was now : List OpenJob) (how : Going) : Type 0 where
   pub before : List OpenJob
@@ -241,6 +259,7 @@ pub record WentAt (names : List ℕ) (routes : List Listed) (number : ℕ) (g : 
   pub gone : HasGone names routes old new job (left_by how left)
   pub worked : HasWorked names number old new job left
   pub cause : CauseOf g old new job.stream how
+  pub whole : WholeOf names routes old new job how
 
 -- the job at that place stays or leaves
 abbrev pub IsSettled : ℕ → Going → List OpenJob → List OpenJob → Type 0
@@ -304,6 +323,25 @@ CauseOfWorked g names number old new work worked.OutOfMemory = Unit {0}
 abbrev pub CauseOfProgress : Settings → List ℕ → ℕ → List Entry → List Entry → List OpenJob → Progress → Type 0
 CauseOfProgress g names number old new work (progress.More s) = Unit {0}
 CauseOfProgress g names number old new work (progress.Worked w) = CauseOfWorked g names number old new work w
+
+-- the job of stream s has left the work, and is whole
+abbrev pub IsOver : List ℕ → List Listed → List Entry → List OpenJob → ℕ → Type 0
+IsOver names routes past work s = (jobs_on s work ≡ []) × IsWholeJob routes s (course names s past) (course names s past).job
+
+-- metadata for the whole connection was taken
+abbrev pub IsPushed : Settings → List Entry → List Entry → Type 0
+IsPushed g old new = (metadata : List ℕ) × WasAnswered g old new call.TakeJob (answer.GotJob (job.Pushed metadata))
+
+-- Where a worker says that the job of a stream is served, it has left the work and is whole, if the statement held before. Of pushed
+-- metadata it says so with stream 0.
+abbrev pub WholeOfWorked : Settings → List ℕ → List Listed → List Entry → List Entry → List OpenJob → List OpenJob → Worked → Type 0
+WholeOfWorked g names routes old new was now (worked.Served s items) =
+    (Serving names old routes was → IsOver names routes new now s) ⊎ ((s ≡ 0) × IsPushed g old new)
+WholeOfWorked g names routes old new was now _ = Unit {0}
+
+abbrev pub WholeOfProgress : Settings → List ℕ → List Listed → List Entry → List Entry → List OpenJob → List OpenJob → Progress → Type 0
+WholeOfProgress g names routes old new was now (progress.More s) = Unit {0}
+WholeOfProgress g names routes old new was now (progress.Worked w) = WholeOfWorked g names routes old new was now w
 
 -- what is said of the job of stream s that went on so
 abbrev pub progress_of : ℕ → Going → Progress

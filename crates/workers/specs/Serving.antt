@@ -80,6 +80,12 @@ pub record IsStopped (at : ℕ → Option Call) (s : ℕ) (k : Kind) (c : Course
 abbrev pub IsWhole : Option Law → Kind → ℕ → Message → Course → Type 0
 IsWhole l k s message c = reply l k s message.content c.got true (length c.made) ≡ None
 
+-- the job that was got last on stream s is whole
+abbrev pub IsWholeJob : List Listed → ℕ → Course → Option Job → Type 0
+IsWholeJob routes s c None = ⊥
+IsWholeJob routes s c (Some (job.Asked q k initial message complete)) = IsWhole (law_of routes k message) k s message c
+IsWholeJob routes s c (Some (job.Pushed metadata)) = ⊥
+
 -- no more entries can be left
 abbrev pub IsFull : ℕ → Type 0
 IsFull entries = 2 ^ 63 ≤ entries

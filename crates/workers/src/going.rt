@@ -3,7 +3,7 @@
 ghost use Rattle.std.specs.Prelude.{◌≡◌, ◌≢◌, None, false};
 ghost use Rattle.workers.specs.declared.going.Going.TheVariants as goings;
 ghost use Rattle.workers.specs.Serving.{IsRouted};
-ghost use Rattle.workers.specs.Going.{CauseOf, HasGone, HasWorked, IsSameJob, left_by};
+ghost use Rattle.workers.specs.Going.{CauseOf, HasGone, HasWorked, IsSameJob, WholeOf, left_by};
 
 use crate::gate::Gate;
 use crate::job::OpenJob;
@@ -61,6 +61,8 @@ pub fn go_on<R: Wait, T: Tape, F: Handler, G: Gate>(
         job.old.stream result }
     ensures kept { HasGone caller.old.names routes.now caller.old.front caller.new.front job.old
         (left_by result job.new) }
+    ensures whole { WholeOf caller.old.names routes.now caller.old.front caller.new.front job.old
+        result }
     ensures unbounded { most ≡ None → result ≢ goings.More }
 {
     let mut sent = 0u64;

@@ -8,7 +8,7 @@ ghost use Rattle.workers.specs.declared.worked.Worked.TheVariants as workeds;
 ghost use Rattle.workers.specs.Courses.{GoesOn, IsWorkersCall, WorksOn};
 ghost use Rattle.workers.specs.Replies.{name_of};
 ghost use Rattle.workers.specs.Serving.{AreRouted, Serving};
-ghost use Rattle.workers.specs.Going.{CauseOfProgress, CauseOfWorked, IsForgotten, IsHinderedAt, IsNotMore, IsOfJobs, IsPut, IsSettled, Keeps, WentAt, progress_of};
+ghost use Rattle.workers.specs.Going.{CauseOfProgress, CauseOfWorked, IsForgotten, IsHinderedAt, IsNotMore, IsOfJobs, IsPut, IsSettled, Keeps, WentAt, WholeOfProgress, WholeOfWorked, progress_of};
 
 use crate::ask::ask;
 use crate::gate::Gate;
@@ -123,6 +123,8 @@ fn try_job<R: Wait, T: Tape, F: Handler, G: Gate>(
         WorksOn caller.old.names caller.old.number caller.old.front caller.new.front) }
     ensures cause { IfSome result (λ p.
         IsOfJobs connection.now.settings caller.old.front caller.new.front p) }
+    ensures whole { IfSome result (λ p. WholeOfProgress connection.now.settings caller.old.names
+        routes.now caller.old.front caller.new.front jobs.old.items jobs.new.items p) }
     ensures quiet { IfNone result (GoesOn IsWorkersCall caller.old.names caller.old.number
         caller.old.front caller.new.front 0) }
     ensures hindered { IfNone result (IsHinderedAt connection.now.settings caller.old.front
@@ -204,6 +206,8 @@ fn go_first<R: Wait, T: Tape, F: Handler, G: Gate>(
     ensures kept { Keeps caller.old.names routes.now caller.old.front caller.new.front
         jobs.old.items jobs.new.items }
     ensures cause { IsOfJobs connection.now.settings caller.old.front caller.new.front result }
+    ensures whole { WholeOfProgress connection.now.settings caller.old.names routes.now
+        caller.old.front caller.new.front jobs.old.items jobs.new.items result }
     ensures unbounded { most ≡ None → IsNotMore result }
 {
     let place = jobs.len() - 1;
@@ -233,6 +237,8 @@ fn take_job<R: Wait, T: Tape, F: Handler, G: Gate>(
         jobs.old.items jobs.new.items }
     ensures cause { CauseOfProgress connection.now.settings caller.old.names caller.old.number
         caller.old.front caller.new.front [] result }
+    ensures whole { WholeOfProgress connection.now.settings caller.old.names routes.now
+        caller.old.front caller.new.front jobs.old.items jobs.new.items result }
     ensures idle { result ≡ progresses.Worked workeds.Idle →
         jobs.new.items ≡ jobs.old.items }
     ensures unbounded { most ≡ None → IsNotMore result }
@@ -277,6 +283,8 @@ fn serve<R: Wait, T: Tape, F: Handler, G: Gate>(
         jobs.old.items jobs.new.items }
     ensures cause { CauseOfProgress connection.now.settings caller.old.names caller.old.number
         caller.old.front caller.new.front jobs.new.items result }
+    ensures whole { WholeOfProgress connection.now.settings caller.old.names routes.now
+        caller.old.front caller.new.front jobs.old.items jobs.new.items result }
     ensures unbounded { most ≡ None → IsNotMore result }
 {
     let count = jobs.len();
@@ -314,6 +322,8 @@ pub fn serve_job<R: Wait, T: Tape, F: Handler, G: Gate>(
         Serving caller.old.names caller.new.front routes.now work.new }
     ensures cause { CauseOfWorked connection.now.settings caller.old.names caller.old.number
         caller.old.front caller.new.front work.new result }
+    ensures whole { WholeOfWorked connection.now.settings caller.old.names routes.now
+        caller.old.front caller.new.front work.old work.new result }
 {
     match serve(
         rt,
@@ -353,6 +363,8 @@ pub fn serve_some<R: Wait, T: Tape, F: Handler, G: Gate>(
         Serving caller.old.names caller.new.front routes.now work.new }
     ensures cause { CauseOfProgress connection.now.settings caller.old.names caller.old.number
         caller.old.front caller.new.front work.new result }
+    ensures whole { WholeOfProgress connection.now.settings caller.old.names routes.now
+        caller.old.front caller.new.front work.old work.new result }
 {
     serve(
         rt,

@@ -12,7 +12,7 @@ ghost use Rattle.workers.specs.declared.outcome.Outcome.TheVariants as outcomes;
 ghost use Rattle.workers.specs.Replies.{law_of};
 ghost use Rattle.workers.specs.Courses.{IsReplyOn};
 ghost use Rattle.workers.specs.Serving.{IsRouted};
-ghost use Rattle.workers.specs.Going.{Awaits, CauseOfStep, HasGone, HasWorked, IsSameJob, left_after, left_by_step, plan_of};
+ghost use Rattle.workers.specs.Going.{Awaits, CauseOfStep, HasGone, HasWorked, IsSameJob, IsServedStep, WholeOfStep, left_after, left_by_step, plan_of};
 
 use crate::ask::ask;
 use crate::gate::Gate;
@@ -86,6 +86,8 @@ fn take_content<R: Wait, T: Tape>(
         job.old.stream result }
     ensures kept { (routes : List Listed) → Awaits routes job.old → HasGone caller.old.names routes
         caller.old.front caller.new.front job.old (left_by_step result job.new) }
+    ensures whole { (routes : List Listed) → WholeOfStep caller.old.names routes caller.old.front
+        caller.new.front job.old result }
 {
     let call = Call::Take { stream: job.stream };
     match sort(ask(rt, connection, caller, &call)) {
@@ -110,6 +112,7 @@ fn accepted(job: &mut OpenJob, call: &Call, last: bool, made: u64) -> Step
     ensures left { left_by_step result job.new ≡ left_after outcomes.Accepted last job.old made }
     ensures cause { (settings : Settings) (old new : List Entry) (stream : ℕ) →
         CauseOfStep settings old new stream result }
+    ensures end { IsServedStep result → last ≡ true }
 {
     let items = job.made + items_in(call);
     job.made = made;
@@ -144,6 +147,9 @@ fn say<R: Wait, T: Tape>(
         plan_of (law_of routes job.old.kind job.old.message) job.old ≡ plans.Say call.now last →
         HasGone caller.old.names routes caller.old.front caller.new.front job.old
         (left_by_step result job.new) }
+    ensures whole { (routes : List Listed) →
+        plan_of (law_of routes job.old.kind job.old.message) job.old ≡ plans.Say call.now last →
+        WholeOfStep caller.old.names routes caller.old.front caller.new.front job.old result }
 {
     // A job of 2^64 - 1 replies can't go on.
     let Some(made) = job.made.checked_add(1) else {
@@ -178,6 +184,8 @@ fn answer<R: Wait, T: Tape, F: Handler>(
         job.old.stream result }
     ensures kept { HasGone caller.old.names routes.now caller.old.front caller.new.front job.old
         (left_by_step result job.new) }
+    ensures whole { WholeOfStep caller.old.names routes.now caller.old.front caller.new.front
+        job.old result }
 {
     match make_plan(alloc, routes, job) {
         Plan::Say { call, last } => say(rt, connection, caller, job, &call, last),
@@ -211,6 +219,8 @@ pub fn make_step<R: Wait, T: Tape, F: Handler, G: Gate>(
         job.old.stream result }
     ensures kept { HasGone caller.old.names routes.now caller.old.front caller.new.front job.old
         (left_by_step result job.new) }
+    ensures whole { WholeOfStep caller.old.names routes.now caller.old.front caller.new.front
+        job.old result }
 {
     if awaits_content(job) {
         return take_content(rt, connection, caller, job);

@@ -1,3 +1,4 @@
+use Rattle.workers.proofs.Ended.{whole_after}
 use Rattle.workers.proofs.Gone.{gone_after, hindered_after, on_both, same_both, stopped_after, worked_after}
 use Rattle.workers.proofs.going.go_on.Goals as goal
 
@@ -43,3 +44,8 @@ pub returns-in-OutOfMemory-clause-worked : goal.returns-in-OutOfMemory-clause-wo
 returns-in-OutOfMemory-clause-worked g c =
     worked_after c.args.caller.now c.loop.caller c.make_step.new.caller c.args.job.now c.loop.job c.make_step.new.job
     c.loop.invariant.same c.loop.invariant.job c.loop.invariant.worked c.make_step.ensures.worked
+
+pub returns-in-Served-clause-whole : goal.returns-in-Served-clause-whole
+returns-in-Served-clause-whole g c =
+    whole_after c.args.caller.now c.loop.caller c.make_step.new.caller c.args.routes.now c.args.job.now c.loop.job
+    c.loop.invariant.same c.loop.invariant.job c.loop.invariant.gone c.in-Served.ensures.whole

@@ -1,5 +1,6 @@
 use Rattle.std.proofs.Common.{◌≤◌, ◌∙◌, [], length, arith, subst, sym}
 use Rattle.workers.specs.Going.{AreHindered}
+use Rattle.workers.proofs.Ended.{whole_since}
 use Rattle.workers.proofs.Gone.{on_both}
 use Rattle.workers.proofs.Served.{all_tried, hindered_length, hindered_until, keeps_after, later_of, of_jobs_since, one_more_tried, progress_after, progress_of_all, progress_of_jobs, quiet_since, works_since}
 use Rattle.workers.proofs.serve.serve.Goals as goal
@@ -46,3 +47,13 @@ returns-clause-cause g c =
     (λ idle. subst (AreHindered settings was.front now.front) (sym (c.take_job.ensures.idle idle))
       (hindered_until settings was.front mid.front now.front c.loop-place.jobs.items (c.take_job.ensures.works.more, c.take_job.ensures.works.on) tried))
     (progress_after settings was mid now [] c.take_job.result known.same known.quiet c.take_job.ensures.cause)
+
+pub returns-in-Some-clause-whole : goal.returns-in-Some-clause-whole
+returns-in-Some-clause-whole g c =
+    whole_since c.args.connection.now.settings c.args.caller.now c.loop-place.caller c.try_job-tried.new.caller c.args.routes.now c.args.jobs.now.items c.loop-place.jobs.items c.try_job-tried.new.jobs.items c.in-Some.progress
+    c.loop-place.invariant.same (later_of _ _ _ _ c.loop-place.invariant.quiet) c.loop-place.invariant.kept c.in-Some.ensures.whole
+
+pub returns-clause-whole : goal.returns-clause-whole
+returns-clause-whole g c =
+    whole_since c.args.connection.now.settings c.args.caller.now c.loop-place.caller c.take_job.new.caller c.args.routes.now c.args.jobs.now.items c.loop-place.jobs.items c.take_job.new.jobs.items c.take_job.result
+    c.loop-place.invariant.same (later_of _ _ _ _ c.loop-place.invariant.quiet) c.loop-place.invariant.kept c.take_job.ensures.whole

@@ -1,8 +1,9 @@
-use Rattle.std.proofs.Common.{[], ◌∙◌, subst, sym}
+use Rattle.std.proofs.Common.{[], ◌∙◌, inr, refl, subst, sym}
 use Rattle.rs_wire.specs.declared.call.Call.TheVariants as call
 use Rattle.workers.specs.Courses.{IsWorkersCall}
 use Rattle.workers.specs.Serving.{AreRouted}
 use Rattle.workers.specs.Going.{IsRefusedOrFull, Keeps, WasAnswered}
+use Rattle.workers.proofs.Ended.{was_pushed, whole_since}
 use Rattle.workers.proofs.Fronts.{goes_later, goes_longer, goes_none, job_taken_quietly, works_quietly}
 use Rattle.workers.proofs.Putting.{keeps_put, no_more_found, not_yet_found, put_routed}
 use Rattle.workers.proofs.Served.{keeps_after, of_jobs_since, progress_of_jobs, works_since}
@@ -54,3 +55,15 @@ pub returns-in-NoMore-clause-cause : goal.returns-in-NoMore-clause-cause
 returns-in-NoMore-clause-cause g c =
     let is = no_more_found c.ask.result c.in-NoMore.answer c.ask.ensures.may (sym c.sort_job.ensures ∙ c.in-NoMore.is) in
     (job_taken_quietly _ _ _ _ c.ask.result c.ask.ensures.goes, (subst (WasAnswered _ _ _ call.TakeJob) is.0 c.ask.ensures.was, subst IsRefusedOrFull is.0 is.1))
+
+pub returns-in-Asked-clause-whole : goal.returns-in-Asked-clause-whole
+returns-in-Asked-clause-whole g c =
+    whole_since c.args.connection.now.settings c.args.caller.now c.ask.new.caller c.go_first.new.caller c.args.routes.now c.args.jobs.now.items c.put.new.jobs.items c.go_first.new.jobs.items c.go_first.result
+    c.ask.ensures.same (goes_later _ _ _ _ _ _ c.ask.ensures.goes)
+    (subst (λ jobs. Keeps c.args.caller.now.names c.args.routes.now c.args.caller.now.front c.ask.new.caller.front jobs c.put.new.jobs.items) c.reserve.ensures.items
+    (keeps_put _ c.args.routes.now _ _ _ _ _ c.ask.result c.reserve.new.self.items c.put.new.jobs.items (sym c.sort_job.ensures ∙ c.in-Asked.is) c.ask.ensures.told
+    (goes_longer _ _ _ _ _ _ c.ask.ensures.goes) c.put.ensures))
+    c.go_first.ensures.whole
+
+pub returns-in-Pushed-clause-whole : goal.returns-in-Pushed-clause-whole
+returns-in-Pushed-clause-whole g c = inr (refl, was_pushed _ _ _ c.ask.result (sym c.sort_job.ensures ∙ c.in-Pushed.is) c.ask.ensures.was)

@@ -1,5 +1,6 @@
 use Rattle.std.proofs.Common.{subst, sym}
-use Rattle.workers.specs.Going.{IsOfJobs}
+use Rattle.workers.specs.Going.{IsOfJobs, WholeOfProgress}
+use Rattle.workers.proofs.Ended.{went_whole}
 use Rattle.workers.proofs.Served.{of_jobs, stays_kept, stays_settled, went_cause, went_kept, went_quietly, went_routed, went_works}
 use Rattle.workers.proofs.serve.try_job.Goals as goal
 
@@ -33,3 +34,8 @@ returns-clause-cause g c =
     subst (IsOfJobs c.args.connection.now.settings c.args.caller.now.front c.go_at-going.new.caller.front) (sym c.settle.ensures.said)
     (of_jobs _ _ _ c.index.result.now.stream c.go_at-going.result
     (went_cause _ c.args.routes.now _ _ _ _ c.args.place c.args.jobs.now.items c.go_at-going.new.jobs.items c.go_at-going.result c.index.result.now c.index.ensures c.go_at-going.ensures.went))
+
+pub returns-clause-whole : goal.returns-clause-whole
+returns-clause-whole g c =
+    subst (WholeOfProgress c.args.connection.now.settings c.args.caller.now.names c.args.routes.now c.args.caller.now.front c.go_at-going.new.caller.front c.args.jobs.now.items c.settle.new.jobs.items) (sym c.settle.ensures.said)
+    (went_whole _ c.args.routes.now _ _ _ _ c.args.place c.args.jobs.now.items c.go_at-going.new.jobs.items c.settle.new.jobs.items c.go_at-going.result c.index.result.now c.index.ensures c.go_at-going.ensures.went c.settle.ensures.settled)

@@ -3,6 +3,7 @@ use Rattle.workers.specs.declared.job.OpenJob.{OpenJob}
 use Rattle.workers.specs.declared.outcome.Outcome.{Outcome}
 use Rattle.workers.specs.declared.outcome.Outcome.TheVariants as outcome
 use Rattle.workers.specs.Going.{HasGone}
+use Rattle.workers.proofs.Ended.{whole_said}
 use Rattle.workers.proofs.Gone.{made_after, said_by, worked_said}
 use Rattle.workers.proofs.step.say.Goals as goal
 
@@ -48,3 +49,8 @@ returns-in-Final-clause-kept g c = λ routes plans.
     let more : c.in-Some.made ≡ c.args.job.now.made + 1 = search rules in
     said_by _ routes _ _ _ c.args.job.now c.args.call.now c.args.last c.ask-answer.result c.in-Some.made outcome.Final (sym c.judge.ensures ∙ c.in-Final.is) more c.requires.on
     c.ask-answer.ensures.may c.ask-answer.ensures.told c.ask-answer.ensures.goes c.ask-answer.ensures.full plans
+
+pub returns-in-Accepted-clause-whole : goal.returns-in-Accepted-clause-whole
+returns-in-Accepted-clause-whole g c = λ routes plans.
+    whole_said _ routes _ _ c.args.job.now c.args.call.now c.args.last c.ask-answer.result c.accepted.result c.accepted.ensures.end (sym c.judge.ensures ∙ c.in-Accepted.is)
+    c.requires.on c.ask-answer.ensures.told plans
