@@ -10,7 +10,6 @@ ghost use Rattle.workers.specs.Serving.{Serving};
 /// With no job in its work, what a worker keeps holds of a caller none of whose names any entry
 /// carries, as of the first caller of a new connection and of one that was just split off. It does
 /// nothing: its contract is the law.
-#[tactic(auto, using(crate::proofs::Calling::serving_begins))]
 pub fn a_worker_begins()
     ensures { (names : List ℕ) (past : List Entry) (routes : List Listed) →
         IsOthers who_of names past → Serving names past routes [] }
