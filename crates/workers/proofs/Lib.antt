@@ -2,6 +2,7 @@ pub mod Calling
 pub mod Ended
 pub mod Fronts
 pub mod Gone
+pub mod Items
 pub mod Jobs
 pub mod Plans
 pub mod Putting

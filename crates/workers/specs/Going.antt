@@ -40,7 +40,7 @@ use Rattle.workers.specs.declared.worked.Worked.TheVariants as worked
 use Rattle.workers.specs.declared.worked.Progress.{Progress}
 use Rattle.workers.specs.declared.worked.Progress.TheVariants as progress
 use Rattle.std.specs.List.{AllByRecursion}
-use Rattle.workers.specs.Replies.{law_of, no_route, plain, response}
+use Rattle.workers.specs.Replies.{item_of, items_of, law_of, no_route, plain, response}
 use Rattle.workers.specs.Courses.{Course, GoesOn, IsOfJob, IsReplyOn, IsWorkersCall, WorksOn, after_call, course}
 use Rattle.workers.specs.Serving.{AreRouted, IsRouted, IsServed, IsWholeJob, Serving, Stands, jobs_on}
 
@@ -228,23 +228,27 @@ pub record HasWorked (names : List ℕ) (number : ℕ) (old new : List Entry) (w
   pub goes : GoesOn (IsOfJob was.stream) names number old new replies
   pub made : now.made ≡ was.made + replies
 
--- if the job stood, it is whole
-abbrev pub IsEnded : List ℕ → List Listed → List Entry → List Entry → OpenJob → Type 0
-IsEnded names routes old new was =
-    Stands routes (course names was.stream old) was → IsWholeJob routes was.stream (course names was.stream new) (course names was.stream new).job
+-- the job that was got last on stream s is whole, and its replies brought so many items
+abbrev pub IsWholeOf : List Listed → ℕ → ℕ → Course → Type 0
+IsWholeOf routes s items c = IsWholeJob routes s c c.job × (items ≡ items_of c.made)
+
+-- if the job stood, it is whole, with so many items
+abbrev pub IsEnded : List ℕ → List Listed → List Entry → List Entry → OpenJob → ℕ → Type 0
+IsEnded names routes old new was items = Stands routes (course names was.stream old) was → IsWholeOf routes was.stream items (course names was.stream new)
 
 -- a job that is served is whole
 abbrev pub WholeOfStep : List ℕ → List Listed → List Entry → List Entry → OpenJob → Step → Type 0
-WholeOfStep names routes old new was (step.Served items) = IsEnded names routes old new was
+WholeOfStep names routes old new was (step.Served items) = IsEnded names routes old new was items
 WholeOfStep names routes old new was _ = Unit {0}
 
 abbrev pub WholeOf : List ℕ → List Listed → List Entry → List Entry → OpenJob → Going → Type 0
-WholeOf names routes old new was (going.Served items) = IsEnded names routes old new was
+WholeOf names routes old new was (going.Served items) = IsEnded names routes old new was items
 WholeOf names routes old new was _ = Unit {0}
 
-abbrev pub IsServedStep : Step → Type 0
-IsServedStep (step.Served items) = Unit {0}
-IsServedStep _ = ⊥
+-- a step that serves the job by this reply, after so many items: it is the last one
+abbrev pub IsLastStep : Call → ℕ → Bool → Step → Type 0
+IsLastStep asked before last (step.Served items) = (last ≡ true) × (items ≡ before + item_of asked)
+IsLastStep asked before last _ = Unit {0}
 
 -- among these jobs the one at that place went on, to that end
 pub record WentAt (names : List ℕ) (routes : List Listed) (number : ℕ) (g : Settings) (old new : List Entry) (place : ℕ) (was now : List OpenJob) (how : Going) : Type 0 where
@@ -324,19 +328,19 @@ abbrev pub CauseOfProgress : Settings → List ℕ → ℕ → List Entry → Li
 CauseOfProgress g names number old new work (progress.More s) = Unit {0}
 CauseOfProgress g names number old new work (progress.Worked w) = CauseOfWorked g names number old new work w
 
--- the job of stream s has left the work, and is whole
-abbrev pub IsOver : List ℕ → List Listed → List Entry → List OpenJob → ℕ → Type 0
-IsOver names routes past work s = (jobs_on s work ≡ []) × IsWholeJob routes s (course names s past) (course names s past).job
+-- the job of stream s has left the work, and is whole, with so many items
+abbrev pub IsOver : List ℕ → List Listed → List Entry → List OpenJob → ℕ → ℕ → Type 0
+IsOver names routes past work items s = (jobs_on s work ≡ []) × IsWholeOf routes s items (course names s past)
 
 -- metadata for the whole connection was taken
 abbrev pub IsPushed : Settings → List Entry → List Entry → Type 0
 IsPushed g old new = (metadata : List ℕ) × WasAnswered g old new call.TakeJob (answer.GotJob (job.Pushed metadata))
 
--- Where a worker says that the job of a stream is served, it has left the work and is whole, if the statement held before. Of pushed
--- metadata it says so with stream 0.
+-- Where a worker says that the job of a stream is served, it has left the work and is whole, with as many items as it says, if the
+-- statement held before. Of pushed metadata it says so with stream 0.
 abbrev pub WholeOfWorked : Settings → List ℕ → List Listed → List Entry → List Entry → List OpenJob → List OpenJob → Worked → Type 0
 WholeOfWorked g names routes old new was now (worked.Served s items) =
-    (Serving names old routes was → IsOver names routes new now s) ⊎ ((s ≡ 0) × IsPushed g old new)
+    (Serving names old routes was → IsOver names routes new now items s) ⊎ ((s ≡ 0) × (items ≡ 0) × IsPushed g old new)
 WholeOfWorked g names routes old new was now _ = Unit {0}
 
 abbrev pub WholeOfProgress : Settings → List ℕ → List Listed → List Entry → List Entry → List OpenJob → List OpenJob → Progress → Type 0

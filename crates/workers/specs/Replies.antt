@@ -1,5 +1,5 @@
 -- The replies that a job asks for, by the law of its route.
-use Rattle.std.specs.Prelude.{◌≡◌, ℕ, ◌==◌, ◌&&◌, Bool, true, false, if◌then◌else◌, List, [], ◌∷◌, ◌++◌, length, slice_get, Option, Some, None, option_to_list, codes}
+use Rattle.std.specs.Prelude.{◌≡◌, ℕ, ◌+◌, ◌==◌, ◌&&◌, Bool, true, false, if◌then◌else◌, List, [], ◌∷◌, ◌++◌, length, slice_get, Option, Some, None, option_to_list, codes}
 use Rattle.rs_wire.specs.declared.words.Kind.{Kind}
 use Rattle.rs_wire.specs.declared.words.Kind.TheVariants as kind
 use Rattle.rs_wire.specs.declared.message.Message.{Message}
@@ -83,6 +83,15 @@ routeless_reply _ s k = if k == 0 then Some (no_route s) else None
 unfoldable pub reply : Option Law → Kind → ℕ → List ℕ → List (List ℕ) → Bool → ℕ → Option Call
 reply None k s content got over n = routeless_reply k s n
 reply (Some l) k s content got over n = lawful_reply l k s content got over n
+
+-- how many of these calls bring an item
+abbrev pub item_of : Call → ℕ
+item_of (call.Next s message complete) = 1
+item_of _ = 0
+
+abbrev pub items_of : List Call → ℕ
+items_of [] = 0
+items_of (c ∷ calls) = item_of c + items_of calls
 
 -- These calls, the newest first, are the first replies of that job, in their order.
 abbrev pub AreReplies : (ℕ → Option Call) → List Call → Type 0

@@ -9,10 +9,10 @@ ghost use Rattle.handlers.specs.Listed.{Listed};
 ghost use Rattle.workers.specs.declared.plan.Plan.TheVariants as plans;
 ghost use Rattle.workers.specs.declared.job.Stage.TheVariants as stages;
 ghost use Rattle.workers.specs.declared.outcome.Outcome.TheVariants as outcomes;
-ghost use Rattle.workers.specs.Replies.{law_of};
+ghost use Rattle.workers.specs.Replies.{item_of, law_of};
 ghost use Rattle.workers.specs.Courses.{IsReplyOn};
 ghost use Rattle.workers.specs.Serving.{IsRouted};
-ghost use Rattle.workers.specs.Going.{Awaits, CauseOfStep, HasGone, HasWorked, IsSameJob, IsServedStep, WholeOfStep, left_after, left_by_step, plan_of};
+ghost use Rattle.workers.specs.Going.{Awaits, CauseOfStep, HasGone, HasWorked, IsLastStep, IsSameJob, WholeOfStep, left_after, left_by_step, plan_of};
 
 use crate::ask::ask;
 use crate::gate::Gate;
@@ -42,7 +42,8 @@ pub enum Step {
 }
 
 fn items_in(call: &Call) -> u64
-    ensures { result ≤ 1 }
+    ensures count { result ≡ item_of call.now }
+    ensures one { result ≤ 1 }
 {
     match call {
         Call::Next { .. } => 1,
@@ -112,7 +113,7 @@ fn accepted(job: &mut OpenJob, call: &Call, last: bool, made: u64) -> Step
     ensures left { left_by_step result job.new ≡ left_after outcomes.Accepted last job.old made }
     ensures cause { (settings : Settings) (old new : List Entry) (stream : ℕ) →
         CauseOfStep settings old new stream result }
-    ensures end { IsServedStep result → last ≡ true }
+    ensures end { IsLastStep call.now job.old.made last result }
 {
     let items = job.made + items_in(call);
     job.made = made;

@@ -47,5 +47,5 @@ returns-in-OutOfMemory-clause-worked g c =
 
 pub returns-in-Served-clause-whole : goal.returns-in-Served-clause-whole
 returns-in-Served-clause-whole g c =
-    whole_after c.args.caller.now c.loop.caller c.make_step.new.caller c.args.routes.now c.args.job.now c.loop.job
+    whole_after c.args.caller.now c.loop.caller c.make_step.new.caller c.args.routes.now c.args.job.now c.loop.job c.in-Served.items
     c.loop.invariant.same c.loop.invariant.job c.loop.invariant.gone c.in-Served.ensures.whole

@@ -66,4 +66,4 @@ returns-in-Asked-clause-whole g c =
     c.go_first.ensures.whole
 
 pub returns-in-Pushed-clause-whole : goal.returns-in-Pushed-clause-whole
-returns-in-Pushed-clause-whole g c = inr (refl, was_pushed _ _ _ c.ask.result (sym c.sort_job.ensures ∙ c.in-Pushed.is) c.ask.ensures.was)
+returns-in-Pushed-clause-whole g c = inr (refl, refl, was_pushed _ _ _ c.ask.result (sym c.sort_job.ensures ∙ c.in-Pushed.is) c.ask.ensures.was)
