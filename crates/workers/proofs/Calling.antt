@@ -1,8 +1,7 @@
 -- A call of a worker, in the courses of the streams.
 use Rattle.std.specs.List.{AllByRecursion}
 use Rattle.std.proofs.lemmas.Bool.Decides.{nat_tests}
-use Rattle.std.proofs.Common.{◌≡◌, ◌<◌, ◌≤◌, ◌+◌, ◌^◌, ◌∙◌, ℕ, zero, suc, Bool, true, false, if◌then◌else◌, nat_lt, List, [], ◌∷◌, ◌++◌, length, Option, Some, None, inl, inr, ◌⊎◌, refl, sym, ap, subst, arith, append-nil, append_assoc}
-use Rattle.std.proofs.lemmas.List.{length-append}
+use Rattle.std.proofs.Common.{◌≡◌, ◌<◌, ◌≤◌, ◌^◌, ◌∙◌, ℕ, zero, suc, Bool, true, false, if◌then◌else◌, nat_lt, List, [], ◌∷◌, ◌++◌, length, Option, Some, None, inl, inr, ◌⊎◌, refl, sym, ap, subst, arith, append-nil}
 use Rattle.rs_wire.specs.declared.settings.Settings.{Settings}
 use Rattle.rs_wire.specs.declared.delivery.Delivery.{Delivery}
 use Rattle.rs_wire.specs.declared.delivery.Job.{Job}
@@ -11,7 +10,6 @@ use Rattle.rs_wire.specs.declared.call.Call.{Call}
 use Rattle.rs_wire.specs.declared.call.Call.TheVariants as call
 use Rattle.tape.specs.Answers.{leaves}
 use Rattle.tape.specs.Told.{entry_of}
-use Rattle.tape.specs.declared.event.Event.{Event}
 use Rattle.tape.specs.declared.event.Event.TheVariants as event
 use Rattle.tape.specs.declared.answer.Answer.{Answer}
 use Rattle.tape.specs.declared.answer.Answer.TheVariants as answer
@@ -19,11 +17,11 @@ use Rattle.tape.specs.declared.entry.Entry.{Entry}
 use Rattle.session_model.specs.Answers.{Facts, accepted as accepted_call, answer_to, facts, got, got_job, refused_call, refused_or}
 use Rattle.session_core.specs.Seen.{IsUnlessWant, entries_after}
 use Rattle.handlers.specs.Listed.{Listed}
-use Rattle.conn_lock.specs.Callers.{IsOthers, calls, once, times}
+use Rattle.conn_lock.specs.Callers.{IsOthers, once, times}
 use Rattle.conn_shared.specs.Lines.{who_of}
 use Rattle.conn_shared.specs.Members.{Continues, Knowledge}
 use Rattle.conn_shared.specs.Calls.{IsCalled}
-use Rattle.workers.specs.Courses.{Asks, Course, GoesOn, IsWorkersCall, accepted, accepted_of, after_call, course, is_done, is_named}
+use Rattle.workers.specs.Courses.{GoesOn, IsWorkersCall, accepted, accepted_of, after_call, course, is_done, is_named}
 use Rattle.workers.specs.Serving.{IsServed, Serving}
 use Rattle.workers.proofs.Fronts.{IsOwn}
 use Rattle.workers.specs.Going.{IsRight, MayAnswer, WasAnswered, told}
@@ -197,4 +195,3 @@ may_answer g me asked a new workers c = elim (right_or a (answer_to g c.before (
 -- a tape is full exactly at its 2 ^ 63rd entry
 pub full_at : (g : Settings) (me : Knowledge) (asked : Call) (a : Answer) (new : List Entry) → IsCalled g me (event.Asked asked) a new → a ≡ answer.TapeFull → 2 ^ 63 ≤ length new
 full_at g me asked a new c is = subst (λ es. 2 ^ 63 ≤ length es) (sym (c.step.after ∙ ap (λ b. entries_after me.number (event.Asked asked) b c.before) is)) (c.step.full.0 is)
-

@@ -1,5 +1,5 @@
 -- A job that is served is whole, and has left the work.
-use Rattle.std.proofs.Common.{◌≡◌, ◌+◌, ◌∙◌, ℕ, true, Bool, arith, List, [], ◌∷◌, ◌++◌, length, get_or, inl, inr, refl, sym, ap, subst}
+use Rattle.std.proofs.Common.{◌≡◌, ◌+◌, ◌∙◌, ℕ, Bool, arith, List, [], ◌∷◌, ◌++◌, length, get_or, inl, inr, refl, sym, ap, subst}
 use Rattle.rs_wire.specs.declared.settings.Settings.{Settings}
 use Rattle.rs_wire.specs.declared.call.Call.{Call}
 use Rattle.rs_wire.specs.declared.call.Call.TheVariants as call
@@ -24,7 +24,7 @@ use Rattle.workers.specs.declared.worked.Progress.TheVariants as progress
 use Rattle.workers.specs.Replies.{item_of, items_of, law_of}
 use Rattle.workers.specs.Courses.{IsReplyOn, after_reply, course}
 use Rattle.workers.specs.Serving.{IsServed, Serving, Stands, jobs_on}
-use Rattle.workers.specs.Going.{HasGone, IsEnded, IsLastStep, IsOver, IsPushed, IsSameJob, IsSettled, IsWholeOf, Keeps, WasAnswered, WentAt, WholeOf, WholeOfProgress, WholeOfStep, found_of, outcome_of, plan_of, progress_of, told}
+use Rattle.workers.specs.Going.{HasGone, IsEnded, IsLastStep, IsOver, IsPushed, IsSameJob, IsSettled, IsWholeOf, Keeps, WasAnswered, WentAt, WholeOfProgress, WholeOfStep, found_of, outcome_of, plan_of, progress_of, told}
 use Rattle.workers.proofs.Fronts.{answered_between}
 use Rattle.workers.proofs.Gone.{IsOn}
 use Rattle.workers.proofs.Items.{stands_items}

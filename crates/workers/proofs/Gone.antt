@@ -1,11 +1,10 @@
 -- How a job went on, by one call or by several.
-use Rattle.std.proofs.Common.{◌≡◌, ◌≢◌, ◌<◌, ◌≤◌, ◌+◌, ◌∙◌, ℕ, Bool, true, false, if◌then◌else◌, List, [], ◌∷◌, length, inl, inr, ◌⊎◌, refl, sym, ap, subst, arith}
-use Rattle.std.specs.Prelude.{Option, Some, None, ◌^◌}
+use Rattle.std.proofs.Common.{◌≡◌, ◌≤◌, ◌+◌, ◌∙◌, ℕ, Bool, true, false, if◌then◌else◌, List, [], ◌∷◌, length, refl, sym, ap, subst, arith}
+use Rattle.std.specs.Prelude.{◌^◌}
 use Rattle.rs_wire.specs.declared.call.Call.{Call}
 use Rattle.rs_wire.specs.declared.call.Call.TheVariants as call
 use Rattle.rs_wire.specs.declared.delivery.Delivery.{Delivery}
 use Rattle.rs_wire.specs.declared.delivery.Delivery.TheVariants as delivery
-use Rattle.rs_wire.specs.declared.fault.Refusal.{Refusal}
 use Rattle.rs_wire.specs.declared.fault.Refusal.TheVariants as refusal
 use Rattle.tape.specs.Answers.{leaves}
 use Rattle.tape.specs.declared.answer.Answer.{Answer}
@@ -20,8 +19,8 @@ use Rattle.workers.specs.declared.outcome.Outcome.TheVariants as outcome
 use Rattle.workers.specs.declared.outcome.Taken.{Taken}
 use Rattle.workers.specs.declared.outcome.Taken.TheVariants as taken
 use Rattle.workers.specs.Replies.{law_of}
-use Rattle.workers.specs.Courses.{Course, GoesOn, IsOfJob, IsReplyOn, accepted_of, is_done, after_call, after_reply, after_take, course}
-use Rattle.workers.specs.Serving.{IsFinal, IsFinalTake, IsGone, IsServed, Stands}
+use Rattle.workers.specs.Courses.{Course, GoesOn, IsOfJob, IsReplyOn, accepted_of, is_done, after_call, after_take, course}
+use Rattle.workers.specs.Serving.{IsServed, Stands}
 use Rattle.workers.specs.Going.{Awaits, HasGone, HasWorked, IsHindered, IsHindrance, IsStoppedBy, WasAnswered, IsOfReply, IsOfTake, IsSameJob, MayAnswer, left_after, left_with, outcome_of, plan_of, taken_of, told}
 use Rattle.rs_wire.specs.declared.settings.Settings.{Settings}
 use Rattle.conn_shared.specs.Members.{Continues, Knowledge}

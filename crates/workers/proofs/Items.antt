@@ -1,18 +1,17 @@
 -- All replies of a job that is not finished bring items.
 use Rattle.std.proofs.lemmas.List.{length-append}
-use Rattle.std.proofs.Common.{◌≡◌, ◌<◌, ◌≤◌, ◌+◌, ◌&&◌, ◌==◌, ◌∙◌, ℕ, zero, suc, Bool, true, false, if◌then◌else◌, List, [], ◌∷◌, ◌++◌, length, refl, sym, ap, subst, arith}
+use Rattle.std.proofs.Common.{◌≡◌, ◌<◌, ◌≤◌, ◌+◌, ◌&&◌, ◌==◌, ◌∙◌, ℕ, zero, suc, Bool, List, [], ◌∷◌, ◌++◌, length, refl, sym, ap, subst, arith}
 use Rattle.std.specs.Prelude.{Option, Some, None, slice_get}
 use Rattle.rs_wire.specs.declared.words.Kind.{Kind}
 use Rattle.rs_wire.specs.declared.words.Kind.TheVariants as kind
 use Rattle.rs_wire.specs.declared.call.Call.{Call}
-use Rattle.rs_wire.specs.declared.call.Call.TheVariants as call
 use Rattle.handlers.specs.Listed.{Listed}
 use Rattle.handlers.specs.Values.{value}
 use Rattle.handlers.specs.declared.law.Law.{Law}
 use Rattle.workers.specs.declared.job.OpenJob.{OpenJob}
 use Rattle.workers.specs.declared.job.Stage.{Stage}
 use Rattle.workers.specs.declared.job.Stage.TheVariants as stage
-use Rattle.workers.specs.Replies.{AreReplies, answers, channel_reply, item_count, item_of, item_or_end, items_of, law_of, plain, reply}
+use Rattle.workers.specs.Replies.{AreReplies, answers, channel_reply, item_count, item_of, item_or_end, items_of, law_of, reply}
 use Rattle.workers.specs.Courses.{Course}
 use Rattle.workers.specs.Serving.{IsAt, IsAtContent, Stands}
 use Rattle.workers.proofs.Plans.{answers-append}

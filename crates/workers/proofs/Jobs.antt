@@ -1,13 +1,13 @@
 -- The jobs of a work, stream by stream.
-use Rattle.std.proofs.Common.{◌≡◌, ◌≢◌, ◌<◌, ◌≤◌, ◌+◌, ◌==◌, ◌∙◌, ℕ, zero, suc, Bool, true, false, if◌then◌else◌, List, [], ◌∷◌, ◌++◌, length, inl, inr, ◌⊎◌, refl, sym, ap, subst, arith, append-nil, append_assoc}
-use Rattle.std.specs.Prelude.{Option, Some, None, ◌^◌}
+use Rattle.std.proofs.Common.{◌≡◌, ◌≤◌, ◌==◌, ◌∙◌, ℕ, Bool, true, false, if◌then◌else◌, List, [], ◌∷◌, ◌++◌, length, inl, inr, ◌⊎◌, refl, sym, ap, subst, arith, append-nil}
+use Rattle.std.specs.Prelude.{Option, Some, None}
 use Rattle.rs_wire.specs.declared.delivery.Job.{Job}
 use Rattle.rs_wire.specs.declared.delivery.Job.TheVariants as job
 use Rattle.tape.specs.declared.entry.Entry.{Entry}
 use Rattle.handlers.specs.Listed.{Listed}
 use Rattle.workers.specs.declared.job.OpenJob.{OpenJob}
 use Rattle.workers.specs.Courses.{Course, course}
-use Rattle.workers.specs.Serving.{AreRouted, IsDone, IsFull, IsGone, IsRouted, IsServed, Serving, Stands, jobs_on}
+use Rattle.workers.specs.Serving.{AreRouted, IsFull, IsGone, IsServed, Serving, Stands, jobs_on}
 use Rattle.workers.specs.Going.{HasGone}
 use Rattle.workers.proofs.Plans.{other_test, same_test, test_other, test_same}
 

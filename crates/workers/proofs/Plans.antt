@@ -16,7 +16,7 @@ use Rattle.workers.specs.declared.job.Stage.{Stage}
 use Rattle.workers.specs.declared.job.Stage.TheVariants as stage
 use Rattle.workers.specs.declared.plan.Plan.{Plan}
 use Rattle.workers.specs.declared.plan.Plan.TheVariants as plan
-use Rattle.workers.specs.Replies.{AreReplies, answers, channel_reply, item_count, item_or_end, no_route, plain, reply, response}
+use Rattle.workers.specs.Replies.{AreReplies, answers, channel_reply, item_count, item_or_end, no_route, reply, response}
 use Rattle.workers.specs.Courses.{Course, IsReplyOn, IsWorkersCall, after_call, after_reply}
 use Rattle.workers.specs.Serving.{IsAt, IsAtContent}
 use Rattle.workers.specs.declared.job.OpenJob.{OpenJob}

@@ -4,7 +4,7 @@ use Rattle.std.proofs.lemmas.Bool.Decides.{nat_tests}
 use Rattle.std.proofs.lemmas.List.Quantifiers.{position-Some}
 use Rattle.std.proofs.lemmas.List.{length-append, take-append-drop}
 use Rattle.std.proofs.Math.ListN.{set}
-use Rattle.std.proofs.Common.{◌≡◌, ◌≢◌, ◌<◌, ◌≤◌, ◌+◌, ◌==◌, ◌∙◌, ℕ, zero, suc, Bool, true, false, cond, if◌then◌else◌, not, nat_lt, true≢false, List, [], ◌∷◌, ◌++◌, length, take, drop, get_or, drop-cons, inl, inr, ◌⊎◌, refl, sym, ap, subst, arith, append-nil, append_assoc}
+use Rattle.std.proofs.Common.{◌≡◌, ◌<◌, ◌≤◌, ◌+◌, ◌==◌, ◌∙◌, ℕ, zero, suc, Bool, true, false, cond, not, List, [], ◌∷◌, ◌++◌, length, take, drop, get_or, drop-cons, refl, sym, ap, subst, arith, append-nil}
 use Rattle.std.specs.Prelude.{Option, Some, None}
 use Rattle.rs_wire.specs.declared.words.Kind.{Kind}
 use Rattle.rs_wire.specs.declared.words.Kind.TheVariants as kind
@@ -20,7 +20,7 @@ use Rattle.workers.specs.declared.job.OpenJob.{OpenJob}
 use Rattle.workers.specs.declared.job.Stage.TheVariants as stage
 use Rattle.workers.specs.Courses.{Course, after_job, course}
 use Rattle.workers.specs.Replies.{law_of}
-use Rattle.workers.specs.Serving.{AreRouted, IsAt, IsServed, Serving, Stands, jobs_on}
+use Rattle.workers.specs.Serving.{AreRouted, IsAt, IsServed, Stands, jobs_on}
 use Rattle.workers.specs.declared.outcome.Found.{Found}
 use Rattle.workers.specs.declared.outcome.Found.TheVariants as found
 use Rattle.workers.specs.Going.{IsForgotten, IsOfTakeJob, IsPut, IsRefusedOrFull, Keeps, found_of, told}

@@ -1,9 +1,8 @@
 -- What a worker keeps and says, over one job of its work.
-use Rattle.std.specs.List.{AllByRecursion, remove}
 use Rattle.std.proofs.Math.ListN.{set}
 use Rattle.std.proofs.Math.Seq.{get_or-append_seam}
 use Rattle.std.proofs.lemmas.List.{length-append}
-use Rattle.std.proofs.Common.{◌≡◌, ◌≢◌, ◌<◌, ◌≤◌, ◌+◌, ◌∙◌, ℕ, zero, suc, List, [], ◌∷◌, ◌++◌, length, take, drop, get_or, inl, inr, ◌⊎◌, refl, sym, ap, subst, arith, append_assoc, append-nil}
+use Rattle.std.proofs.Common.{◌≡◌, ◌≢◌, ◌<◌, ◌≤◌, ◌+◌, ◌∙◌, ℕ, suc, List, [], ◌∷◌, ◌++◌, length, take, drop, get_or, refl, sym, ap, subst, arith, append_assoc, append-nil}
 use Rattle.rs_wire.specs.declared.settings.Settings.{Settings}
 use Rattle.tape.specs.declared.entry.Entry.{Entry}
 use Rattle.conn_shared.specs.Members.{Continues, Knowledge}
@@ -11,13 +10,12 @@ use Rattle.handlers.specs.Listed.{Listed}
 use Rattle.workers.specs.declared.job.OpenJob.{OpenJob}
 use Rattle.workers.specs.declared.going.Going.{Going}
 use Rattle.workers.specs.declared.going.Going.TheVariants as going
-use Rattle.workers.specs.declared.worked.Worked.{Worked}
 use Rattle.workers.specs.declared.worked.Worked.TheVariants as worked
 use Rattle.workers.specs.declared.worked.Progress.{Progress}
 use Rattle.workers.specs.declared.worked.Progress.TheVariants as progress
-use Rattle.workers.specs.Courses.{GoesOn, IsWorkersCall, WorksOn, course}
+use Rattle.workers.specs.Courses.{GoesOn, IsWorkersCall, WorksOn}
 use Rattle.workers.specs.Serving.{AreRouted, IsRouted, Serving}
-use Rattle.workers.specs.Going.{AreHindered, CauseOf, CauseOfProgress, CauseOfWorked, HasGone, HasWorked, IsHindered, IsHinderedAt, IsNotMore, IsOfJobs, IsSameJob, IsSettled, Keeps, WentAt, WholeOf, left_by, progress_of}
+use Rattle.workers.specs.Going.{AreHindered, CauseOf, CauseOfProgress, HasGone, HasWorked, IsHindered, IsHinderedAt, IsNotMore, IsOfJobs, IsSameJob, IsSettled, Keeps, WentAt, WholeOf, left_by, progress_of}
 use Rattle.workers.proofs.Fronts.{all_weaker, answered_between, goes_both, goes_later, hindered_between, of_worker, stopped_between, works_after, works_job}
 use Rattle.workers.proofs.Gone.{IsOn}
 use Rattle.workers.proofs.Jobs.{IsLeft, none_left, one_left, routed_both, routed_split, serving_job}

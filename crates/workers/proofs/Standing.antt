@@ -1,5 +1,5 @@
 -- A job that stands in the work, over one call of its worker.
-use Rattle.std.proofs.Common.{◌≡◌, ◌<◌, ◌≤◌, ◌+◌, ◌||◌, ◌∙◌, ℕ, suc, Bool, true, false, List, [], ◌∷◌, ◌++◌, length, inl, inr, ◌⊎◌, refl, sym, ap, subst, arith, append-nil}
+use Rattle.std.proofs.Common.{◌≡◌, ◌≤◌, ◌+◌, ◌||◌, ◌∙◌, ℕ, suc, Bool, true, false, List, [], ◌∷◌, ◌++◌, length, inl, inr, refl, sym, ap, subst, arith, append-nil}
 use Rattle.std.specs.Prelude.{Option, Some, None, ◌^◌}
 use Rattle.rs_wire.specs.declared.words.Kind.{Kind}
 use Rattle.rs_wire.specs.declared.words.Kind.TheVariants as kind
@@ -8,8 +8,6 @@ use Rattle.rs_wire.specs.declared.call.Call.{Call}
 use Rattle.rs_wire.specs.declared.call.Call.TheVariants as call
 use Rattle.rs_wire.specs.declared.delivery.Delivery.TheVariants as delivery
 use Rattle.rs_wire.specs.declared.fault.Refusal.{Refusal}
-use Rattle.rs_wire.specs.declared.fault.Refusal.TheVariants as refusal
-use Rattle.tape.specs.Answers.{leaves}
 use Rattle.tape.specs.declared.answer.Answer.{Answer}
 use Rattle.tape.specs.declared.answer.Answer.TheVariants as answer
 use Rattle.handlers.specs.Listed.{Listed}
@@ -21,7 +19,7 @@ use Rattle.workers.specs.declared.plan.Plan.{Plan}
 use Rattle.workers.specs.declared.plan.Plan.TheVariants as plan
 use Rattle.workers.specs.Replies.{AreReplies, answers, channel_reply, law_of, reply}
 use Rattle.workers.specs.Courses.{Course, after_reply, after_take, got_in, tells_end}
-use Rattle.workers.specs.Serving.{IsAt, IsAtContent, IsDone, IsFinal, IsFinalTake, IsGone, IsStop, IsStopped, IsWhole, IsWholeJob, Stands, replies_of}
+use Rattle.workers.specs.Serving.{IsAt, IsAtContent, IsDone, IsFinal, IsFinalTake, IsGone, IsWhole, IsWholeJob, Stands, replies_of}
 use Rattle.workers.specs.Going.{Awaits, plan_of}
 use Rattle.workers.proofs.Plans.{PlanFits, Says, answers-append, plan_fits, replies_grow}
 

@@ -4,7 +4,7 @@ use Rattle.std.specs.Prelude.{Some, None}
 use Rattle.std.proofs.lemmas.Bool.Decides.{nat_tests}
 use Rattle.handlers.specs.declared.law.Law.{Law}
 use Rattle.handlers.specs.declared.law.Law.TheVariants as law
-use Rattle.handlers.specs.Values.{count_in, value}
+use Rattle.handlers.specs.Values.{value}
 use Rattle.workers.specs.Replies.{item_count}
 
 pub item_below : (l : Law) (content : List ℕ) (k : ℕ) (item : List ℕ) → value l content k ≡ Some item → k < item_count l content

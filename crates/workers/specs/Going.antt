@@ -41,7 +41,7 @@ use Rattle.workers.specs.declared.worked.Progress.{Progress}
 use Rattle.workers.specs.declared.worked.Progress.TheVariants as progress
 use Rattle.std.specs.List.{AllByRecursion}
 use Rattle.workers.specs.Replies.{item_of, items_of, law_of, no_route, plain, response}
-use Rattle.workers.specs.Courses.{Course, GoesOn, IsOfJob, IsReplyOn, IsWorkersCall, WorksOn, after_call, course}
+use Rattle.workers.specs.Courses.{Course, GoesOn, IsOfJob, IsWorkersCall, after_call, course}
 use Rattle.workers.specs.Serving.{AreRouted, IsRouted, IsServed, IsWholeJob, Serving, Stands, jobs_on}
 
 -- ---- what a job says next

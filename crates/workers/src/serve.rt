@@ -212,7 +212,9 @@ fn go_first<R: Wait, T: Tape, F: Handler, G: Gate>(
 {
     let place = jobs.len() - 1;
     let stream = jobs[place].stream;
-    let going = go_at(rt, alloc, connection, caller, routes, gate, jobs, place, most);
+    let going = go_at(
+        rt, alloc, connection, caller, routes, gate, jobs, place, most,
+    );
     settle(jobs, place, stream, going)
 }
 
@@ -255,7 +257,10 @@ fn take_job<R: Wait, T: Tape, F: Handler, G: Gate>(
             put(alloc, routes, jobs, stream, kind, message);
             go_first(rt, alloc, connection, caller, routes, gate, jobs, most)
         }
-        Found::Pushed => Progress::Worked(Worked::Served { stream: 0, items: 0 }),
+        Found::Pushed => Progress::Worked(Worked::Served {
+            stream: 0,
+            items: 0,
+        }),
         Found::NotYet => Progress::Worked(Worked::Idle),
         Found::OutOfMemory => Progress::Worked(Worked::OutOfMemory),
         Found::NoMore(answer) => Progress::Worked(Worked::NoMore(answer)),

@@ -1,4 +1,4 @@
-use Rattle.std.proofs.Common.{◌<◌, ℕ, subst}
+use Rattle.std.proofs.Common.{◌<◌, subst}
 use Rattle.conn_lock.specs.Callers.{times}
 use Rattle.workers.proofs.Calling.{course_told, full_at, goes_call, may_answer, was_answered}
 use Rattle.workers.proofs.ask.ask.Goals as goal

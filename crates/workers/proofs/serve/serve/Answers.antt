@@ -27,7 +27,7 @@ loop-place-preserved g c =
       kept = keeps_after was mid now c.args.routes.now c.args.jobs.now.items c.loop-place.jobs.items c.try_job-tried.new.jobs.items known.same known.kept c.try_job-tried.ensures.kept;
       many = hindered_length _ _ _ c.loop-place.place c.loop-place.jobs.items c.try_job-tried.new.jobs.items c.in_default.ensures.hindered ∙ known.many;
       tried = one_more_tried c.args.connection.now.settings was.front mid.front now.front c.loop-place.place c.loop-place.jobs.items c.try_job-tried.new.jobs.items
-        (later_of _ _ _ _ known.quiet) (later_of _ _ _ _ c.in_default.ensures.quiet) known.tried c.in_default.ensures.hindered;
+          (later_of _ _ _ _ known.quiet) (later_of _ _ _ _ c.in_default.ensures.quiet) known.tried c.in_default.ensures.hindered;
     }
 
 pub returns-clause-works : goal.returns-clause-works
@@ -45,7 +45,7 @@ returns-clause-cause g c =
     let tried = all_tried settings was.front mid.front c.loop-place.place c.loop-place.jobs.items past known.tried in
     progress_of_all settings was.names was.number was.front now.front c.take_job.new.jobs.items c.take_job.result
     (λ idle. subst (AreHindered settings was.front now.front) (sym (c.take_job.ensures.idle idle))
-      (hindered_until settings was.front mid.front now.front c.loop-place.jobs.items (c.take_job.ensures.works.more, c.take_job.ensures.works.on) tried))
+    (hindered_until settings was.front mid.front now.front c.loop-place.jobs.items (c.take_job.ensures.works.more, c.take_job.ensures.works.on) tried))
     (progress_after settings was mid now [] c.take_job.result known.same known.quiet c.take_job.ensures.cause)
 
 pub returns-in-Some-clause-whole : goal.returns-in-Some-clause-whole

@@ -1,4 +1,4 @@
-use Rattle.std.proofs.Common.{◌≡◌, ◌+◌, ◌∙◌, refl, sym, ap, subst, rules}
+use Rattle.std.proofs.Common.{◌≡◌, ◌+◌, ◌∙◌, sym, ap, subst, rules}
 use Rattle.workers.specs.declared.job.OpenJob.{OpenJob}
 use Rattle.workers.specs.declared.outcome.Outcome.{Outcome}
 use Rattle.workers.specs.declared.outcome.Outcome.TheVariants as outcome
