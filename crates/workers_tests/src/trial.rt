@@ -7,6 +7,7 @@ ghost use Rattle.rs_wire.specs.Settings.{usual};
 ghost use Rattle.rs_frame.specs.Spelling.{IsSpellable};
 ghost use Rattle.session_model.specs.Legal.{CanBring};
 ghost use Rattle.session_core.specs.Seen.{IsNoDrawEvent};
+ghost use Rattle.workers.specs.Serving.{AreRouted};
 
 use conn::{Caller, Connection};
 use handlers::{Law, Routes, Stored};
@@ -227,7 +228,9 @@ fn act<R: Abort + Wait, T: Tape>(
     next: &Move,
 )
     requires of { caller.old.of ≡ connection.now }
+    requires routed { AreRouted routes.now work.old }
     ensures of { caller.new.of ≡ connection.now }
+    ensures routed { AreRouted routes.now work.new }
 {
     match next {
         Move::Comes(bytes) => comes(rt, alloc, connection, caller, bytes),
