@@ -2,8 +2,6 @@
 #![tactic(auto)]
 
 #[cfg(test)]
-mod crossing;
-#[cfg(test)]
 mod rows;
 #[cfg(test)]
 mod trial;
