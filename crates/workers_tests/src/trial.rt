@@ -45,10 +45,15 @@ pub enum Move {
 /// What a worker is to say.
 #[derive(Clone, Copy)]
 pub enum Wanted {
+    /// The job of this stream is served, with so many items.
     Served(u32, u64),
+    /// The job of this stream waits.
     Waiting(u32),
+    /// A job is stopped by this refusal.
     Stopped(Refusal),
+    /// The job of this stream had its bytes, and goes on later.
     More(u32),
+    /// There is nothing to do.
     Idle,
 }
 
