@@ -1,0 +1,13 @@
+pub mod Calling
+pub mod Ended
+pub mod Fronts
+pub mod Gone
+pub mod Items
+pub mod Jobs
+pub mod Plans
+pub mod Putting
+pub mod Routing
+pub mod Rows
+pub mod Served
+pub mod Standing
+pub mod Values

@@ -1,0 +1,51 @@
+use Rattle.workers.proofs.Ended.{whole_after}
+use Rattle.workers.proofs.Gone.{gone_after, hindered_after, on_both, same_both, stopped_after, worked_after}
+use Rattle.workers.proofs.going.go_on.Goals as goal
+
+pub returns-then-is_enough-clause-worked : goal.returns-then-is_enough-clause-worked
+returns-then-is_enough-clause-worked g c =
+    worked_after c.args.caller.now c.loop.caller c.make_step.new.caller c.args.job.now c.loop.job c.make_step.new.job
+    c.loop.invariant.same c.loop.invariant.job c.loop.invariant.worked c.make_step.ensures.worked
+
+pub loop-preserved : goal.loop-preserved
+loop-preserved g c = record {
+  same = on_both c.args.caller.now c.loop.caller c.make_step.new.caller c.loop.invariant.same c.make_step.ensures.same;
+  job = same_both c.args.job.now c.loop.job c.make_step.new.job c.loop.invariant.job c.make_step.ensures.job;
+  worked = worked_after c.args.caller.now c.loop.caller c.make_step.new.caller c.args.job.now c.loop.job c.make_step.new.job c.loop.invariant.same c.loop.invariant.job c.loop.invariant.worked c.make_step.ensures.worked;
+  gone = gone_after c.args.caller.now c.loop.caller c.make_step.new.caller c.args.routes.now c.args.job.now c.loop.job _ c.loop.invariant.same c.loop.invariant.job c.loop.invariant.gone c.in-Went.ensures.kept;
+}
+
+pub returns-in-Served-clause-worked : goal.returns-in-Served-clause-worked
+returns-in-Served-clause-worked g c =
+    worked_after c.args.caller.now c.loop.caller c.make_step.new.caller c.args.job.now c.loop.job c.make_step.new.job
+    c.loop.invariant.same c.loop.invariant.job c.loop.invariant.worked c.make_step.ensures.worked
+
+pub returns-in-Blocked-clause-worked : goal.returns-in-Blocked-clause-worked
+returns-in-Blocked-clause-worked g c =
+    worked_after c.args.caller.now c.loop.caller c.make_step.new.caller c.args.job.now c.loop.job c.make_step.new.job
+    c.loop.invariant.same c.loop.invariant.job c.loop.invariant.worked c.make_step.ensures.worked
+
+pub returns-in-Blocked-clause-cause : goal.returns-in-Blocked-clause-cause
+returns-in-Blocked-clause-cause g c =
+    hindered_after c.args.connection.now.settings c.args.caller.now.names c.args.caller.now.number c.args.caller.now.front c.loop.caller.front c.make_step.new.caller.front
+    c.args.job.now c.loop.job c.loop.invariant.job c.loop.invariant.worked c.in-Blocked.ensures.cause
+
+pub returns-in-Stopped-clause-worked : goal.returns-in-Stopped-clause-worked
+returns-in-Stopped-clause-worked g c =
+    worked_after c.args.caller.now c.loop.caller c.make_step.new.caller c.args.job.now c.loop.job c.make_step.new.job
+    c.loop.invariant.same c.loop.invariant.job c.loop.invariant.worked c.make_step.ensures.worked
+
+pub returns-in-Stopped-clause-cause : goal.returns-in-Stopped-clause-cause
+returns-in-Stopped-clause-cause g c =
+    stopped_after c.args.connection.now.settings c.args.caller.now.names c.args.caller.now.number c.args.caller.now.front c.loop.caller.front c.make_step.new.caller.front
+    c.args.job.now c.loop.job c.in-Stopped.answer c.loop.invariant.job c.loop.invariant.worked c.in-Stopped.ensures.cause
+
+pub returns-in-OutOfMemory-clause-worked : goal.returns-in-OutOfMemory-clause-worked
+returns-in-OutOfMemory-clause-worked g c =
+    worked_after c.args.caller.now c.loop.caller c.make_step.new.caller c.args.job.now c.loop.job c.make_step.new.job
+    c.loop.invariant.same c.loop.invariant.job c.loop.invariant.worked c.make_step.ensures.worked
+
+pub returns-in-Served-clause-whole : goal.returns-in-Served-clause-whole
+returns-in-Served-clause-whole g c =
+    whole_after c.args.caller.now c.loop.caller c.make_step.new.caller c.args.routes.now c.args.job.now c.loop.job c.in-Served.items
+    c.loop.invariant.same c.loop.invariant.job c.loop.invariant.gone c.in-Served.ensures.whole

@@ -1,0 +1,11 @@
+use Rattle.std.proofs.Common.{◌≡◌, [], ◌∷◌}
+use Rattle.workers.specs.Going.{HasGone, HasWorked, IsSameJob}
+use Rattle.workers.proofs.going.go_on.Given as goal
+
+abbrev pub invariant-loop : goal.invariant-loop
+invariant-loop g l = record {
+  same : l.caller ≡ record l.fn.caller { front = l.caller.front; note = l.caller.note };
+  job : IsSameJob l.fn.job l.job;
+  worked : HasWorked l.fn.caller.names l.fn.caller.number l.fn.caller.front l.caller.front l.fn.job l.job;
+  gone : HasGone l.fn.caller.names l.routes l.fn.caller.front l.caller.front l.fn.job (l.job ∷ []);
+}

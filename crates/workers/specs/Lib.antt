@@ -1,0 +1,4 @@
+pub mod Replies
+pub mod Courses
+pub mod Serving
+pub mod Going

@@ -1,0 +1,9 @@
+use denote.Param.Send.{sendable}
+use Rattle.std.proofs.alloc.Global.TheSendSync as global
+use Rattle.conn.proofs.Crossing.{caller_send, connection_sync}
+use Rattle.workers_tests.proofs.crossing.serve_in_two.Goals as goal
+
+ruleset crossing = (caller_send, connection_sync, global.the_sync, global.the_field_sync, sendable)
+
+pub join-requires-send-F : goal.join-requires-send-F
+join-requires-send-F g c κs within = search crossing depth 20
