@@ -1,7 +1,7 @@
 //! Times what two ends say to one another through their pumps, over a wire in memory and by one
 //! thread: requests with their responses, and items of a stream.
 //!
-//! With a word, as `times`, it prints nanoseconds an item at each end, calls and turns together, for
+//! With a word, as `times`, it prints nanoseconds an item at each end, of calls and turns, for
 //! items that cross one by one, and for batches of which each crosses at once. With none it prints
 //! how many items crossed, in short runs, so that its output is always the same.
 #![tactic(auto)]
