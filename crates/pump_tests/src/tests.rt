@@ -1,0 +1,5 @@
+//! What a turn of a pump comes to.
+
+mod ends;
+mod gives;
+mod results;

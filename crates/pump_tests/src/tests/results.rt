@@ -1,0 +1,110 @@
+//! Each result of a turn once, but for those that take 2^63 entries, a full queue or no memory.
+
+use super::ends::{End, compare, link};
+use outside::After;
+use pump::Turned;
+use rs_wire::{Cause, Rule};
+use std::alloc::Global;
+use std::process::Abort;
+use std::sync::Wait;
+
+/// One trial: a session whose SETUP is due, a pump, and what it comes to after some turns.
+#[derive(Clone, Copy)]
+struct Row {
+    /// The connection that the pump is for; 1 is live.
+    conn: u64,
+    /// What the peer sends.
+    bytes: &'static [u8],
+    after: After,
+    /// The moment of the second tick, in milliseconds.
+    later: u64,
+    /// How many turns before the last.
+    turns: u32,
+    wanted: Turned,
+    /// How many bytes the link was given.
+    given: usize,
+}
+
+const ROW: Row = Row {
+    conn: 1,
+    bytes: &[],
+    after: After::Lulls,
+    later: 0,
+    turns: 0,
+    wanted: Turned::Lull,
+    given: 71,
+};
+
+/// The most bytes of one call of the link, more than there are.
+const MOST: u32 = 100;
+
+/// A frame of 3 bytes, which has no whole header: rule 1 (RSocket 1.0, "Frame Header Format").
+const SHORT: &[u8] = &[0, 0, 3, 1, 2, 3];
+
+const ROWS: [Row; 7] = [
+    // The SETUP is given, and nothing came.
+    Row {
+        wanted: Turned::Moved {
+            given: 71,
+            taken: 0,
+        },
+        ..ROW
+    },
+    // Then nothing is left to move.
+    Row { turns: 1, ..ROW },
+    // The peer sends no more.
+    Row {
+        after: After::Ends,
+        wanted: Turned::End,
+        ..ROW
+    },
+    // Another connection is the live one.
+    Row {
+        conn: 2,
+        wanted: Turned::Displaced(1),
+        given: 0,
+        ..ROW
+    },
+    // A frame that is none comes while the SETUP goes ..
+    Row {
+        bytes: SHORT,
+        wanted: Turned::Moved {
+            given: 71,
+            taken: 6,
+        },
+        ..ROW
+    },
+    // .. and the session is over once the ERROR that answers it is given: a length of 3 bytes, a
+    // header of 6, a code of 4, and the 9 bytes of `bad-frame`.
+    Row {
+        bytes: SHORT,
+        turns: 1,
+        wanted: Turned::Over(Cause::Broken(Rule::BadFrame(1))),
+        given: 93,
+        ..ROW
+    },
+    // Nothing came for the lifetime of 90,000 milliseconds.
+    Row {
+        later: 90_000,
+        turns: 1,
+        wanted: Turned::Dead(0),
+        ..ROW
+    },
+];
+
+fn turn_of<R: Abort + Wait>(rt: &R, alloc: Global, row: Row) {
+    let link = link(rt, alloc, row.bytes, row.after, MOST, 0);
+    let mut end = End::new(rt, alloc, row.conn, link, row.later);
+    for _ in 0..row.turns {
+        end.turn(rt);
+    }
+    compare(rt, end.turn(rt), row.wanted);
+    assert!(rt; end.given().len() == row.given);
+}
+
+#[test]
+fn each_result_has_its_cause(rt: HostRuntime) {
+    for row in ROWS {
+        turn_of(&rt, rt.alloc(), row);
+    }
+}
