@@ -1,5 +1,5 @@
-//! Four threads over a pair of connections in one process: one takes the items of a stream, one grants
-//! more, one sends them, and one carries the bytes, both ways.
+//! Four threads over a pair of connections in one process: one takes the items of a stream, one
+//! grants more, one sends them, and one carries the bytes, both ways.
 
 ghost use Rattle.std.specs.Prelude.{◌≡◌};
 ghost use Rattle.rs_wire.specs.declared.words.Side.TheVariants.{Client, Server};

@@ -138,8 +138,8 @@ fn wake<R: Abort + Wait, T: Tape>(rt: &R, connection: &Connection<T>, closer: Ca
     ask(rt, connection, &mut closer, &Call::Close);
 }
 
-// One caller waits in this thread, and the other closes in a thread that is started for it, so that the
-// first mostly sleeps by then.
+// One caller waits in this thread, and the other closes in a thread that is started for it, so that
+// the first mostly sleeps by then.
 fn wait_and_wake<R: Abort + Threads + Wait + Sync, T: Tape + Drop + Send>(
     rt: &R,
     connection: &Connection<T>,
