@@ -6,7 +6,7 @@ use crate::answer::Answer;
 use crate::entry::Entry;
 use crate::event::Event;
 use crate::tapes::Tape;
-use rs_wire::OutOfMemory;
+use rs_wire::{Call, Delivery, OutOfMemory};
 
 /// A tape that counts its entries and keeps none: it shows nothing, and always has spare.
 #[derive(Drop)]
@@ -44,6 +44,21 @@ impl Tape for Blank {
     }
 
     fn note(&mut self, _who: u32, _event: &Event, _answer: &Answer) -> Result<(), OutOfMemory> {
+        self.count += 1;
+        Ok(())
+    }
+
+    fn note_call(&mut self, _who: u32, _call: &Call, _answer: &Answer) -> Result<(), OutOfMemory> {
+        self.count += 1;
+        Ok(())
+    }
+
+    fn note_taken(
+        &mut self,
+        _who: u32,
+        _stream: u32,
+        _delivery: &Delivery,
+    ) -> Result<(), OutOfMemory> {
         self.count += 1;
         Ok(())
     }
