@@ -1,8 +1,12 @@
 //! The entries of a session, which contracts alone see.
 
 ghost use Rattle.std.specs.Prelude.{◌≡◌, [], ◌∷◌};
+ghost use Rattle.rs_wire.specs.declared.call.Call.TheVariants as calls;
 ghost use Rattle.tape.specs.Told.{entry_of};
+ghost use Rattle.tape.specs.declared.answer.Answer.TheVariants as answers;
+ghost use Rattle.tape.specs.declared.event.Event.TheVariants as events;
 
+use rs_wire::{Call, Delivery};
 use std::marker::Model;
 use std::mem::replace;
 use std::snapshot::Snapshot;
@@ -24,6 +28,28 @@ pub enum Past {
         event: Snapshot<Event>,
         /// The answer to it.
         answer: Snapshot<Answer>,
+    },
+    /// There is one more, of a call.
+    Called {
+        /// The entries before it.
+        before: Snapshot<Past>,
+        /// Its caller.
+        who: Snapshot<u32>,
+        /// The call.
+        call: Snapshot<Call>,
+        /// The answer to it.
+        answer: Snapshot<Answer>,
+    },
+    /// There is one more, of a take that got something.
+    Taken {
+        /// The entries before it.
+        before: Snapshot<Past>,
+        /// Its caller.
+        who: Snapshot<u32>,
+        /// The stream.
+        stream: Snapshot<u32>,
+        /// What was delivered.
+        delivery: Snapshot<Delivery>,
     },
 }
 
@@ -63,6 +89,35 @@ impl History {
             who: Snapshot::of(&who),
             event: Snapshot::of(event),
             answer: Snapshot::of(answer),
+        };
+        self.past = Snapshot::of(&more);
+    }
+
+    /// The same of a call.
+    pub fn note_call(&mut self, who: u32, call: &Call, answer: &Answer)
+        ensures { self.new ≡ entry_of who (events.Asked call.now) answer.now ∷ self.old }
+    {
+        let before = replace(&mut self.past, Snapshot::of(&Past::Nothing));
+        let more = Past::Called {
+            before,
+            who: Snapshot::of(&who),
+            call: Snapshot::of(call),
+            answer: Snapshot::of(answer),
+        };
+        self.past = Snapshot::of(&more);
+    }
+
+    /// The same of a take that got this delivery.
+    pub fn note_taken(&mut self, who: u32, stream: u32, delivery: &Delivery)
+        ensures { self.new ≡
+            entry_of who (events.Asked (calls.Take stream)) (answers.Got delivery.now) ∷ self.old }
+    {
+        let before = replace(&mut self.past, Snapshot::of(&Past::Nothing));
+        let more = Past::Taken {
+            before,
+            who: Snapshot::of(&who),
+            stream: Snapshot::of(&stream),
+            delivery: Snapshot::of(delivery),
         };
         self.past = Snapshot::of(&more);
     }

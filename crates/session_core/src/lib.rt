@@ -47,6 +47,8 @@
 mod amounts;
 mod arrivals;
 mod asked;
+mod asking;
+mod bringing;
 mod came;
 mod counting;
 mod counts;

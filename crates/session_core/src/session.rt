@@ -24,7 +24,7 @@ use std::marker::Model;
 use tape::{Answer, Entry, Event, Tape};
 
 /// How many entries a tape has at most.
-const FULL: u64 = 1 << 63;
+pub(crate) const FULL: u64 = 1 << 63;
 
 /// One end of a session, with the tape of its entries. Contracts see its settings, its entries, the
 /// newest first, whether the tape shows them, and how many more it takes without memory.
@@ -53,11 +53,11 @@ const FULL: u64 = 1 << 63;
 /// every frame and opening is answered `Closed`.
 #[derive(Drop)]
 pub struct Session<T: Tape> {
-    alloc: Global,
-    settings: Checked,
-    state: State,
-    history: History,
-    tape: T,
+    pub(crate) alloc: Global,
+    pub(crate) settings: Checked,
+    pub(crate) state: State,
+    pub(crate) history: History,
+    pub(crate) tape: T,
 }
 
 impl<T: Tape> Model for Session<T> {

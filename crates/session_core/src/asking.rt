@@ -1,0 +1,35 @@
+//! What a caller asks of a session, which keeps its call.
+
+ghost use Rattle.std.specs.Prelude.{◌≡◌, ◌+◌, ◌≤◌, ◌^◌, ◌↔◌, length};
+ghost use Rattle.rs_wire.specs.Calls.{CanBeAsked};
+ghost use Rattle.tape.specs.declared.event.Event.TheVariants as events;
+ghost use Rattle.session_model.specs.Answers.{answer_to};
+ghost use Rattle.session_core.specs.Seen.{IsUnlessWant, entries_after};
+
+use crate::session::{FULL, Session};
+use rs_wire::Call;
+use tape::{Answer, Event, Tape};
+
+impl<T: Tape> Session<T> {
+    /// Answers a call as [`Session::step`] answers the event of it, and copies nothing of it that the
+    /// tape doesn't keep.
+    pub fn ask(&mut self, who: u32, call: &Call) -> Answer
+        requires askable { CanBeAsked call.now }
+        ensures answer { IsUnlessWant result
+            (answer_to self.old.settings self.old.entries (events.Asked call.now)) }
+        ensures full { (result ≡ Answer.TapeFull) ↔ (2 ^ 63 ≤ length self.old.entries) }
+        ensures after { self.new ≡ record self.old {
+          entries = entries_after who (events.Asked call.now) result self.old.entries;
+          spare = self.new.spare;
+        } }
+        ensures spare { self.old.spare ≤ self.new.spare + 1 }
+    {
+        if self.tape.count() >= FULL {
+            return Answer::TapeFull;
+        }
+        match call.copy(self.alloc) {
+            Ok(call) => self.step(who, &Event::Asked(call)),
+            Err(_) => Answer::OutOfMemory,
+        }
+    }
+}
