@@ -211,8 +211,9 @@ impl<T: Tape> Session<T> {
         ensures used { self.old.spare ≤ self.new.spare + 1 }
     {
         let event = Event::Cut { conn };
-        let prepared = self.state.nothing_more(self.alloc, &self.settings);
-        self.state.act(&self.settings, &event, &answer, prepared);
+        let mut prepared = self.state.nothing_more(self.alloc, &self.settings);
+        self.state
+            .act(&self.settings, &event, &answer, &mut prepared);
         let again = answered_again(&answer);
         self.history.note(who, &event, &answer);
         self.tape.push(Entry { who, event, answer });
@@ -233,7 +234,7 @@ impl<T: Tape> Session<T> {
         ensures err { OnErr result (self.new ≡ record self.old { spare = self.new.spare }) }
         ensures spare { self.old.spare ≤ self.new.spare + 1 }
     {
-        let prepared = self
+        let mut prepared = self
             .state
             .prepare(self.alloc, &self.settings, event, answer)?;
         if let Err(error) = self.tape.note(who, event, answer) {
@@ -241,7 +242,7 @@ impl<T: Tape> Session<T> {
             return Err(error);
         }
         self.history.note(who, event, answer);
-        self.state.act(&self.settings, event, answer, prepared);
+        self.state.act(&self.settings, event, answer, &mut prepared);
         Ok(())
     }
 
