@@ -19,7 +19,8 @@ fn put_length(out: &mut Vec<u8>, length: u32) -> Result<(), OutOfMemory>
 {
     let mut bytes = [0; 3];
     BigEndian::write_u24(&mut bytes, length);
-    out.extend_from_slice(&bytes)
+    out.extend_from_slice(&bytes)?;
+    Ok(())
 }
 
 /// Appends the frame in its canonical bytes, after its length of 3 bytes (RSocket 1.0, "Framing
@@ -76,7 +77,10 @@ pub fn request_bytes(
     ensures err { OnErr result (out.new.items ≡ out.old.items) }
 {
     let start = out.len();
-    put_length(out, rs_frame::request_length(stream, kind, initial, complete, message))?;
+    put_length(
+        out,
+        rs_frame::request_length(stream, kind, initial, complete, message),
+    )?;
     let done = rs_frame::encode_request(stream, kind, initial, complete, message, out);
     if done.is_err() {
         out.truncate(start);
