@@ -21,4 +21,4 @@ mod writing;
 pub use front::{Front, split_frame};
 pub use laws::stream_laws;
 pub use reader::Reader;
-pub use writing::{frame_bytes, frames_bytes};
+pub use writing::{frame_bytes, frames_bytes, item_bytes, request_bytes};

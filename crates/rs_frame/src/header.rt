@@ -55,7 +55,7 @@ pub fn flags(frame: &Frame) -> u16
 {
     match frame {
         Frame::Setup(fields) => setup::flags(fields),
-        Frame::Request(fields) => request::flags(fields),
+        Frame::Request(fields) => request::flags(fields.follows, fields.complete, &fields.message),
         Frame::Payload {
             follows,
             complete,
@@ -84,7 +84,7 @@ pub fn number(frame: &Frame) -> u16
         Frame::Request(fields) => request::number(fields.kind),
         Frame::RequestN { .. } => 0x08,
         Frame::Cancel { .. } => 0x09,
-        Frame::Payload { .. } => 0x0a,
+        Frame::Payload { .. } => payload::NUMBER,
         Frame::Error { .. } => 0x0b,
         Frame::MetadataPush { .. } => 0x0c,
         Frame::Resume(_) => 0x0d,

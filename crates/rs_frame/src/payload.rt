@@ -17,6 +17,9 @@ use crate::parts::{message_fits, owned, parts_of};
 use rs_wire::Message;
 use std::alloc::Global;
 
+/// The type number of a PAYLOAD.
+pub const NUMBER: u16 = 0x0a;
+
 /// The flag N: the message is an item.
 const NEXT: u16 = 0x20;
 

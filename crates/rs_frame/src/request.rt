@@ -9,10 +9,10 @@
 //! | 0x06 | REQUEST_STREAM | M, F 0x80 | above 0 | initial n of 31 bits, above 0; payload |
 //! | 0x07 | REQUEST_CHANNEL | M, F 0x80, C 0x40 | above 0 | initial n of 31 bits, above 0; payload |
 
-ghost use Rattle.std.specs.Prelude.{◌≡◌, ◌+◌, ◌<◌, ◌≤◌, ◌^◌, ◌++◌, ◌↔◌, IsTrue, length, vec_len, vec_capacity};
+ghost use Rattle.std.specs.Prelude.{◌≡◌, ◌+◌, ◌<◌, ◌≤◌, ◌^◌, ◌++◌, ◌↔◌, IsTrue, is_some, length, vec_len, vec_capacity};
 ghost use Rattle.rs_frame.specs.Rules.{Gives};
 ghost use Rattle.rs_frame.specs.Reading.{counted_at, plain_at};
-ghost use Rattle.rs_frame.specs.Spelling.{FieldsFit, InitialFits, body_of, flags_of, kind_number};
+ghost use Rattle.rs_frame.specs.Spelling.{FieldsFit, InitialFits, MessageFits, bit_if, kind_number, number_there, payload};
 
 use crate::cursor::{is_stream, put_u32};
 use crate::fault::FrameFault;
@@ -20,7 +20,7 @@ use crate::frame::{Frame, Request};
 use crate::header::{COMPLETE, FOLLOWS, Header, METADATA, bit};
 use crate::parts::{message_fits, owned, parts_of, payload_length, put_payload};
 use byteorder::{BigEndian, ByteOrder};
-use rs_wire::{Amount, Kind};
+use rs_wire::{Amount, Kind, Message};
 use std::alloc::Global;
 
 /// The request without an initial n that has this header and this payload, or the least rule that
@@ -126,36 +126,35 @@ pub fn fits(fields: &Request) -> bool
 }
 
 /// The flags M, F and C as the fields say.
-pub fn flags(fields: &Request) -> u16
-    ensures value { result ≡ flags_of (Frame.Request fields.now) }
+pub fn flags(follows: bool, complete: bool, message: &Message) -> u16
+    ensures value { result ≡ bit_if (is_some message.now.metadata) 0x100 + bit_if follows 0x80 +
+        bit_if complete 0x40 }
     ensures fits { result < 1024 }
 {
-    bit(fields.message.metadata.is_some(), METADATA)
-        + bit(fields.follows, FOLLOWS)
-        + bit(fields.complete, COMPLETE)
+    bit(message.metadata.is_some(), METADATA) + bit(follows, FOLLOWS) + bit(complete, COMPLETE)
 }
 
 /// How many bytes the fields have.
-pub fn body_length(fields: &Request) -> usize
-    requires { FieldsFit (Frame.Request fields.now) }
-    ensures value { result ≡ length (body_of (Frame.Request fields.now)) }
+pub fn body_length(initial: &Option<Amount>, message: &Message) -> usize
+    requires { MessageFits message.now }
+    ensures value { result ≡ length (number_there initial.now ++ payload message.now) }
     ensures bound { result < 2 ^ 63 + 2 ^ 26 }
 {
-    match fields.initial {
-        None => payload_length(&fields.message),
-        Some(_) => 4 + payload_length(&fields.message),
+    match initial {
+        None => payload_length(message),
+        Some(_) => 4 + payload_length(message),
     }
 }
 
 /// Appends the fields, for which there is room.
-pub fn write(out: &mut Vec<u8>, fields: &Request)
-    requires fits { FieldsFit (Frame.Request fields.now) }
-    requires has_room { vec_len out.old + length (body_of (Frame.Request fields.now)) ≤
+pub fn write(out: &mut Vec<u8>, initial: &Option<Amount>, message: &Message)
+    requires fits { MessageFits message.now }
+    requires has_room { vec_len out.old + length (number_there initial.now ++ payload message.now) ≤
         vec_capacity out.old }
-    ensures { out.new.items ≡ out.old.items ++ body_of (Frame.Request fields.now) }
+    ensures { out.new.items ≡ out.old.items ++ (number_there initial.now ++ payload message.now) }
 {
-    if let Some(n) = fields.initial {
+    if let Some(n) = initial {
         put_u32(out, n.get());
     }
-    put_payload(out, &fields.message);
+    put_payload(out, message);
 }
