@@ -1,7 +1,9 @@
 //! Frames out of a stream that comes in pieces.
 
-use rs_chunk::{Front, Reader, frame_bytes};
+use rs_chunk::{Front, Reader, frame_bytes, item_bytes, request_bytes};
 use rs_frame::Frame;
+use rs_wire::{Blob, Kind, Message};
+use std::alloc::Global;
 use std::test::Fail;
 
 #[test]
@@ -34,4 +36,45 @@ fn a_frame_stands_after_its_length(rt: HostRuntime) {
     assert!(rt; out.push(9).is_ok());
     assert!(rt; frame_bytes(&Frame::Cancel { stream: 1 }, &mut out).is_ok());
     assert!(rt; out.as_slice() == [9, 0, 0, 6, 0, 0, 0, 1, 0x24, 0].as_slice());
+}
+
+// The message with this metadata, if any, and this content.
+fn message(alloc: Global, metadata: Option<&[u8]>, content: &[u8]) -> Result<Message, Fail> {
+    let metadata = match metadata {
+        Some(metadata) => Some(Blob::from_slice(alloc, metadata)?),
+        None => None,
+    };
+    Ok(Message {
+        metadata,
+        content: Blob::from_slice(alloc, content)?,
+    })
+}
+
+// The bytes of the item `hi` on stream 1: C stands beside N where it is the last one.
+#[test]
+fn an_item_is_written_from_its_message(rt: HostRuntime) -> Result<(), Fail> {
+    let alloc = rt.alloc();
+    let hi = message(alloc, None, b"hi")?;
+    let mut out = Vec::new(alloc);
+    item_bytes(1, false, &hi, &mut out)?;
+    item_bytes(1, true, &hi, &mut out)?;
+    let both = [
+        0, 0, 8, 0, 0, 0, 1, 0x28, 0x20, 0x68, 0x69, 0, 0, 8, 0, 0, 0, 1, 0x28, 0x60, 0x68, 0x69,
+    ];
+    assert!(rt; out.as_slice() == both.as_slice());
+    Ok(())
+}
+
+// The bytes of a REQUEST_RESPONSE on stream 1 with metadata `echo` and content `hi`.
+#[test]
+fn a_request_is_written_from_its_message(rt: HostRuntime) -> Result<(), Fail> {
+    let alloc = rt.alloc();
+    let asked = message(alloc, Some(b"echo"), b"hi")?;
+    let mut out = Vec::new(alloc);
+    request_bytes(1, Kind::Response, &None, false, &asked, &mut out)?;
+    let bytes = [
+        0, 0, 15, 0, 0, 0, 1, 0x11, 0, 0, 0, 4, 0x65, 0x63, 0x68, 0x6f, 0x68, 0x69,
+    ];
+    assert!(rt; out.as_slice() == bytes.as_slice());
+    Ok(())
 }
