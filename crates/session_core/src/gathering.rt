@@ -131,8 +131,8 @@ fn called_on(id: u32, call: &Call) -> Option<u32>
     }
 }
 
-// The stream on which an event and its answer say something, or on which something is taken.
-fn touches(answer: &Answer, event: &Event) -> Option<u32>
+/// The stream on which an event and its answer say something, or on which something is taken.
+pub fn touches(answer: &Answer, event: &Event) -> Option<u32>
     ensures { result ≡ touches answer.now event.now }
 {
     match (answer, event) {
@@ -144,8 +144,8 @@ fn touches(answer: &Answer, event: &Event) -> Option<u32>
     }
 }
 
-// Drops what is gathered on a stream where the peer's messages are not taken in.
-fn let_stream_go(parts: &mut Reassembly, streams: &Streams, stream: u32)
+/// Drops what is gathered on a stream where the peer's messages are not taken in.
+pub fn let_stream_go(parts: &mut Reassembly, streams: &Streams, stream: u32)
     ensures heard { (s : ℕ) → hears_on ((known_to streams.now).kept s) ≡ true →
         gathered_at parts.new s ≡ gathered_at parts.old s }
     ensures over { hears_on ((known_to streams.now).kept stream) ≡ false →
@@ -153,9 +153,10 @@ fn let_stream_go(parts: &mut Reassembly, streams: &Streams, stream: u32)
     ensures others { (s : ℕ) → nat_eq stream s ≡ false →
         has_part_at parts.new s ≡ has_part_at parts.old s }
 {
-    if !streams.hears(stream) {
-        parts.forget(stream);
+    if parts.is_empty() || streams.hears(stream) {
+        return;
     }
+    parts.forget(stream);
 }
 
 // Drops what is gathered on the stream of an event, where the peer's messages are not taken in there
@@ -168,9 +169,6 @@ fn let_go(parts: &mut Reassembly, streams: &Streams, event: &Event, answer: &Ans
     ensures others { (s : ℕ) → is_that (touches answer.now event.now) s ≡ false →
         has_part_at parts.new s ≡ has_part_at parts.old s }
 {
-    if parts.is_empty() {
-        return;
-    }
     if let Some(stream) = touches(answer, event) {
         let_stream_go(parts, streams, stream);
     }

@@ -47,12 +47,13 @@
 mod amounts;
 mod arrivals;
 mod asked;
-mod asking;
 mod bringing;
+mod calling;
 mod came;
 mod counting;
 mod counts;
 mod gathering;
+mod hearing;
 mod history;
 mod judge;
 mod kept;
