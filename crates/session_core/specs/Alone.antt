@@ -1,5 +1,5 @@
 -- A payload that is a whole message, on a stream where no part of one was gathered.
-use Rattle.std.specs.Prelude.{◌≡◌, ℕ, true, false, Option, Some, None}
+use Rattle.std.specs.Prelude.{◌≡◌, ℕ, false, Option, Some, None}
 use Rattle.rs_frame.specs.declared.frame.Frame.TheVariants as frame
 use Rattle.tape.specs.declared.event.Event.{Event}
 use Rattle.tape.specs.declared.event.Event.TheVariants as event

@@ -49,6 +49,7 @@ pub fn comes_alone(settings: &Checked, state: &State, event: &Event) -> bool
     requires room { HasRoom state.now }
     requires limits { AreLimits settings.now state.now }
     ensures alone { result ≡ true → IsAlone (gathered_at state.now.parts) event.now }
+    ensures fair { result ≡ true → IsFair settings.now event.now }
     ensures answer { result ≡ true →
         Answer.Handled ≡ answer_by settings.now (facts_of state.now) event.now }
 {
