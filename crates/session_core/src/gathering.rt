@@ -133,8 +133,8 @@ fn called_on(id: u32, call: &Call) -> Option<u32>
     }
 }
 
-// The stream on which an event and its answer say something, or on which something is taken.
-fn touches(answer: &Answer, event: &Event) -> Option<u32>
+/// The stream on which an event and its answer say something, or on which something is taken.
+pub fn touches(answer: &Answer, event: &Event) -> Option<u32>
     ensures { result ≡ touches answer.now event.now }
 {
     match (answer, event) {

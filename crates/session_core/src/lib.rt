@@ -53,6 +53,7 @@ mod came;
 mod counting;
 mod counts;
 mod gathering;
+mod hearing;
 mod history;
 mod judge;
 mod kept;
