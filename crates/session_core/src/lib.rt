@@ -62,6 +62,7 @@ mod life;
 mod line;
 mod notices;
 mod outgoing;
+mod parting;
 mod queue;
 mod refusal;
 mod resuming;
