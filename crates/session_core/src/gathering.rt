@@ -144,8 +144,8 @@ fn touches(answer: &Answer, event: &Event) -> Option<u32>
     }
 }
 
-// Drops what is gathered on a stream where the peer's messages are not taken in.
-fn let_stream_go(parts: &mut Reassembly, streams: &Streams, stream: u32)
+/// Drops what is gathered on a stream where the peer's messages are not taken in.
+pub fn let_stream_go(parts: &mut Reassembly, streams: &Streams, stream: u32)
     ensures heard { (s : ℕ) → hears_on ((known_to streams.now).kept s) ≡ true →
         gathered_at parts.new s ≡ gathered_at parts.old s }
     ensures over { hears_on ((known_to streams.now).kept stream) ≡ false →

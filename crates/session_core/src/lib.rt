@@ -64,6 +64,7 @@ mod outgoing;
 mod queue;
 mod refusal;
 mod resuming;
+mod sending;
 mod session;
 mod sizes;
 mod speak;
