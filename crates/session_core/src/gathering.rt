@@ -153,9 +153,10 @@ pub fn let_stream_go(parts: &mut Reassembly, streams: &Streams, stream: u32)
     ensures others { (s : ℕ) → nat_eq stream s ≡ false →
         has_part_at parts.new s ≡ has_part_at parts.old s }
 {
-    if !streams.hears(stream) {
-        parts.forget(stream);
+    if parts.is_empty() || streams.hears(stream) {
+        return;
     }
+    parts.forget(stream);
 }
 
 // Drops what is gathered on the stream of an event, where the peer's messages are not taken in there
@@ -168,9 +169,6 @@ fn let_go(parts: &mut Reassembly, streams: &Streams, event: &Event, answer: &Ans
     ensures others { (s : ℕ) → is_that (touches answer.now event.now) s ≡ false →
         has_part_at parts.new s ≡ has_part_at parts.old s }
 {
-    if parts.is_empty() {
-        return;
-    }
     if let Some(stream) = touches(answer, event) {
         let_stream_go(parts, streams, stream);
     }

@@ -47,8 +47,8 @@
 mod amounts;
 mod arrivals;
 mod asked;
-mod asking;
 mod bringing;
+mod calling;
 mod came;
 mod counting;
 mod counts;
@@ -69,6 +69,7 @@ mod session;
 mod sizes;
 mod speak;
 mod state;
+mod taking;
 mod ticking;
 mod timing;
 mod turned_away;

@@ -139,9 +139,30 @@ impl<T: Tape> Session<T> {
         if self.tape.count() >= FULL {
             return Answer::TapeFull;
         }
-        if let Event::Cut { conn } = event {
-            return self.cut(who, *conn);
+        match event {
+            Event::Cut { conn } => self.cut(who, *conn),
+            Event::Asked(call) => match self.ask_shortly(who, call) {
+                Some(answer) => answer,
+                None => self.answer(who, event),
+            },
+            _ => self.answer(who, event),
         }
+    }
+
+    /// Answers an event, which is no draw, by the way that serves for all.
+    pub(crate) fn answer(&mut self, who: u32, event: &Event) -> Answer
+        requires fair { CanBring self.old.settings event.now }
+        requires no_draw { IsNoDrawEvent event.now }
+        requires not_full { length self.old.entries < 2 ^ 63 }
+        ensures answer { IsUnlessWant result
+            (answer_to self.old.settings self.old.entries event.now) }
+        ensures not_full { result ≢ Answer.TapeFull }
+        ensures after { self.new ≡ record self.old {
+          entries = entries_after who event.now result self.old.entries;
+          spare = self.new.spare;
+        } }
+        ensures spare { self.old.spare ≤ self.new.spare + 1 }
+    {
         let Ok(answer) = judge(self.alloc, &self.settings, &self.state, event) else {
             return Answer::OutOfMemory;
         };

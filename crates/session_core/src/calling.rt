@@ -1,6 +1,6 @@
 //! What a caller asks of a session, which keeps its call.
 
-ghost use Rattle.std.specs.Prelude.{◌≡◌, ◌+◌, ◌≤◌, ◌^◌, ◌↔◌, length};
+ghost use Rattle.std.specs.Prelude.{◌≡◌, ◌≢◌, ◌+◌, ◌<◌, ◌≤◌, ◌^◌, ◌↔◌, IfSome, None, Some, length};
 ghost use Rattle.rs_wire.specs.Calls.{CanBeAsked};
 ghost use Rattle.tape.specs.declared.event.Event.TheVariants as events;
 ghost use Rattle.session_model.specs.Answers.{answer_to};
@@ -11,6 +11,27 @@ use rs_wire::Call;
 use tape::{Answer, Event, Tape};
 
 impl<T: Tape> Session<T> {
+    // The answer to a call that has a short way: a take on a stream where something waits. `None` of
+    // any other call: nothing has changed.
+    pub(crate) fn ask_shortly(&mut self, who: u32, call: &Call) -> Option<Answer>
+        requires askable { CanBeAsked call.now }
+        requires not_full { length self.old.entries < 2 ^ 63 }
+        ensures answer { IfSome result (λ a. IsUnlessWant a (answer_to self.old.settings
+            self.old.entries (events.Asked call.now))) }
+        ensures not_full { result ≢ Some Answer.TapeFull }
+        ensures after { IfSome result (λ a. self.new ≡ record self.old {
+          entries = entries_after who (events.Asked call.now) a self.old.entries;
+          spare = self.new.spare;
+        }) }
+        ensures none { result ≡ None → self.new ≡ self.old }
+        ensures spare { self.old.spare ≤ self.new.spare + 1 }
+    {
+        match call {
+            Call::Take { stream } => self.take(who, *stream),
+            _ => None,
+        }
+    }
+
     /// Answers a call as [`Session::step`] answers the event of it, and copies nothing of it that the
     /// tape doesn't keep.
     pub fn ask(&mut self, who: u32, call: &Call) -> Answer
@@ -27,8 +48,11 @@ impl<T: Tape> Session<T> {
         if self.tape.count() >= FULL {
             return Answer::TapeFull;
         }
+        if let Some(answer) = self.ask_shortly(who, call) {
+            return answer;
+        }
         match call.copy(self.alloc) {
-            Ok(call) => self.step(who, &Event::Asked(call)),
+            Ok(call) => self.answer(who, &Event::Asked(call)),
             Err(_) => Answer::OutOfMemory,
         }
     }
