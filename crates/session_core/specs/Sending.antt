@@ -31,10 +31,14 @@ pub record GoesPlainly (g : Settings) (s : State) : Type 0 where
   pub forgets : agrees_resumption g s.setup ≡ false
   pub leases : agrees_leases g s.setup ≡ false
 
--- a call is accepted and so answered, and makes one frame, of that length
-pub record Sends (g : Settings) (s : State) (a : Answer) (asked : Call) (n : ℕ) : Type 0 where
+-- a call is accepted where frames go so
+pub record MaySend (g : Settings) (s : State) (asked : Call) : Type 0 where
   pub plainly : GoesPlainly g s
   pub accepted : refused_call g (facts_of s) asked ≡ None
+
+-- a call that is so answered makes one frame, of that length
+pub record Sends (g : Settings) (s : State) (a : Answer) (asked : Call) (n : ℕ) : Type 0 where
+  pub may : MaySend g s asked
   pub one : length (makes g (covers_next g s) (known_to s.streams) a (event.Asked asked)) ≡ 1
   pub long : pos (makes g (covers_next g s) (known_to s.streams) a (event.Asked asked)) ≡ n
 

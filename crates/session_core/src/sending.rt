@@ -1,19 +1,21 @@
 //! Calls that go out in one frame, which is written from the call's own parts.
 
-ghost use Rattle.std.specs.Prelude.{◌≡◌, ◌≢◌, ◌≤◌, ◌+◌, ◌<◌, ◌^◌, ◌∷◌, [], ℕ, None, Some, IfOk, IfSome, OnErr, false, true, length};
+ghost use Rattle.std.specs.Prelude.{◌≡◌, ◌||◌, ◌≢◌, ◌≤◌, ◌+◌, ◌<◌, ◌^◌, ◌∷◌, [], ℕ, None, Some, IfOk, IfSome, OnErr, false, true, length};
 ghost use Rattle.rs_wire.specs.Calls.{CanBeAsked};
 ghost use Rattle.rs_wire.specs.Settings.{IsChecked};
 ghost use Rattle.rs_wire.specs.declared.call.Call.TheVariants as calls;
-ghost use Rattle.rs_frame.specs.Spelling.{IsSpellable, length_of};
+ghost use Rattle.rs_frame.specs.declared.frame.Frame.{Frame};
+ghost use Rattle.rs_frame.specs.Spelling.{length_of};
 ghost use Rattle.tape.specs.declared.answer.Answer.TheVariants as answers;
 ghost use Rattle.tape.specs.declared.event.Event.TheVariants as events;
+ghost use Rattle.stream_model.specs.Known.{is_open_response};
 ghost use Rattle.interactions.specs.Seen.{acted, known_to};
 ghost use Rattle.session_model.specs.Answers.{answer_to};
 ghost use Rattle.session_model.specs.Frames.{in_fragments};
 ghost use Rattle.session_core.specs.Fits.{AreLimits, HasRoom};
 ghost use Rattle.session_core.specs.Prepared.{with_line};
 ghost use Rattle.session_core.specs.Seen.{IsUnlessWant, entries_after};
-ghost use Rattle.session_core.specs.Sending.{GoesPlainly, LetsGo, Sends, spoken_after};
+ghost use Rattle.session_core.specs.Sending.{GoesPlainly, LetsGo, MaySend, Sends, spoken_after};
 ghost use Rattle.session_core.specs.Speaking.{Acts, with_room};
 
 use crate::asked::refused_call;
@@ -38,30 +40,35 @@ fn goes_plainly(settings: &Checked, state: &State) -> bool
         && !agrees_leases(set, &state.setup)
 }
 
-// The length of the PAYLOAD of an item, where it is not longer than the mtu.
-#[tactic(auto, using(crate::proofs::Framed::fits_alone))]
-fn length_alone(mtu: u32, stream: u32, complete: bool, message: &Message) -> Option<u32>
-    requires { IsSpellable (Frame.Payload stream false complete true message.now) }
-    ensures length { IfSome result (λ n. n ≡
-        length_of (Frame.Payload stream false complete true message.now)) }
-    ensures alone { IfSome result (λ _. in_fragments mtu
-        (Frame.Payload stream false complete true message.now)
-        ≡ Frame.Payload stream false complete true message.now ∷ []) }
+// A frame of this length is not longer than the mtu.
+fn fits(length: u32, mtu: u32) -> bool
+    ensures { (f : Frame) → length_of f ≡ length → result ≡ true →
+        in_fragments mtu f ≡ f ∷ [] }
 {
-    let length = rs_frame::item_length(stream, complete, message);
-    if mtu == 0 || length <= mtu {
-        return Some(length);
-    }
-    None
+    mtu == 0 || length <= mtu
 }
 
 // Drops what is gathered on a stream where the peer's messages are not taken in.
 fn let_go(parts: &mut Reassembly, streams: &Streams, on: u32)
     ensures { LetsGo (known_to streams.now) on parts.old parts.new }
 {
-    if !parts.is_empty() {
-        let_stream_go(parts, streams, on);
-    }
+    let_stream_go(parts, streams, on);
+}
+
+// The call is not refused, and can go out by this way.
+fn may_send(settings: &Checked, state: &State, call: &Call) -> bool
+    requires room { HasRoom state.now }
+    requires limits { AreLimits settings.now state.now }
+    ensures { result ≡ true → MaySend settings.now state.now call.now }
+{
+    goes_plainly(settings, state) && refused_call(settings, state, call).is_none()
+}
+
+// The payload of a response always ends it.
+fn completes(streams: &Streams, stream: u32, complete: bool) -> bool
+    ensures { result ≡ (complete || is_open_response ((known_to streams.now).kept stream)) }
+{
+    complete || streams.is_open_response(stream)
 }
 
 impl State {
@@ -90,15 +97,16 @@ impl State {
     {
         // The ids of the streams have 31 bits, so that the frames on them can be spelled.
         self.streams.fair();
-        if !goes_plainly(settings, self) || refused_call(settings, self, call).is_some() {
+        if !may_send(settings, self, call) {
             return Ok(None);
         }
-        let complete = complete || self.streams.is_open_response(stream);
-        let Some(length) = length_alone(mtu(settings), stream, complete, message) else {
+        let last = completes(&self.streams, stream, complete);
+        let length = rs_frame::item_length(stream, last, message);
+        if !fits(length, mtu(settings)) {
             return Ok(None);
-        };
+        }
         self.streams.reserve(stream)?;
-        self.queue.append_item(stream, complete, message)?;
+        self.queue.append_item(stream, last, message)?;
         Ok(Some(length))
     }
 
@@ -148,7 +156,7 @@ impl<T: Tape> Session<T> {
                 Ok(None) => return None,
                 Err(OutOfMemory) => return Some(Answer::OutOfMemory),
             };
-        if self.tape.note_call(who, call, &Answer::Done).is_err() {
+        if let Err(OutOfMemory) = self.tape.note_call(who, call, &Answer::Done) {
             self.state.queue.truncate(before);
             return Some(Answer::OutOfMemory);
         }
