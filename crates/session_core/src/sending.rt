@@ -21,8 +21,8 @@ ghost use Rattle.session_core.specs.Speaking.{Acts, with_room};
 use crate::asked::refused_call;
 use crate::gathering::let_stream_go;
 use crate::life::{agrees_leases, agrees_resumption};
-use crate::sizes::mtu;
 use crate::session::Session;
+use crate::sizes::mtu;
 use crate::state::State;
 use interactions::Streams;
 use reassembly::Reassembly;
@@ -150,12 +150,14 @@ impl<T: Tape> Session<T> {
         ensures spare { self.old.spare ≤ self.new.spare + 1 }
     {
         let before = self.state.queue.len();
-        let length =
-            match self.state.line_item(&self.settings, call, stream, message, complete) {
-                Ok(Some(length)) => length,
-                Ok(None) => return None,
-                Err(OutOfMemory) => return Some(Answer::OutOfMemory),
-            };
+        let length = match self
+            .state
+            .line_item(&self.settings, call, stream, message, complete)
+        {
+            Ok(Some(length)) => length,
+            Ok(None) => return None,
+            Err(OutOfMemory) => return Some(Answer::OutOfMemory),
+        };
         if let Err(OutOfMemory) = self.tape.note_call(who, call, &Answer::Done) {
             self.state.queue.truncate(before);
             return Some(Answer::OutOfMemory);
