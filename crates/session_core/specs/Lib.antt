@@ -16,3 +16,4 @@ pub mod Kept
 pub mod Leasing
 pub mod Line
 pub mod Timing
+pub mod Sending

@@ -184,9 +184,9 @@ fn refused_later(settings: &Checked, state: &State, call: &Call) -> Option<Refus
     by_sending(settings, state, call)
 }
 
-// The first refusal of a call.
+/// The first refusal of a call.
 #[tactic(auto, unfolding(session_model::specs::Answers::refused_call))]
-fn refused_call(settings: &Checked, state: &State, call: &Call) -> Option<Refusal>
+pub fn refused_call(settings: &Checked, state: &State, call: &Call) -> Option<Refusal>
     requires room { HasRoom state.now }
     requires limits { AreLimits settings.now state.now }
     ensures { result ≡ refused_call settings.now (facts_of state.now) call.now }

@@ -66,6 +66,7 @@ mod parting;
 mod queue;
 mod refusal;
 mod resuming;
+mod sending;
 mod session;
 mod sizes;
 mod speak;

@@ -1,0 +1,57 @@
+-- Calls that go out in one frame.
+use Rattle.std.specs.Prelude.{◌≡◌, ◌+◌, ◌==◌, ℕ, Bool, true, false, length, None}
+use Rattle.rs_wire.specs.declared.settings.Settings.{Settings}
+use Rattle.rs_wire.specs.declared.call.Call.{Call}
+use Rattle.rs_wire.specs.declared.call.Call.TheVariants as call
+use Rattle.position.specs.Boundaries.{pos}
+use Rattle.tape.specs.declared.event.Event.TheVariants as event
+use Rattle.tape.specs.declared.answer.Answer.{Answer}
+use Rattle.tape.specs.declared.answer.Answer.TheVariants as answer
+use Rattle.stream_model.specs.Known.{Known, hears_on}
+use Rattle.interactions.specs.Seen.{acted, known_to}
+use Rattle.reassembly.specs.Gathering.{ReassemblyView, gathered_at, has_part_at}
+use Rattle.session_model.specs.Answers.{refused_call}
+use Rattle.session_model.specs.Frames.{makes}
+use Rattle.session_model.specs.Life.{agrees_leases, agrees_resumption}
+use Rattle.session_core.specs.Fits.{facts_of}
+use Rattle.session_core.specs.Leasing.{covers_next}
+use Rattle.session_core.specs.Queued.{is_connected}
+use Rattle.session_core.specs.declared.state.State.{State}
+
+-- a call that makes a frame, and its answer, on that stream
+abbrev pub SpeaksOn : ℕ → Answer → Call → Type 0
+SpeaksOn s (answer.Started id) (call.Request kind initial message complete) = id ≡ s
+SpeaksOn s answer.Done (call.Next n message complete) = n ≡ s
+SpeaksOn s _ _ = ⊥
+
+-- frames go out at once, and none is kept; no lease counts requests
+pub record GoesPlainly (g : Settings) (s : State) : Type 0 where
+  pub carries : s.carrying ≡ true
+  pub connected : is_connected s.live ≡ true
+  pub forgets : agrees_resumption g s.setup ≡ false
+  pub leases : agrees_leases g s.setup ≡ false
+
+-- a call is accepted where frames go so
+pub record MaySend (g : Settings) (s : State) (asked : Call) : Type 0 where
+  pub plainly : GoesPlainly g s
+  pub accepted : refused_call g (facts_of s) asked ≡ None
+
+-- a call that is so answered makes one frame, of that length
+pub record Sends (g : Settings) (s : State) (a : Answer) (asked : Call) (n : ℕ) : Type 0 where
+  pub may : MaySend g s asked
+  pub one : length (makes g (covers_next g s) (known_to s.streams) a (event.Asked asked)) ≡ 1
+  pub long : pos (makes g (covers_next g s) (known_to s.streams) a (event.Asked asked)) ≡ n
+
+-- of that stream nothing is kept where messages are not taken in any more, of any other all
+pub record LetsGo (t : Known) (on : ℕ) (old new : ReassemblyView) : Type 0 where
+  pub heard : (s : ℕ) → hears_on (t.kept s) ≡ true → gathered_at new s ≡ gathered_at old s
+  pub over : (s : ℕ) → (on == s) ≡ true → hears_on (t.kept s) ≡ false → has_part_at new s ≡ false
+  pub others : (s : ℕ) → (on == s) ≡ false → has_part_at new s ≡ has_part_at old s
+
+-- the state after a call that made one frame of that length, where these parts are kept
+abbrev pub spoken_after : State → Call → ℕ → ReassemblyView → State
+spoken_after s asked n parts = record s {
+  made = record { frames = s.made.frames + 1; position = s.made.position + n };
+  streams = acted s.streams asked;
+  parts = parts;
+}
