@@ -3,7 +3,7 @@
 use crate::tests::{Script, plays};
 use std::test::Fail;
 
-const ROWS: [Script; 14] = [
+const ROWS: [Script; 15] = [
     Script {
         shows: "items stop where credit ends and go on after a grant",
         script: "\
@@ -271,6 +271,48 @@ client bad 10: violation bad-frame
 server open SETUP 0 68: opened 1
 server came REQUEST_RESPONSE 1 7: handled
 server next 1 100: done
+",
+    },
+    Script {
+        shows: "a server asks as a client does, and a client answers",
+        script: "\
+up 1000
+server response 61
+server stream 2 61
+server channel 1 61 last
+down 1000
+client last 2 62
+client many 4 2 3
+client fail 6 513 6f
+up 1000
+server take 2
+server close
+server fnf 61
+down 1000
+",
+        report: "\
+client made 4 36 handled 3 29
+server made 3 29 handled 4 36
+client open: opened 1
+client came REQUEST_RESPONSE 2 7: handled
+client came REQUEST_STREAM 4 11: handled
+client came REQUEST_CHANNEL 6 11: handled
+client last 2 1: done
+client next 4 3: done
+client next 4 3: done
+client fail 6 513 1: done
+client came ERROR 0 10: peer error 257
+server open SETUP 0 68: opened 1
+server response 1: stream 2
+server stream 2 1: stream 4
+server channel 1 1 last: stream 6
+server came PAYLOAD 2 7: handled
+server came PAYLOAD 4 9: handled
+server came PAYLOAD 4 9: handled
+server came ERROR 6 11: handled
+server take 2: item 1
+server close: done
+server fnf 1: closed local
 ",
     },
     Script {
