@@ -1,7 +1,9 @@
 //! Frames out of a stream that comes in pieces.
 
-use rs_chunk::{Front, Reader, frame_bytes};
-use rs_frame::Frame;
+use rs_chunk::{Front, Reader, frame_bytes, item_bytes, request_bytes, split_frame};
+use rs_frame::{Frame, FrameFault, Request, decode, spellable};
+use rs_wire::OutOfMemory;
+use std::alloc::Global;
 use std::test::Fail;
 
 #[test]
@@ -34,4 +36,61 @@ fn a_frame_stands_after_its_length(rt: HostRuntime) {
     assert!(rt; out.push(9).is_ok());
     assert!(rt; frame_bytes(&Frame::Cancel { stream: 1 }, &mut out).is_ok());
     assert!(rt; out.as_slice() == [9, 0, 0, 6, 0, 0, 0, 1, 0x24, 0].as_slice());
+}
+
+/// Items and requests whose messages are whole, after their lengths.
+const WHOLE: [&[u8]; 4] = [
+    b"\0\0\x07\0\0\0\x01\x28\x20\x61",
+    b"\0\0\x0b\0\0\0\x02\x29\x60\0\0\x01\x6d\x63",
+    b"\0\0\x07\0\0\0\x03\x14\0\x68",
+    b"\0\0\x0b\0\0\0\x01\x1c\x40\0\0\0\x05\x63",
+];
+
+// The frame, written from the parts of an item or a request.
+fn of_parts(alloc: Global, frame: &Frame) -> Result<Vec<u8>, OutOfMemory> {
+    let mut out = Vec::new(alloc);
+    if !spellable(frame) {
+        return Ok(out);
+    }
+    match frame {
+        Frame::Payload {
+            stream,
+            follows: false,
+            complete,
+            next: true,
+            message,
+        } => item_bytes(*stream, *complete, message, &mut out)?,
+        Frame::Request(
+            Request {
+                stream,
+                kind,
+                follows: false,
+                complete,
+                initial,
+                message,
+            },
+        ) => request_bytes(*stream, *kind, initial, *complete, message, &mut out)?,
+        _ => {}
+    }
+    Ok(out)
+}
+
+// Whether the frame after its length is written so again from its parts.
+fn comes_back_of_parts(alloc: Global, bytes: &[u8]) -> Result<bool, FrameFault> {
+    let Some((frame, _)) = split_frame(bytes) else {
+        return Ok(false);
+    };
+    let out = of_parts(alloc, &decode(alloc, frame)?)?;
+    Ok(out.as_slice() == bytes)
+}
+
+#[test]
+fn items_and_requests_are_written_from_their_parts(rt: HostRuntime) {
+    for bytes in WHOLE {
+        assert_eq!(rt;
+            comes_back_of_parts(rt.alloc(), bytes),
+            Ok(true),
+            "{bytes:?}"
+        );
+    }
 }
