@@ -35,6 +35,23 @@ impl<T: Tape> Connection<T> {
         answer
     }
 
+    /// Brings an event as [`event`](Connection::event) does, and takes it, so that what a frame carries
+    /// need not be copied. It serves whoever has the event for one call, as a pump has a frame that
+    /// came; `event` serves whoever brings it again.
+    pub fn bring<R: Wait>(&self, rt: &R, caller: &mut Caller<T>, event: Event) -> Answer
+        requires of { caller.old.of ≡ self.now }
+        requires fair { CanBring self.now.settings event }
+        requires no_draw { IsNoDrawEvent event }
+        ensures same { caller.new ≡ record caller.old { front = caller.new.front; note = None } }
+        ensures called { IsCalled self.now.settings caller.old event result caller.new.front }
+    {
+        let member = take(&mut caller.member);
+        let (member, answer) = self.shared.bring(rt, member, event);
+        give_back(&mut caller.member, member);
+        self.announce(&answer);
+        answer
+    }
+
     /// Asks something of the session. It waits for a turn.
     pub fn call<R: Wait>(&self, rt: &R, caller: &mut Caller<T>, call: &Call) -> Answer
         requires of { caller.old.of ≡ self.now }

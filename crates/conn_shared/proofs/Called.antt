@@ -8,7 +8,7 @@ use Rattle.tape.specs.declared.entry.Entry.{Entry}
 use Rattle.tape.specs.declared.event.Event.{Event}
 use Rattle.tape.specs.declared.answer.Answer.{Answer}
 use Rattle.tape.specs.declared.answer.Answer.TheVariants as answer
-use Rattle.session_core.specs.Seen.{Seen, entries_after}
+use Rattle.session_core.specs.Seen.{entries_after}
 use Rattle.conn_lock.specs.Callers.{once}
 use Rattle.conn_lock.proofs.Totals.{calls_append}
 use Rattle.conn_shared.specs.Members.{Follows, Gains, Knowledge}
@@ -44,10 +44,3 @@ called_since g first me e a new names number f c = record {
   follows = follows_on first.names first.front me.front c.before f (subst (λ ns. Follows ns me.front c.before) names c.follows);
   step = subst (λ n. IsStep g n c.before e a new) number c.step;
 }
-
--- a turn without a step, in which the session is still the one that was found
-pub refused_at : (g : Settings) (n : ℕ) (v w : Seen) (e : Event) (a : Answer) (front : List Entry) → v ≡ w → w.settings ≡ g → front ≡ w.entries → IsStep v.settings n v.entries e a v.entries → IsStep g n w.entries e a front
-refused_at g n v w e a front same settings is s =
-    subst (λ es. IsStep g n w.entries e a es) (sym is)
-    (subst (λ h. IsStep h n w.entries e a w.entries) settings
-    (subst (λ (u : Seen). IsStep u.settings n u.entries e a u.entries) same s))

@@ -141,21 +141,10 @@ impl<T: Tape> SharedSession<T> {
         ensures refused { IfErr result (λ r. member.parts < all_parts) }
         ensures kept { IfErr result (λ r. (r.0 ≡ self) × (r.1 ≡ member)) }
     {
-        let SharedSession {
-            alloc,
-            lock,
-            settings,
-        } = self;
+        let SharedSession { lock, settings } = self;
         match shut(lock, member.into_seat()) {
             Ok(session) => Ok(session),
-            Err((lock, seat)) => Err((
-                SharedSession {
-                    alloc,
-                    lock,
-                    settings,
-                },
-                Member { seat },
-            )),
+            Err((lock, seat)) => Err((SharedSession { lock, settings }, Member { seat })),
         }
     }
 }

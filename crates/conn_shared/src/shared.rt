@@ -16,7 +16,6 @@ use tape::Tape;
 /// A session that its members share by reference. Contracts see which one it is, and its settings.
 #[derive(Drop)]
 pub struct SharedSession<T: Tape> {
-    pub(crate) alloc: Global,
     pub(crate) lock: Lock<Stored<T>>,
     /// What the session is set to, for contracts alone.
     pub(crate) settings: Snapshot<Checked>,
@@ -50,14 +49,7 @@ impl<T: Tape> SharedSession<T> {
         };
         match Lock::new(alloc, stored) {
             Err((stored, why)) => Err((stored.into_session(), why)),
-            Ok((lock, seat)) => Ok((
-                SharedSession {
-                    alloc,
-                    lock,
-                    settings,
-                },
-                Member { seat },
-            )),
+            Ok((lock, seat)) => Ok((SharedSession { lock, settings }, Member { seat })),
         }
     }
 }

@@ -7,7 +7,6 @@ ghost use Rattle.session_model.specs.Legal.{CanBring};
 ghost use Rattle.session_model.specs.Life.{carrying, closed, live};
 ghost use Rattle.session_core.specs.Queued.{IsUntouched};
 ghost use Rattle.session_core.specs.Seen.{IsNoDrawEvent};
-ghost use Rattle.tape.specs.declared.event.Event.{Event as Happening};
 ghost use Rattle.tape.specs.declared.event.Event.TheVariants as events;
 ghost use Rattle.conn_shared.specs.Members.{Follows};
 ghost use Rattle.conn_shared.specs.Calls.{IsCalled, IsDrawCall};
@@ -34,15 +33,18 @@ impl<T: Tape> SharedSession<T> {
         (Member { seat }, answer)
     }
 
-    // The answer to an event that there was no memory to copy. It waits for a turn.
-    fn refuse<R: Wait>(&self, rt: &R, member: Member<T>) -> (Member<T>, Answer)
+    /// Brings an event as [`step`](SharedSession::step) does, and takes it, so that what a frame
+    /// carries need not be copied. It serves whoever has the event for one call; `step` serves whoever
+    /// brings it again.
+    pub fn bring<R: Wait>(&self, rt: &R, member: Member<T>, event: Event) -> (Member<T>, Answer)
         requires of { member.of ≡ self.now }
+        requires fair { CanBring self.now.settings event }
+        requires no_draw { IsNoDrawEvent event }
         ensures same { result.0 ≡ record member { front = result.0.front; note = None } }
-        ensures called { (e : Happening) →
-            IsCalled self.now.settings member e result.1 result.0.front }
+        ensures called { IsCalled self.now.settings member event result.1 result.0.front }
     {
         let turn = self.enter(rt, member.into_seat());
-        let (seat, answer) = self.refuse_in(turn);
+        let (seat, answer) = self.bring_in(turn, event);
         (Member { seat }, answer)
     }
 
@@ -54,10 +56,9 @@ impl<T: Tape> SharedSession<T> {
         ensures called { IsCalled self.now.settings member
             (events.Asked call.now) result.1 result.0.front }
     {
-        match call.copy(self.alloc) {
-            Ok(asked) => self.step(rt, member, &Event::Asked(asked)),
-            Err(_) => self.refuse(rt, member),
-        }
+        let turn = self.enter(rt, member.into_seat());
+        let (seat, answer) = self.ask_in(turn, call);
+        (Member { seat }, answer)
     }
 
     /// Draws bytes that are due on a connection into the buffer, which has 1 to 4,294,967,295 bytes.

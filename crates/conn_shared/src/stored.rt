@@ -1,6 +1,7 @@
 //! The session under the lock.
 
-ghost use Rattle.std.specs.Prelude.{◌≡◌, ◌<◌, ◌^◌, ℕ, IfErr, IfOk, length};
+ghost use Rattle.std.specs.Prelude.{◌≡◌, ◌<◌, ◌^◌, IfErr, IfOk, length};
+ghost use Rattle.rs_wire.specs.Calls.{CanBeAsked};
 ghost use Rattle.session_model.specs.Frames.{queued};
 ghost use Rattle.session_model.specs.Life.{carrying, closed, live};
 ghost use Rattle.session_model.specs.Legal.{CanBring, Fair, Legal};
@@ -8,19 +9,16 @@ ghost use Rattle.session_core.specs.Queued.{IsUntouched};
 ghost use Rattle.session_core.specs.Seen.{IsNoDrawEvent};
 ghost use Rattle.conn_shared.specs.Members.{Gains};
 ghost use Rattle.conn_shared.specs.Calls.{AreNext, IsStep};
-ghost use Rattle.tape.specs.declared.event.Event.{Event as Happening};
 ghost use Rattle.tape.specs.declared.event.Event.TheVariants as events;
 
 use crate::line::Line;
 use crate::looked::Looked;
 use conn_lock::Stands;
+use rs_wire::Call;
 use session_core::Session;
 use std::alloc::Global;
 use std::marker::Model;
 use tape::{Answer, Event, Tape};
-
-/// How many entries a tape has at most.
-const FULL: u64 = 1 << 63;
 
 /// A session under the lock. It is on the heap, so that a turn moves one pointer.
 #[derive(Drop)]
@@ -81,6 +79,36 @@ impl<T: Tape> Stored<T> {
         answer
     }
 
+    /// One step of the session, which takes the event.
+    pub(crate) fn bring(&mut self, who: u32, event: Event) -> Answer
+        requires fair { CanBring self.old.settings event }
+        requires no_draw { IsNoDrawEvent event }
+        ensures step { IsStep self.old.settings who self.old.entries event result self.new.entries }
+        ensures own { Gains who self.old.entries self.new.entries }
+        ensures settings { self.new.settings ≡ self.old.settings }
+        ensures legal { Legal self.new.settings self.new.entries }
+        ensures fair { Fair self.new.settings self.new.entries }
+    {
+        let answer = self.session.bring(who, event);
+        self.session.legal();
+        answer
+    }
+
+    /// One call of the session.
+    pub(crate) fn ask(&mut self, who: u32, call: &Call) -> Answer
+        requires askable { CanBeAsked call.now }
+        ensures step { IsStep self.old.settings who self.old.entries
+            (events.Asked call.now) result self.new.entries }
+        ensures own { Gains who self.old.entries self.new.entries }
+        ensures settings { self.new.settings ≡ self.old.settings }
+        ensures legal { Legal self.new.settings self.new.entries }
+        ensures fair { Fair self.new.settings self.new.entries }
+    {
+        let answer = self.session.ask(who, call);
+        self.session.legal();
+        answer
+    }
+
     /// One draw of the session.
     pub(crate) fn draw(&mut self, who: u32, conn: u64, buffer: &mut [u8]) -> Answer
         requires some { 0 < length buffer.old }
@@ -97,20 +125,6 @@ impl<T: Tape> Stored<T> {
         let answer = self.session.draw(who, conn, buffer);
         self.session.legal();
         answer
-    }
-
-    /// The answer to an event that there was no memory to copy.
-    pub(crate) fn refuse(&self) -> Answer
-        ensures step { (who : ℕ) (e : Happening) →
-            IsStep self.now.settings who self.now.entries e result self.now.entries }
-        ensures legal { Legal self.now.settings self.now.entries }
-        ensures fair { Fair self.now.settings self.now.entries }
-    {
-        self.session.legal();
-        if self.session.tape().count() >= FULL {
-            return Answer::TapeFull;
-        }
-        Answer::OutOfMemory
     }
 
     /// What the session is like now.

@@ -5,7 +5,6 @@ ghost use Rattle.rs_wire.specs.Calls.{CanBeAsked};
 ghost use Rattle.session_model.specs.Legal.{CanBring};
 ghost use Rattle.session_core.specs.Queued.{IsUntouched};
 ghost use Rattle.session_core.specs.Seen.{IsNoDrawEvent};
-ghost use Rattle.tape.specs.declared.event.Event.{Event as Happening};
 ghost use Rattle.tape.specs.declared.event.Event.TheVariants as events;
 ghost use Rattle.conn_shared.specs.Members.{IsTurnedAway};
 ghost use Rattle.conn_shared.specs.Calls.{IsCalled, IsDrawCall};
@@ -39,24 +38,6 @@ impl<T: Tape> SharedSession<T> {
         }
     }
 
-    // The answer to an event that there was no memory to copy.
-    fn try_refuse(&self, member: Member<T>) -> (Member<T>, Option<Answer>)
-        requires of { member.of ≡ self.now }
-        ensures same { IfSome result.1 (λ a.
-            result.0 ≡ record member { front = result.0.front; note = None }) }
-        ensures called { IfSome result.1 (λ a. (e : Happening) →
-            IsCalled self.now.settings member e a result.0.front) }
-        ensures turned_away { IfNone result.1 (IsTurnedAway member result.0) }
-    {
-        match self.try_enter(member.into_seat()) {
-            Err(seat) => (Member { seat }, None),
-            Ok(turn) => {
-                let (seat, answer) = self.refuse_in(turn);
-                (Member { seat }, Some(answer))
-            }
-        }
-    }
-
     /// Asks as [`ask`](SharedSession::ask) does, but waits for nobody. `None` is as of
     /// [`try_step`](SharedSession::try_step).
     pub fn try_ask(&self, member: Member<T>, call: &Call) -> (Member<T>, Option<Answer>)
@@ -68,9 +49,12 @@ impl<T: Tape> SharedSession<T> {
             (events.Asked call.now) a result.0.front) }
         ensures turned_away { IfNone result.1 (IsTurnedAway member result.0) }
     {
-        match call.copy(self.alloc) {
-            Ok(asked) => self.try_step(member, &Event::Asked(asked)),
-            Err(_) => self.try_refuse(member),
+        match self.try_enter(member.into_seat()) {
+            Err(seat) => (Member { seat }, None),
+            Ok(turn) => {
+                let (seat, answer) = self.ask_in(turn, call);
+                (Member { seat }, Some(answer))
+            }
         }
     }
 

@@ -1,12 +1,12 @@
 //! Turns at the lock, with the session that is found there.
 
 ghost use Rattle.std.specs.Prelude.{◌≡◌, ◌<◌, ◌^◌, ◌⊎◌, ◌+◌, ◌-◌, IfErr, IfOk, None, Some, length};
+ghost use Rattle.rs_wire.specs.Calls.{CanBeAsked};
 ghost use Rattle.session_model.specs.Frames.{queued};
 ghost use Rattle.session_model.specs.Life.{carrying, closed, live};
 ghost use Rattle.session_model.specs.Legal.{CanBring, Fair, Legal};
 ghost use Rattle.session_core.specs.Queued.{IsUntouched};
 ghost use Rattle.session_core.specs.Seen.{IsNoDrawEvent};
-ghost use Rattle.tape.specs.declared.event.Event.{Event as Happening};
 ghost use Rattle.tape.specs.declared.event.Event.TheVariants as events;
 ghost use Rattle.conn_shared.specs.Members.{Follows, Gains, IsMember};
 ghost use Rattle.conn_shared.specs.Calls.{AreNext, IsStep};
@@ -16,6 +16,7 @@ use crate::looked::Looked;
 use crate::shared::SharedSession;
 use crate::stored::Stored;
 use conn_lock::{Seat, Turn};
+use rs_wire::Call;
 use std::sync::Wait;
 use tape::{Answer, Event, Tape};
 
@@ -99,6 +100,49 @@ impl<T: Tape> SharedSession<T> {
         (seat, answer)
     }
 
+    /// One step in a turn, which is then over, and takes the event.
+    pub(crate) fn bring_in(&self, turn: Turn<Stored<T>>, event: Event) -> (Seat<Stored<T>>, Answer)
+        requires of { turn.seat.lock ≡ self.now.lock }
+        requires settings { turn.value.settings ≡ self.now.settings }
+        requires was { turn.seat.front ≡
+            lines_with self.now.settings (entries_in turn.seat.front) }
+        requires front { entries_in turn.seat.front ≡ turn.value.entries }
+        requires fair { CanBring self.now.settings event }
+        requires no_draw { IsNoDrawEvent event }
+        ensures same { result.0 ≡ record turn.seat { front = result.0.front } }
+        ensures settings { settings_in result.0.front ≡ self.now.settings }
+        ensures member { IsMember result.0 }
+        ensures step { IsStep self.now.settings turn.seat.number turn.value.entries
+            event result.1 (entries_in result.0.front) }
+    {
+        let mut turn = turn;
+        let who = turn.number();
+        let answer = turn.value().bring(who, event);
+        let seat = self.leave(turn);
+        (seat, answer)
+    }
+
+    /// One call in a turn, which is then over.
+    pub(crate) fn ask_in(&self, turn: Turn<Stored<T>>, call: &Call) -> (Seat<Stored<T>>, Answer)
+        requires of { turn.seat.lock ≡ self.now.lock }
+        requires settings { turn.value.settings ≡ self.now.settings }
+        requires was { turn.seat.front ≡
+            lines_with self.now.settings (entries_in turn.seat.front) }
+        requires front { entries_in turn.seat.front ≡ turn.value.entries }
+        requires askable { CanBeAsked call.now }
+        ensures same { result.0 ≡ record turn.seat { front = result.0.front } }
+        ensures settings { settings_in result.0.front ≡ self.now.settings }
+        ensures member { IsMember result.0 }
+        ensures step { IsStep self.now.settings turn.seat.number turn.value.entries
+            (events.Asked call.now) result.1 (entries_in result.0.front) }
+    {
+        let mut turn = turn;
+        let who = turn.number();
+        let answer = turn.value().ask(who, call);
+        let seat = self.leave(turn);
+        (seat, answer)
+    }
+
     /// One draw in a turn, which is then over.
     pub(crate) fn draw_in(
         &self,
@@ -126,24 +170,6 @@ impl<T: Tape> SharedSession<T> {
         let answer = turn.value().draw(who, conn, buffer);
         let seat = self.leave(turn);
         (seat, answer)
-    }
-
-    /// A turn without a step, for an event that there was no memory to copy.
-    pub(crate) fn refuse_in(&self, turn: Turn<Stored<T>>) -> (Seat<Stored<T>>, Answer)
-        requires of { turn.seat.lock ≡ self.now.lock }
-        requires settings { turn.value.settings ≡ self.now.settings }
-        requires was { turn.seat.front ≡
-            lines_with self.now.settings (entries_in turn.seat.front) }
-        requires front { entries_in turn.seat.front ≡ turn.value.entries }
-        ensures same { result.0 ≡ record turn.seat { front = result.0.front } }
-        ensures settings { settings_in result.0.front ≡ self.now.settings }
-        ensures member { IsMember result.0 }
-        ensures step { (e : Happening) → IsStep self.now.settings turn.seat.number
-            turn.value.entries e result.1 (entries_in result.0.front) }
-    {
-        let mut turn = turn;
-        let answer = turn.value().refuse();
-        (self.leave(turn), answer)
     }
 
     /// A turn in which the session is looked at.

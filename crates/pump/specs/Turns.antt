@@ -82,6 +82,11 @@ abbrev pub Ticks : Option (List ℕ) → Event → Type 0
 Ticks moments (event.Tick now) = IsMoment moments now
 Ticks moments _ = ⊥
 
+-- bytes came that are no frame
+abbrev pub is_bad : Event → Bool
+is_bad (event.Bad conn rule) = true
+is_bad _ = false
+
 -- a tick with such a moment, or an event that names connection c
 abbrev pub IsPumped : Option (List ℕ) → ℕ → Event → Type 0
 IsPumped moments c e = Ticks moments e ⊎ Names c e

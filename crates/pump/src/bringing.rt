@@ -3,7 +3,7 @@
 ghost use Rattle.std.specs.Prelude.{◌≡◌, None};
 ghost use Rattle.session_model.specs.Legal.{CanBring};
 ghost use Rattle.session_core.specs.Seen.{IsNoDrawEvent};
-ghost use Rattle.pump.specs.Turns.{HasBrought, HasTicked, after_some, brought_by, is_ended, leaves_by};
+ghost use Rattle.pump.specs.Turns.{HasBrought, HasTicked, after_some, brought_by, is_bad, is_ended, leaves_by};
 
 use conn::{Caller, Connection};
 use outside::Clock;
@@ -74,21 +74,28 @@ pub(crate) fn after_some(noted: bool, last: Brought) -> Brought
     }
 }
 
-/// Brings an event.
+/// Whether bytes that are no frame came.
+pub(crate) fn is_bad(event: &Event) -> bool
+    ensures { result ≡ is_bad event.now }
+{
+    matches!(event, Event::Bad { .. })
+}
+
+/// Brings an event, which the session takes.
 pub(crate) fn bring_event<T: Tape, R: Wait>(
     rt: &R,
     connection: &Connection<T>,
     caller: &mut Caller<T>,
-    event: &Event,
+    event: Event,
 ) -> Brought
     requires of { caller.old.of ≡ connection.now }
-    requires fair { CanBring connection.now.settings event.now }
-    requires no_draw { IsNoDrawEvent event.now }
+    requires fair { CanBring connection.now.settings event }
+    requires no_draw { IsNoDrawEvent event }
     ensures same { caller.new ≡ record caller.old { front = caller.new.front; note = None } }
-    ensures brought { HasBrought connection.now.settings caller.old event.now result
+    ensures brought { HasBrought connection.now.settings caller.old event result
         caller.new.front }
 {
-    let answer = connection.event(rt, caller, event);
+    let answer = connection.bring(rt, caller, event);
     brought_by(&answer)
 }
 
@@ -105,5 +112,6 @@ pub(crate) fn tick<T: Tape, K: Clock, R: Wait>(
         result caller.new.front }
 {
     let now = clock.now();
-    bring_event(rt, connection, caller, &Event::Tick { now })
+    let answer = connection.event(rt, caller, &Event::Tick { now });
+    brought_by(&answer)
 }

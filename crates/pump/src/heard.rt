@@ -2,10 +2,12 @@
 
 ghost use Rattle.std.specs.Prelude.{◌≡◌, ◌≢◌, [], false, None};
 ghost use Rattle.outside.specs.Links.{Shown};
+ghost use Rattle.rs_chunk.specs.Stream.{IsWhole};
+ghost use Rattle.tape.specs.declared.event.Event.{Event as Happening};
 ghost use Rattle.link_model.specs.Reading.{IsInFront};
-ghost use Rattle.pump.specs.Turns.{Arrives, Begins, BroughtFor, DrawsWhere, GoesOn, HasArrived, HasWaiting, IfBusy, IfDone, IsEmptied, IsKept, IsPumped, Names, Steps, has, is_empty};
+ghost use Rattle.pump.specs.Turns.{Arrives, Begins, BroughtFor, DrawsWhere, GoesOn, HasArrived, HasWaiting, IfBusy, IfDone, IsEmptied, IsKept, IsPumped, Names, Steps, has, is_bad, is_empty};
 
-use crate::bringing::{Brought, after_some, bring_event, is_ended, leaves, tick};
+use crate::bringing::{Brought, after_some, bring_event, is_bad, is_ended, leaves, tick};
 use crate::inner::Inner;
 use conn::{Caller, Connection};
 use outside::Clock;
@@ -13,21 +15,23 @@ use std::sync::Wait;
 use tape::{Event, Tape};
 
 impl Inner {
-    // What stood in front has come by this event.
-    fn settle(&mut self, event: &Event)
+    // What stood in front has come: bytes that are no frame, or else a frame, which is passed.
+    fn settle(&mut self, bad: bool)
         requires fed { self.old.incoming.waits ≡ [] }
         requires good { self.old.bad ≡ false }
-        requires is { IsInFront self.old.conn self.old.incoming.bytes
-            self.old.incoming.max_in event.now }
-        ensures steps { Steps self.old self.new event.now }
+        requires whole { bad ≡ false →
+            IsWhole self.old.incoming.bytes self.old.incoming.max_in }
+        ensures steps { (e : Happening) → is_bad e ≡ bad →
+            IsInFront self.old.conn self.old.incoming.bytes self.old.incoming.max_in e →
+            Steps self.old self.new e }
         ensures conn { self.new.conn ≡ self.old.conn }
         ensures max_in { self.new.incoming.max_in ≡ self.old.incoming.max_in }
         ensures left { self.new.outgoing ≡ self.old.outgoing }
     {
-        match event {
-            Event::Came { conn: _, frame: _ } => self.incoming.pass(),
-            Event::Bad { conn: _, rule: _ } => self.bad = true,
-            _ => unreachable!(),
+        if bad {
+            self.bad = true;
+        } else {
+            self.incoming.pass();
         }
     }
 
@@ -37,14 +41,14 @@ impl Inner {
         rt: &R,
         connection: &Connection<T>,
         caller: &mut Caller<T>,
-        event: &Event,
+        event: Event,
     ) -> Brought
         requires of { caller.old.of ≡ connection.now }
         requires limit { self.old.incoming.max_in ≡ connection.now.settings.max_in }
         requires fed { self.old.incoming.waits ≡ [] }
         requires good { self.old.bad ≡ false }
         requires is { IsInFront self.old.conn self.old.incoming.bytes
-            self.old.incoming.max_in event.now }
+            self.old.incoming.max_in event }
         ensures same { caller.new ≡ record caller.old {
           front = caller.new.front;
           note = caller.new.note;
@@ -62,11 +66,12 @@ impl Inner {
         ensures max_in { self.new.incoming.max_in ≡ self.old.incoming.max_in }
         ensures left { self.new.outgoing ≡ self.old.outgoing }
     {
+        let bad = is_bad(&event);
         let brought = bring_event(rt, connection, caller, event);
         if !leaves(brought) {
             return brought;
         }
-        self.settle(event);
+        self.settle(bad);
         brought
     }
 
@@ -106,7 +111,7 @@ impl Inner {
         match self.incoming.next(self.alloc, self.conn) {
             Err(_) => Brought::OutOfMemory,
             Ok(None) => Brought::Nothing,
-            Ok(Some(event)) => self.bring(rt, connection, caller, &event),
+            Ok(Some(event)) => self.bring(rt, connection, caller, event),
         }
     }
 

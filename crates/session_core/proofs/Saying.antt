@@ -44,7 +44,7 @@ unfolding facts
 same_streams g s past h = sym (ap (λ (t : Facts). t.streams) h.facts_are)
 
 -- and so is what is gathered
-same_gathered : (g : Settings) (s : State) (past : List Entry) → Fits g s past → gathered_at s.parts ≡ unfinished g past
+pub same_gathered : (g : Settings) (s : State) (past : List Entry) → Fits g s past → gathered_at s.parts ≡ unfinished g past
 unfolding facts
 same_gathered g s past h = ap (λ (t : Facts). t.unfinished) h.facts_are
 

@@ -10,6 +10,7 @@ pub mod Came
 pub mod Asked
 pub mod Speaking
 pub mod Gathering
+pub mod Alone
 pub mod Sizes
 pub mod Kept
 pub mod Leasing

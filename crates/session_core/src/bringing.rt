@@ -1,14 +1,41 @@
 //! What comes to a session, which takes it.
 
-ghost use Rattle.std.specs.Prelude.{◌≡◌, ◌≢◌, ◌+◌, ◌<◌, ◌≤◌, ◌^◌, ◌↔◌, length};
+ghost use Rattle.std.specs.Prelude.{◌≡◌, ◌≢◌, ◌+◌, ◌<◌, ◌≤◌, ◌^◌, ◌↔◌, ◌∷◌, OnErr, OnOk, length};
+ghost use Rattle.tape.specs.Told.{entry_of};
 ghost use Rattle.session_model.specs.Answers.{answer_to};
-ghost use Rattle.session_model.specs.Legal.{CanBring};
+ghost use Rattle.session_model.specs.Legal.{CanBring, IsFair};
+ghost use Rattle.session_model.specs.Streams.{unfinished};
+ghost use Rattle.session_core.specs.Alone.{IsAlone};
 ghost use Rattle.session_core.specs.Seen.{IsCutEvent, IsNoDrawEvent, IsUnlessWant, entries_after};
 
-use crate::session::Session;
+use crate::hearing::comes_alone;
+use crate::session::{FULL, Session};
+use crate::speak::make_room;
+use rs_wire::OutOfMemory;
 use tape::{Answer, Event, Tape};
 
 impl<T: Tape> Session<T> {
+    // Applies a payload that is a whole message and is handled, where nothing was gathered on its
+    // stream.
+    fn hear(&mut self, who: u32, event: Event) -> Result<(), OutOfMemory>
+        requires fair { IsFair self.old.settings event }
+        requires alone { IsAlone (unfinished self.old.settings self.old.entries) event }
+        requires not_full { length self.old.entries < 2 ^ 63 }
+        requires is { Answer.Handled ≡ answer_to self.old.settings self.old.entries event }
+        ensures ok { OnOk result (self.new ≡ record self.old {
+          entries = entry_of who event Answer.Handled ∷ self.old.entries;
+          spare = self.new.spare;
+        }) }
+        ensures err { OnErr result (self.new ≡ record self.old { spare = self.new.spare }) }
+        ensures spare { self.old.spare ≤ self.new.spare + 1 }
+    {
+        make_room(&mut self.state.streams, &event, &Answer::Handled)?;
+        self.tape.note(who, &event, &Answer::Handled)?;
+        self.history.note(who, &event, &Answer::Handled);
+        self.state.hear(&self.settings, event);
+        Ok(())
+    }
+
     /// Answers an event as [`Session::step`] does, and takes it: what a whole payload carries goes to
     /// whoever takes it next, and isn't copied. An event that leaves no entry is gone, too.
     pub fn bring(&mut self, who: u32, event: Event) -> Answer
@@ -24,6 +51,15 @@ impl<T: Tape> Session<T> {
         ensures memory { IsCutEvent event → 0 < self.old.spare → result ≢ Answer.OutOfMemory }
         ensures spare { self.old.spare ≤ self.new.spare + 1 }
     {
-        self.step(who, &event)
+        if self.tape.count() >= FULL {
+            return Answer::TapeFull;
+        }
+        if !comes_alone(&self.settings, &self.state, &event) {
+            return self.step(who, &event);
+        }
+        match self.hear(who, event) {
+            Ok(()) => Answer::Handled,
+            Err(OutOfMemory) => Answer::OutOfMemory,
+        }
     }
 }

@@ -11,8 +11,8 @@ use rs_wire::Call;
 use tape::{Answer, Event, Tape};
 
 impl<T: Tape> Session<T> {
-    // The answer to a call that has a short way: a take on a stream where something waits. `None` of
-    // any other call: nothing has changed.
+    // The answer to a call that has a way of its own: a take on a stream where something waits, or what
+    // goes out in one frame. `None` of any other call: nothing has changed.
     pub(crate) fn ask_shortly(&mut self, who: u32, call: &Call) -> Option<Answer>
         requires askable { CanBeAsked call.now }
         requires not_full { length self.old.entries < 2 ^ 63 }
@@ -28,6 +28,7 @@ impl<T: Tape> Session<T> {
     {
         match call {
             Call::Take { stream } => self.take(who, *stream),
+            Call::Request { .. } | Call::Next { .. } => self.send(who, call),
             _ => None,
         }
     }

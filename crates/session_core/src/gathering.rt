@@ -73,10 +73,12 @@ fn join(
 }
 
 // Takes in what a frame adds to a message, and gives what it says then.
-fn take_frame(parts: &mut Reassembly, frame: &Frame, incoming: Incoming) -> Option<Arrival>
-    requires ready { incoming.arrival ≡ ready_in incoming.covered incoming.is_part frame.now }
-    requires place { FindsPlace parts.old incoming.is_part frame.now }
-    ensures arrival { result ≡ arrival_in incoming.covered (gathered_at parts.old) frame.now }
+fn take_frame(parts: &mut Reassembly, frame: &Frame, incoming: &mut Incoming) -> Option<Arrival>
+    requires ready { incoming.old.arrival ≡
+        ready_in incoming.old.covered incoming.old.is_part frame.now }
+    requires place { FindsPlace parts.old incoming.old.is_part frame.now }
+    ensures arrival { result ≡
+        arrival_in incoming.old.covered (gathered_at parts.old) frame.now }
     ensures gathered { (s : ℕ) → gathered_at parts.new s ≡
         gathers_of frame.now s (gathered_at parts.old s) }
     ensures others { (s : ℕ) → is_that (heard_on frame.now) s ≡ false →
@@ -85,7 +87,7 @@ fn take_frame(parts: &mut Reassembly, frame: &Frame, incoming: Incoming) -> Opti
     match frame {
         Frame::Request(request) => {
             begin(parts, request);
-            incoming.arrival
+            incoming.arrival.take()
         }
         Frame::Payload {
             stream,
@@ -94,7 +96,7 @@ fn take_frame(parts: &mut Reassembly, frame: &Frame, incoming: Incoming) -> Opti
             next,
             message,
         } if incoming.is_part => join(parts, *stream, *follows, message, *complete, *next),
-        _ => incoming.arrival,
+        _ => incoming.arrival.take(),
     }
 }
 
@@ -103,13 +105,13 @@ fn take_in(
     parts: &mut Reassembly,
     event: &Event,
     answer: &Answer,
-    incoming: Incoming,
+    incoming: &mut Incoming,
 ) -> Option<Arrival>
-    requires ready { incoming.arrival ≡
-        ready_for incoming.covered incoming.is_part answer.now event.now }
-    requires place { FindsPlaceFor parts.old incoming.is_part answer.now event.now }
+    requires ready { incoming.old.arrival ≡
+        ready_for incoming.old.covered incoming.old.is_part answer.now event.now }
+    requires place { FindsPlaceFor parts.old incoming.old.is_part answer.now event.now }
     ensures arrival { result ≡
-        arrival_for incoming.covered (gathered_at parts.old) answer.now event.now }
+        arrival_for incoming.old.covered (gathered_at parts.old) answer.now event.now }
     ensures gathered { (s : ℕ) → gathered_at parts.new s ≡
         gathers answer.now event.now s (gathered_at parts.old s) }
     ensures others { (s : ℕ) → is_that (touches answer.now event.now) s ≡ false →
@@ -117,7 +119,7 @@ fn take_in(
 {
     match (answer, event) {
         (Answer::Handled, Event::Came { frame, .. }) => take_frame(parts, frame, incoming),
-        _ => incoming.arrival,
+        _ => incoming.arrival.take(),
     }
 }
 
@@ -131,8 +133,8 @@ fn called_on(id: u32, call: &Call) -> Option<u32>
     }
 }
 
-// The stream on which an event and its answer say something, or on which something is taken.
-fn touches(answer: &Answer, event: &Event) -> Option<u32>
+/// The stream on which an event and its answer say something, or on which something is taken.
+pub fn touches(answer: &Answer, event: &Event) -> Option<u32>
     ensures { result ≡ touches answer.now event.now }
 {
     match (answer, event) {
@@ -181,16 +183,16 @@ pub fn speak(
     streams: &mut Streams,
     event: &Event,
     answer: &Answer,
-    incoming: Incoming,
+    incoming: &mut Incoming,
 )
-    requires ready { incoming.arrival ≡
-        ready_for incoming.covered incoming.is_part answer.now event.now }
-    requires place { FindsPlaceFor parts.old incoming.is_part answer.now event.now }
+    requires ready { incoming.old.arrival ≡
+        ready_for incoming.old.covered incoming.old.is_part answer.now event.now }
+    requires place { FindsPlaceFor parts.old incoming.old.is_part answer.now event.now }
     requires says { CanSay streams.old answer.now event.now
-        (arrival_for incoming.covered (gathered_at parts.old) answer.now event.now) }
+        (arrival_for incoming.old.covered (gathered_at parts.old) answer.now event.now) }
     requires heard { IsOfHeard (known_to streams.old) parts.old }
     ensures marks { streams.new.marks ≡
-        marks_in incoming.covered (gathered_at parts.old) answer.now event.now
+        marks_in incoming.old.covered (gathered_at parts.old) answer.now event.now
         ++ streams.old.marks }
     ensures limits { streams.new.limits ≡ streams.old.limits }
     ensures unfinished { (s : ℕ) → gathered_at parts.new s ≡ while_heard

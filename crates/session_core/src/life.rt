@@ -146,24 +146,24 @@ pub fn closes(begun: bool, resumes: bool, answer: &Answer, event: &Event) -> Opt
     }
 }
 
-/// The earlier of two causes.
-pub fn first_cause(earlier: Option<Cause>, later: Option<Cause>) -> Option<Cause>
-    ensures { result ≡ first_of earlier later }
+/// Closes for this cause, where there is one and nothing closed before.
+pub fn close(closed: &mut Option<Cause>, cause: Option<Cause>)
+    ensures { closed.new ≡ first_of closed.old cause }
 {
-    match earlier {
-        Some(cause) => Some(cause),
-        None => later,
+    if cause.is_none() || closed.is_some() {
+        return;
     }
+    *closed = cause;
 }
 
-/// The earlier of two SETUPs.
-pub fn first_setup(earlier: Option<Setup>, later: Option<Setup>) -> Option<Setup>
-    ensures { result ≡ first_of earlier later }
+/// Keeps the SETUP that is accepted, where there is one and none was accepted before.
+pub fn keep_setup(setup: &mut Option<Setup>, accepted: &mut Option<Setup>)
+    ensures { setup.new ≡ first_of setup.old accepted.old }
 {
-    match earlier {
-        Some(setup) => Some(setup),
-        None => later,
+    if accepted.is_none() || setup.is_some() {
+        return;
     }
+    *setup = accepted.take();
 }
 
 /// The SETUP that an event and its answer bring.

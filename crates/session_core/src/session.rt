@@ -9,13 +9,13 @@ ghost use Rattle.session_model.specs.Life.{carrying, closed, live, setup};
 ghost use Rattle.session_model.specs.Frames.{drawn, due, queued};
 ghost use Rattle.session_model.specs.Answers.{answer_to};
 ghost use Rattle.session_model.specs.Legal.{CanBring, Fair, IsFair, LeavesEntry, Legal};
-ghost use Rattle.session_core.specs.Queued.{IfDrawn, IsBrief, IsOfCut, IsOfDraw, IsUntouched};
+ghost use Rattle.session_core.specs.Queued.{IfDrawn, IsBrief, IsOfDraw, IsUntouched};
 ghost use Rattle.session_core.specs.Seen.{IsCutEvent, IsNoDrawEvent, IsUnlessWant, counts_of, entries_after, told_by};
 
 use crate::amounts::amounts_fit;
 use crate::counts::Counts;
 use crate::history::History;
-use crate::judge::{judge, judge_cut, judge_draw};
+use crate::judge::{judge, judge_draw};
 use crate::state::State;
 use rs_frame::Setup;
 use rs_wire::{Cause, Checked, OutOfMemory};
@@ -79,7 +79,7 @@ impl<T: Tape> Model for Session<T> {
 }
 
 // The answer to a draw or a cut that leaves an entry, again.
-fn answered_again(answer: &Answer) -> Answer
+pub(crate) fn answered_again(answer: &Answer) -> Answer
     requires { IsBrief answer.now }
     ensures { result ≡ answer.now }
 {
@@ -176,49 +176,6 @@ impl<T: Tape> Session<T> {
         }
     }
 
-    // The answer to a cut, applied.
-    fn cut(&mut self, who: u32, conn: u64) -> Answer
-        requires not_full { length self.old.entries < 2 ^ 63 }
-        ensures answer { IsUnlessWant result
-            (answer_to self.old.settings self.old.entries (Event.Cut conn)) }
-        ensures not_full { result ≢ Answer.TapeFull }
-        ensures after { self.new ≡ record self.old {
-          entries = entries_after who (Event.Cut conn) result self.old.entries;
-          spare = self.new.spare;
-        } }
-        ensures memory { 0 < self.old.spare → result ≢ Answer.OutOfMemory }
-        ensures spare { self.old.spare ≤ self.new.spare + 1 }
-    {
-        let answer = judge_cut(&self.state, conn);
-        if self.tape.reserve(1).is_err() {
-            return Answer::OutOfMemory;
-        }
-        self.part(who, conn, answer)
-    }
-
-    // Applies a cut and its answer.
-    fn part(&mut self, who: u32, conn: u64, answer: Answer) -> Answer
-        requires not_full { length self.old.entries < 2 ^ 63 }
-        requires spare { 0 < self.old.spare }
-        requires of_cut { IsOfCut answer }
-        requires is { answer ≡
-            answer_to self.old.settings self.old.entries (Event.Cut conn) }
-        ensures answer { result ≡ answer }
-        ensures after { self.new ≡ record self.old {
-          entries = entry_of who (Event.Cut conn) answer ∷ self.old.entries;
-          spare = self.new.spare;
-        } }
-        ensures used { self.old.spare ≤ self.new.spare + 1 }
-    {
-        let event = Event::Cut { conn };
-        let prepared = self.state.nothing_more(self.alloc, &self.settings);
-        self.state.act(&self.settings, &event, &answer, prepared);
-        let again = answered_again(&answer);
-        self.history.note(who, &event, &answer);
-        self.tape.push(Entry { who, event, answer });
-        again
-    }
-
     // Applies the event and its answer.
     fn note(&mut self, who: u32, event: &Event, answer: &Answer) -> Result<(), OutOfMemory>
         requires fair { IsFair self.old.settings event.now }
@@ -233,7 +190,7 @@ impl<T: Tape> Session<T> {
         ensures err { OnErr result (self.new ≡ record self.old { spare = self.new.spare }) }
         ensures spare { self.old.spare ≤ self.new.spare + 1 }
     {
-        let prepared = self
+        let mut prepared = self
             .state
             .prepare(self.alloc, &self.settings, event, answer)?;
         if let Err(error) = self.tape.note(who, event, answer) {
@@ -241,7 +198,7 @@ impl<T: Tape> Session<T> {
             return Err(error);
         }
         self.history.note(who, event, answer);
-        self.state.act(&self.settings, event, answer, prepared);
+        self.state.act(&self.settings, event, answer, &mut prepared);
         Ok(())
     }
 

@@ -72,8 +72,8 @@ pub fn make_room(streams: &mut Streams, event: &Event, answer: &Answer) -> Resul
     }
 }
 
-// What the peer says comes.
-fn hear(streams: &mut Streams, arrival: Option<Arrival>)
+/// What the peer says comes.
+pub fn hear(streams: &mut Streams, arrival: Option<Arrival>)
     requires { IfSome arrival (Comes streams.old) }
     ensures marks { streams.new.marks ≡
         option_to_list (option_map heard arrival) ++ streams.old.marks }

@@ -2,7 +2,7 @@
 //! more in the queue, for its length.
 
 use super::ends::{BEGUN, CLIENT, CLOSING, NOT_BEGUN, SETUP, WIDE_CLIENT};
-use super::play::play;
+use super::play::{play, play_once};
 use super::step::{Step, Strange};
 use rs_wire::{Cause, Rule};
 
@@ -108,8 +108,9 @@ fn a_call_is_refused_for_the_first_cause(rt: HostRuntime) {
 #[test]
 fn a_full_queue_refuses_and_makes_wait(rt: HostRuntime) {
     let alloc = rt.alloc();
+    // These lists are long, so each is played once.
     // 71 and 16,000,009 bytes wait; 16,778,239 may, and 67 of them are kept for an answer.
-    play(
+    play_once(
         &rt,
         alloc,
         WIDE_CLIENT,
@@ -125,10 +126,11 @@ fn a_full_queue_refuses_and_makes_wait(rt: HostRuntime) {
             .after(4, 16_000_080)
             .made(1, 16_000_006)
             .handled(1, 778_092),
+        true,
     );
     let third = Rule::BadFrame(3);
     let at_end = BEGUN.after(6, 16_778_172 + 22).made(2, 16_778_162);
-    play(
+    play_once(
         &rt,
         alloc,
         WIDE_CLIENT,
@@ -143,6 +145,7 @@ fn a_full_queue_refuses_and_makes_wait(rt: HostRuntime) {
         ],
         &[&SETUP[..67]],
         at_end.closed(Cause::Broken(third)),
+        false,
     );
 }
 

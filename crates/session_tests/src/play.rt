@@ -192,6 +192,15 @@ pub fn act(rt: &impl Abort, session: &mut Session<Kept>, event: &Event) -> Answe
     session.step(1, event)
 }
 
+// The same of an event that the session takes.
+fn bring(rt: &impl Abort, session: &mut Session<Kept>, event: Event) -> Answer {
+    assert!(rt;
+        is_act(session.settings().settings(), &event),
+        "the event can happen"
+    );
+    session.bring(1, event)
+}
+
 // The answer to a draw. The bytes drawn are appended to those sent.
 fn draw(
     rt: &impl Abort,
@@ -232,6 +241,20 @@ pub fn answer(
     }
 }
 
+// The same, where the session takes the event.
+fn answer_brought(
+    rt: &impl Abort,
+    alloc: Global,
+    session: &mut Session<Kept>,
+    step: Step,
+    sent: &mut Vec<u8>,
+) -> Answer {
+    match step {
+        Step::Draw(conn, room) => draw(rt, alloc, session, conn, room, sent),
+        _ => bring(rt, session, step.event(rt, alloc)),
+    }
+}
+
 /// How an answer is written.
 pub fn text(rt: &impl Abort, alloc: Global, answer: &Answer) -> String {
     format!(in alloc; "{answer:?}").expect(rt, "there is memory")
@@ -262,21 +285,26 @@ fn joined(rt: &impl Abort, alloc: Global, pieces: &[&[u8]]) -> Vec<u8> {
     bytes
 }
 
-/// Plays the steps one after another on a new session of these limits. Each has the answer whose
-/// text stands beside it; at the end the bytes drawn are the pieces, and the session shows what is
-/// given.
-pub fn play(
+/// Plays the steps one after another on a new session of these limits, which takes their events
+/// (`brought`) or not. Each has the answer whose text stands beside it; at the end the bytes drawn are
+/// the pieces, and the session shows what is given.
+pub fn play_once(
     rt: &impl Abort,
     alloc: Global,
     limits: Limits,
     steps: &[(Step, &str)],
     pieces: &[&[u8]],
     at_end: Shown,
+    brought: bool,
 ) {
     let mut session = session(rt, alloc, limits);
     let mut sent = Vec::new(alloc);
     for (number, (step, expected)) in steps.iter().enumerate() {
-        let given = answer(rt, alloc, &mut session, *step, &mut sent);
+        let given = if brought {
+            answer_brought(rt, alloc, &mut session, *step, &mut sent)
+        } else {
+            answer(rt, alloc, &mut session, *step, &mut sent)
+        };
         let given = text(rt, alloc, &given);
         assert_eq!(rt;
             given.as_str(),
@@ -287,4 +315,17 @@ pub fn play(
     assert!(rt; sent.as_slice() == joined(rt, alloc, pieces).as_slice());
     assert_eq!(rt; show(&session), at_end);
     assert_eq!(rt; session.into_tape().count(), at_end.entries);
+}
+
+/// Plays the steps twice: on a session that does not take their events, and on one that does.
+pub fn play(
+    rt: &impl Abort,
+    alloc: Global,
+    limits: Limits,
+    steps: &[(Step, &str)],
+    pieces: &[&[u8]],
+    at_end: Shown,
+) {
+    play_once(rt, alloc, limits, steps, pieces, at_end, false);
+    play_once(rt, alloc, limits, steps, pieces, at_end, true);
 }

@@ -68,8 +68,8 @@ fn arrive<R: Abort + Wait, T: Tape>(
     requires settings { connection.now.settings ≡ usual Server }
     ensures of { caller.new.of ≡ connection.now }
 {
-    let event = arrival(rt, alloc);
-    bring(rt, connection, caller, &event, &Answer::Handled);
+    let answer = connection.bring(rt, caller, arrival(rt, alloc));
+    compare(rt, &answer, &Answer::Handled);
 }
 
 // Whether the answer is the job of a fire-and-forget of `hi` on stream 1.

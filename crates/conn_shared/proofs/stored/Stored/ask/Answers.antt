@@ -1,0 +1,8 @@
+use Rattle.std.proofs.Common.{rules, sym, subst}
+use Rattle.tape.specs.declared.event.Event.TheVariants as event
+use Rattle.conn_shared.specs.Members.{Gains}
+use Rattle.conn_shared.proofs.Called.{gains_own}
+use Rattle.conn_shared.proofs.stored.Stored.ask.Goals as goal
+
+pub returns-clause-own : goal.returns-clause-own
+returns-clause-own g c = subst (Gains c.args.who c.args.self.now.entries) (sym (search rules)) (gains_own c.args.self.now.entries c.args.who (event.Asked c.args.call.now) c.ask-answer.result)
