@@ -1,5 +1,5 @@
 -- Calls that go out in one frame.
-use Rattle.std.proofs.Common.{◌≡◌, ◌+◌, ◌++◌, ◌<◌, ◌^◌, ◌==◌, ◌||◌, ℕ, Bool, true, false, cond, add-zero, List, [], ◌∷◌, length, take, Option, Some, None, refl, ap, sym, subst, ◌∙◌}
+use Rattle.std.proofs.Common.{◌≡◌, ◌+◌, ◌++◌, ◌<◌, ◌^◌, ◌==◌, ◌||◌, ℕ, Bool, true, false, cond, add-zero, List, [], ◌∷◌, length, take, Option, Some, refl, ap, sym, subst, ◌∙◌}
 use Rattle.std.specs.Prelude.{nat_le}
 use Rattle.rs_wire.specs.Settings.{IsChecked}
 use Rattle.rs_wire.specs.Calls.{CanBeAsked}
@@ -18,7 +18,7 @@ use Rattle.tape.specs.declared.event.Event.TheVariants as event
 use Rattle.tape.specs.declared.answer.Answer.TheVariants as answer
 use Rattle.stream_model.specs.Known.{is_open_response}
 use Rattle.interactions.specs.Seen.{Seen, acted, known_to}
-use Rattle.reassembly.specs.Gathering.{ReassemblyView, gathered_at}
+use Rattle.reassembly.specs.Gathering.{ReassemblyView}
 use Rattle.session_model.specs.Answers.{answer_to, refused_or}
 use Rattle.session_model.specs.Frames.{if_agreed, if_carrying, in_fragments, makes}
 use Rattle.session_model.specs.Life.{agrees_resumption}

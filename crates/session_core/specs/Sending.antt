@@ -1,12 +1,10 @@
 -- Calls that go out in one frame.
-use Rattle.std.specs.Prelude.{◌≡◌, ◌+◌, ◌==◌, ℕ, Bool, true, false, length, None}
+use Rattle.std.specs.Prelude.{◌≡◌, ◌+◌, ◌==◌, ℕ, true, false, length, None}
 use Rattle.rs_wire.specs.declared.settings.Settings.{Settings}
 use Rattle.rs_wire.specs.declared.call.Call.{Call}
-use Rattle.rs_wire.specs.declared.call.Call.TheVariants as call
 use Rattle.position.specs.Boundaries.{pos}
 use Rattle.tape.specs.declared.event.Event.TheVariants as event
 use Rattle.tape.specs.declared.answer.Answer.{Answer}
-use Rattle.tape.specs.declared.answer.Answer.TheVariants as answer
 use Rattle.stream_model.specs.Known.{Known, hears_on}
 use Rattle.interactions.specs.Seen.{acted, known_to}
 use Rattle.reassembly.specs.Gathering.{ReassemblyView, gathered_at, has_part_at}
@@ -17,12 +15,6 @@ use Rattle.session_core.specs.Fits.{facts_of}
 use Rattle.session_core.specs.Leasing.{covers_next}
 use Rattle.session_core.specs.Queued.{is_connected}
 use Rattle.session_core.specs.declared.state.State.{State}
-
--- a call that makes a frame, and its answer, on that stream
-abbrev pub SpeaksOn : ℕ → Answer → Call → Type 0
-SpeaksOn s (answer.Started id) (call.Request kind initial message complete) = id ≡ s
-SpeaksOn s answer.Done (call.Next n message complete) = n ≡ s
-SpeaksOn s _ _ = ⊥
 
 -- frames go out at once, and none is kept; no lease counts requests
 pub record GoesPlainly (g : Settings) (s : State) : Type 0 where
