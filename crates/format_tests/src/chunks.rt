@@ -1,8 +1,8 @@
 //! Frames out of a stream that comes in pieces.
 
-use rs_chunk::{Front, Reader, frame_bytes, item_bytes, request_bytes};
-use rs_frame::Frame;
-use rs_wire::{Blob, Kind, Message};
+use rs_chunk::{Front, Reader, frame_bytes, item_bytes, request_bytes, split_frame};
+use rs_frame::{Frame, FrameFault, Request, decode, spellable};
+use rs_wire::OutOfMemory;
 use std::alloc::Global;
 use std::test::Fail;
 
@@ -38,43 +38,59 @@ fn a_frame_stands_after_its_length(rt: HostRuntime) {
     assert!(rt; out.as_slice() == [9, 0, 0, 6, 0, 0, 0, 1, 0x24, 0].as_slice());
 }
 
-// The message with this metadata, if any, and this content.
-fn message(alloc: Global, metadata: Option<&[u8]>, content: &[u8]) -> Result<Message, Fail> {
-    let metadata = match metadata {
-        Some(metadata) => Some(Blob::from_slice(alloc, metadata)?),
-        None => None,
+/// Items and requests whose messages are whole, after their lengths.
+const WHOLE: [&[u8]; 4] = [
+    b"\0\0\x07\0\0\0\x01\x28\x20\x61",
+    b"\0\0\x0b\0\0\0\x02\x29\x60\0\0\x01\x6d\x63",
+    b"\0\0\x07\0\0\0\x03\x14\0\x68",
+    b"\0\0\x0b\0\0\0\x01\x1c\x40\0\0\0\x05\x63",
+];
+
+// The frame, written from the parts of an item or a request.
+fn of_parts(alloc: Global, frame: &Frame) -> Result<Vec<u8>, OutOfMemory> {
+    let mut out = Vec::new(alloc);
+    if !spellable(frame) {
+        return Ok(out);
+    }
+    match frame {
+        Frame::Payload {
+            stream,
+            follows: false,
+            complete,
+            next: true,
+            message,
+        } => item_bytes(*stream, *complete, message, &mut out)?,
+        Frame::Request(
+            Request {
+                stream,
+                kind,
+                follows: false,
+                complete,
+                initial,
+                message,
+            },
+        ) => request_bytes(*stream, *kind, initial, *complete, message, &mut out)?,
+        _ => {}
+    }
+    Ok(out)
+}
+
+// Whether the frame after its length is written so again from its parts.
+fn comes_back_of_parts(alloc: Global, bytes: &[u8]) -> Result<bool, FrameFault> {
+    let Some((frame, _)) = split_frame(bytes) else {
+        return Ok(false);
     };
-    Ok(Message {
-        metadata,
-        content: Blob::from_slice(alloc, content)?,
-    })
+    let out = of_parts(alloc, &decode(alloc, frame)?)?;
+    Ok(out.as_slice() == bytes)
 }
 
-// The bytes of the item `hi` on stream 1: C stands beside N where it is the last one.
 #[test]
-fn an_item_is_written_from_its_message(rt: HostRuntime) -> Result<(), Fail> {
-    let alloc = rt.alloc();
-    let hi = message(alloc, None, b"hi")?;
-    let mut out = Vec::new(alloc);
-    item_bytes(1, false, &hi, &mut out)?;
-    item_bytes(1, true, &hi, &mut out)?;
-    let both = [
-        0, 0, 8, 0, 0, 0, 1, 0x28, 0x20, 0x68, 0x69, 0, 0, 8, 0, 0, 0, 1, 0x28, 0x60, 0x68, 0x69,
-    ];
-    assert!(rt; out.as_slice() == both.as_slice());
-    Ok(())
-}
-
-// The bytes of a REQUEST_RESPONSE on stream 1 with metadata `echo` and content `hi`.
-#[test]
-fn a_request_is_written_from_its_message(rt: HostRuntime) -> Result<(), Fail> {
-    let alloc = rt.alloc();
-    let asked = message(alloc, Some(b"echo"), b"hi")?;
-    let mut out = Vec::new(alloc);
-    request_bytes(1, Kind::Response, &None, false, &asked, &mut out)?;
-    let bytes = [
-        0, 0, 15, 0, 0, 0, 1, 0x11, 0, 0, 0, 4, 0x65, 0x63, 0x68, 0x6f, 0x68, 0x69,
-    ];
-    assert!(rt; out.as_slice() == bytes.as_slice());
-    Ok(())
+fn items_and_requests_are_written_from_their_parts(rt: HostRuntime) {
+    for bytes in WHOLE {
+        assert_eq!(rt;
+            comes_back_of_parts(rt.alloc(), bytes),
+            Ok(true),
+            "{bytes:?}"
+        );
+    }
 }
