@@ -22,6 +22,7 @@ use stream_model::Stream;
 impl Parts {
     // An act of this end: the stream goes on so, and what waits is dropped where the act ends the
     // way that this end receives.
+    #[inline(always)]
     fn own(&mut self, stream: u32, before: Stream, after: Stream, ends: bool)
         requires live { kept_at self.old.table.kept stream ≡ Some before }
         requires credit { is_done after ≡ false → FitsCredit after }
@@ -37,6 +38,7 @@ impl Parts {
     }
 
     // Sends a message.
+    #[inline(always)]
     fn send(&mut self, stream: u32, complete: bool, next: bool)
         requires credit { next ≡ true → credit_refused ((known_of self.old).kept stream) ≡ None }
         ensures limits { self.new.table.limits ≡ self.old.table.limits }

@@ -110,6 +110,7 @@ impl Streams {
 
     /// How many items were granted on a stream, where the next one of the peer's finds no credit
     /// left.
+    #[inline(always)]
     pub fn over_credit(&self, stream: u32, next: bool) -> Option<u128>
         ensures { result ≡ over_credit_on ((known_to self.now).kept stream) next }
     {
@@ -118,6 +119,7 @@ impl Streams {
 
     /// Whether a message of the peer's on a stream is taken in: it is the rest of a request's own,
     /// or goes on a way that is not over.
+    #[inline(always)]
     pub fn hears(&self, stream: u32) -> bool
         ensures { result ≡ hears_on ((known_to self.now).kept stream) }
     {
@@ -125,6 +127,7 @@ impl Streams {
     }
 
     /// Whether a stream is a response that is open.
+    #[inline(always)]
     pub fn is_open_response(&self, stream: u32) -> bool
         ensures { result ≡ is_open_response ((known_to self.now).kept stream) }
     {
@@ -132,6 +135,7 @@ impl Streams {
     }
 
     /// What [`Streams::take`] would give.
+    #[inline(always)]
     pub fn next_take(&self, stream: u32) -> Option<&Delivery>
         ensures { option_copied result ≡ front_of ((known_to self.now).waits stream) }
     {

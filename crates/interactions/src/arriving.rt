@@ -81,6 +81,7 @@ fn placed(
 impl Parts {
     // An act of the peer's: the stream goes on so, and an item and an end are delivered where the
     // way that this end receives is not over.
+    #[inline(always)]
     fn peer(
         &mut self,
         stream: u32,

@@ -33,10 +33,11 @@ impl Parts {
     }
 
     /// Whether there was no stream of that id yet.
+    #[inline(always)]
     pub fn is_above(&self, stream: u32) -> bool
         ensures { result ≡ is_above (known_of self.now) stream }
     {
-        self.table.state(stream) == State::Above
+        self.table.is_above(stream)
     }
 
     /// The highest id that an end used, 0 for none.
@@ -74,6 +75,7 @@ impl Parts {
     }
 
     /// How much was granted on a stream, where an item of the peer's finds no credit left.
+    #[inline(always)]
     pub fn over_credit(&self, stream: u32, next: bool) -> Option<u128>
         ensures { result ≡ over_credit_on ((known_of self.now).kept stream) next }
     {
@@ -81,6 +83,7 @@ impl Parts {
     }
 
     /// Whether a message of the peer's on a stream is taken in.
+    #[inline(always)]
     pub fn hears(&self, stream: u32) -> bool
         ensures { result ≡ hears_on ((known_of self.now).kept stream) }
     {
@@ -91,6 +94,7 @@ impl Parts {
     }
 
     /// Whether a stream is a response that is open.
+    #[inline(always)]
     pub fn is_open_response(&self, stream: u32) -> bool
         ensures { result ≡ is_open_response ((known_of self.now).kept stream) }
     {
@@ -101,6 +105,7 @@ impl Parts {
     }
 
     /// What waits first on a stream.
+    #[inline(always)]
     pub fn next_take(&self, stream: u32) -> Option<&Delivery>
         ensures { option_copied result ≡ front_of ((known_of self.now).waits stream) }
     {

@@ -119,6 +119,7 @@ fn credit_refused(kept: Option<Stream>) -> Option<Refusal>
 
 impl Parts {
     // Refused unless the stream is open, and then for what is asked of it.
+    #[inline(always)]
     fn on_stream(&self, stream: u32, asked: Asked) -> Option<Refusal>
         ensures { result ≡ on_stream (known_of self.now) stream (asked_refused asked) }
     {

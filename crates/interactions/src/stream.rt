@@ -100,6 +100,7 @@ fn is_whole_after(kept: Stream, by: Role) -> bool
 }
 
 /// A stream after a whole message of that end.
+#[inline(always)]
 pub fn after_message(kept: Stream, by: Role, complete: bool, next: bool) -> Stream
     requires credit { HasCredit kept by next }
     requires fits { FitsCredit kept }

@@ -64,6 +64,7 @@ impl Waits {
     }
 
     /// What waits first on a stream.
+    #[inline(always)]
     pub fn front(&self, stream: u32) -> Option<&Delivery>
         ensures { option_copied result ≡ front_of (waits_at self.now stream) }
     {
@@ -89,6 +90,7 @@ impl Waits {
     }
 
     /// One delivery more waits on a stream, as the last.
+    #[inline(always)]
     pub fn push(&mut self, stream: u32, delivery: Delivery)
         requires { 0 < room_at self.old stream }
         ensures waits { (s : ℕ) → waits_at self.new s
@@ -106,6 +108,7 @@ impl Waits {
     }
 
     /// One delivery more waits on a stream, or none.
+    #[inline(always)]
     pub fn push_some(&mut self, stream: u32, delivery: Option<Delivery>)
         requires { 0 < room_at self.old stream }
         ensures waits { (s : ℕ) → waits_at self.new s

@@ -5,7 +5,7 @@ ghost use Rattle.indexmap.specs.IndexMap.{get, spare};
 ghost use Rattle.stream_model.specs.Streams.{one_if};
 ghost use Rattle.stream_model.specs.Kept.{is_done, unless_done, FitsCredit};
 ghost use Rattle.stream_model.specs.Known.{is_own_parity};
-ghost use Rattle.stream_table.specs.Tables.{HasRoom, IsNew, MeansFault, SameIds, SetsAt, bare, highest_by, kept_at, kept_finished, no_streams, own_next, role_of, state_in, with_id};
+ghost use Rattle.stream_table.specs.Tables.{HasRoom, IsNew, MeansFault, SameIds, SetsAt, bare, highest_by, is_above_in, kept_at, kept_finished, no_streams, own_next, role_of, state_in, with_id};
 
 use crate::TableFault;
 use crate::ids::Ids;
@@ -136,6 +136,7 @@ impl Table {
     }
 
     /// What is kept of the stream of an id, where it is open.
+    #[inline(always)]
     pub fn get(&self, id: u32) -> Option<Stream>
         ensures kept { result ≡ kept_at self.now.kept id }
         ensures not_over { IfSome result (λ f. is_done f ≡ false) }
@@ -153,11 +154,19 @@ impl Table {
         self.ids.of(opener)
     }
 
+    /// Whether an id is above all of its parity that were used, or is 0, which is no stream's.
+    #[inline(always)]
+    pub fn is_above(&self, id: u32) -> bool
+        ensures { result ≡ is_above_in self.now id }
+    {
+        id == 0 || id > self.ids.like(id)
+    }
+
     /// What is known of an id: it is above all that were used, or its stream is open or over.
     pub fn state(&self, id: u32) -> State
         ensures { result ≡ state_in self.now id }
     {
-        if id == 0 || id > self.ids.like(id) {
+        if self.is_above(id) {
             return State::Above;
         }
         match self.get(id) {
@@ -186,6 +195,7 @@ impl Table {
     }
 
     /// Makes room for one stream more: with room, [`Table::start`] takes no memory.
+    #[inline(always)]
     pub fn reserve(&mut self) -> Result<(), OutOfMemory>
         ensures room { OnOk result (0 < self.new.place) }
         ensures enough { 0 < self.old.place → IsOk result }
@@ -247,6 +257,7 @@ impl Table {
     }
 
     /// The open stream of an id stands so from now on. One that is over is let go.
+    #[inline(always)]
     pub fn set(&mut self, id: u32, stream: Stream)
         requires kept { IsSome (kept_at self.old.kept id) }
         requires credit { is_done stream ≡ false → FitsCredit stream }
