@@ -6,7 +6,7 @@ use crate::answer::Answer;
 use crate::entry::Entry;
 use crate::event::Event;
 use crate::tapes::Tape;
-use rs_wire::{Call, Delivery, OutOfMemory};
+use rs_wire::{Call, Delivery, Job, OutOfMemory};
 
 /// A tape that counts its entries and keeps none: it shows nothing, and always has spare.
 #[derive(Drop)]
@@ -59,6 +59,11 @@ impl Tape for Blank {
         _stream: u32,
         _delivery: &Delivery,
     ) -> Result<(), OutOfMemory> {
+        self.count += 1;
+        Ok(())
+    }
+
+    fn note_job(&mut self, _who: u32, _job: &Job) -> Result<(), OutOfMemory> {
         self.count += 1;
         Ok(())
     }
