@@ -1,5 +1,5 @@
 -- The timer that a session keeps goes on to fit its entries.
-use Rattle.std.proofs.Common.{◌≡◌, ℕ, Bool, true, false, cond, max, List, ◌∷◌, Option, Some, None, refl, ap, sym, ◌∙◌, arith}
+use Rattle.std.proofs.Common.{◌≡◌, ℕ, Bool, true, false, cond, max, List, ◌∷◌, Option, None, refl, ap, sym, ◌∙◌, arith}
 use Rattle.rs_wire.specs.Settings.{is_client}
 use Rattle.rs_wire.specs.declared.settings.Settings.{Settings}
 use Rattle.rs_frame.specs.declared.frame.Setup.{Setup}

@@ -9,7 +9,7 @@ use Rattle.tape.specs.declared.event.Event.TheVariants as event
 use Rattle.tape.specs.declared.answer.Answer.{Answer}
 use Rattle.tape.specs.declared.answer.Answer.TheVariants as answer
 use Rattle.position.specs.Boundaries.{is_boundary_by, pos, pos_by}
-use Rattle.replay_buffer.specs.Held.{Buffer, Held, IsHeldOf, Spare, framed_from}
+use Rattle.replay_buffer.specs.Held.{Held, IsHeldOf, Spare, framed_from}
 use Rattle.session_model.specs.Life.{agrees_resumption}
 use Rattle.session_model.specs.Frames.{if_agreed, makes}
 use Rattle.interactions.specs.Seen.{known_to}

@@ -1,5 +1,5 @@
 -- The frames of a call that is accepted.
-use Rattle.std.specs.Prelude.{◌≡◌, ℕ, Bool, true, false, List, [], Option, None, if◌then◌else◌, ◌∷◌, Some, IfSome, option_to_list}
+use Rattle.std.specs.Prelude.{◌≡◌, ℕ, Bool, true, false, List, [], Option, None, if◌then◌else◌, ◌∷◌, Some, option_to_list}
 use Rattle.rs_wire.specs.Words.{gone_word, rule_word}
 use Rattle.rs_wire.specs.declared.call.Call.{Call}
 use Rattle.rs_wire.specs.declared.call.Call.TheVariants as call

@@ -13,3 +13,4 @@ entries_of past.Nothing = []
 entries_of (past.More' _ before who happened answered) = entry_of who.value happened.value answered.value ∷ entries_of before
 entries_of (past.Called' _ before who asked answered) = entry_of who.value (event.Asked asked.value) answered.value ∷ entries_of before
 entries_of (past.Taken' _ before who stream delivery) = entry_of who.value (event.Asked (call.Take stream.value)) (answer.Got delivery.value) ∷ entries_of before
+entries_of (past.TakenJob' _ before who job) = entry_of who.value (event.Asked call.TakeJob) (answer.GotJob job.value) ∷ entries_of before

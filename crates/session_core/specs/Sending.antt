@@ -1,15 +1,19 @@
 -- Calls that go out in one frame.
-use Rattle.std.specs.Prelude.{◌≡◌, ◌+◌, ◌==◌, ℕ, true, false, length, None}
+use Rattle.std.specs.Prelude.{◌≡◌, ◌||◌, ◌+◌, ◌==◌, ℕ, Bool, true, false, length, Option, Some, None}
 use Rattle.rs_wire.specs.declared.settings.Settings.{Settings}
 use Rattle.rs_wire.specs.declared.call.Call.{Call}
+use Rattle.rs_wire.specs.declared.call.Call.TheVariants as call
+use Rattle.rs_frame.specs.declared.frame.Frame.{Frame}
+use Rattle.rs_frame.specs.declared.frame.Frame.TheVariants as frame
 use Rattle.position.specs.Boundaries.{pos}
 use Rattle.tape.specs.declared.event.Event.TheVariants as event
 use Rattle.tape.specs.declared.answer.Answer.{Answer}
-use Rattle.stream_model.specs.Known.{Known, hears_on}
-use Rattle.interactions.specs.Seen.{acted, known_to}
+use Rattle.tape.specs.declared.answer.Answer.TheVariants as answer
+use Rattle.stream_model.specs.Known.{Known, hears_on, is_open_response, next_id}
+use Rattle.interactions.specs.Seen.{Seen, acted, known_to}
 use Rattle.reassembly.specs.Gathering.{ReassemblyView, gathered_at, has_part_at}
 use Rattle.session_model.specs.Answers.{refused_call}
-use Rattle.session_model.specs.Frames.{makes}
+use Rattle.session_model.specs.Frames.{makes, request_frame}
 use Rattle.session_model.specs.Life.{agrees_leases, agrees_resumption}
 use Rattle.session_core.specs.Fits.{facts_of}
 use Rattle.session_core.specs.Leasing.{covers_next}
@@ -27,6 +31,33 @@ pub record GoesPlainly (g : Settings) (s : State) : Type 0 where
 pub record MaySend (g : Settings) (s : State) (asked : Call) : Type 0 where
   pub plainly : GoesPlainly g s
   pub accepted : refused_call g (facts_of s) asked ≡ None
+
+-- the id of the next request of this end
+abbrev pub own_next : Seen → ℕ
+own_next v = next_id v.limits.side (known_to v)
+
+-- a request or a payload, on that stream: a request on the next one of this end
+abbrev pub IsMessageOn : (next : ℕ) → Call → ℕ → Type 0
+IsMessageOn next (call.Request kind initial message complete) on = on ≡ next
+IsMessageOn next (call.Next s message complete) on = on ≡ s
+IsMessageOn next _ on = ⊥
+
+-- the answer to a request or a payload on that stream: a request starts it
+abbrev pub answer_on : Call → ℕ → Answer
+answer_on (call.Request kind initial message complete) on = answer.Started on
+answer_on _ on = answer.Done
+
+-- the frame of a request or a payload says that this end sends nothing more on its stream; that of a response always does
+abbrev pub is_last : Known → Call → Bool
+is_last t (call.Request kind initial message complete) = complete
+is_last t (call.Next s message complete) = complete || is_open_response (t.kept s)
+is_last t _ = false
+
+-- the frame of a request or a payload on that stream, which says so or not
+abbrev pub frame_on : ℕ → Bool → Call → Option Frame
+frame_on on last (call.Request kind initial message complete) = Some (request_frame on kind initial message last)
+frame_on on last (call.Next s message complete) = Some (frame.Payload on false last true message)
+frame_on on last _ = None
 
 -- a call that is so answered makes one frame, of that length
 pub record Sends (g : Settings) (s : State) (a : Answer) (asked : Call) (n : ℕ) : Type 0 where

@@ -2,9 +2,8 @@
 
 ghost use Rattle.std.specs.Prelude.{◌≡◌, ◌≢◌, ◌+◌, ◌<◌, ◌≤◌, ◌^◌, ◌↔◌, ◌∷◌, OnErr, OnOk, length};
 ghost use Rattle.tape.specs.Told.{entry_of};
-ghost use Rattle.session_model.specs.Answers.{answer_to};
+ghost use Rattle.session_model.specs.Answers.{answer_to, facts};
 ghost use Rattle.session_model.specs.Legal.{CanBring, IsFair};
-ghost use Rattle.session_model.specs.Streams.{unfinished};
 ghost use Rattle.session_core.specs.Alone.{IsAlone};
 ghost use Rattle.session_core.specs.Seen.{IsCutEvent, IsNoDrawEvent, IsUnlessWant, entries_after};
 
@@ -15,11 +14,11 @@ use rs_wire::OutOfMemory;
 use tape::{Answer, Event, Tape};
 
 impl<T: Tape> Session<T> {
-    // Applies a payload that is a whole message and is handled, where nothing was gathered on its
-    // stream.
+    // Applies a message that came whole and is handled, where nothing was gathered on its stream.
     fn hear(&mut self, who: u32, event: Event) -> Result<(), OutOfMemory>
         requires fair { IsFair self.old.settings event }
-        requires alone { IsAlone (unfinished self.old.settings self.old.entries) event }
+        requires alone { IsAlone self.old.settings
+            (facts self.old.settings self.old.entries) event }
         requires not_full { length self.old.entries < 2 ^ 63 }
         requires is { Answer.Handled ≡ answer_to self.old.settings self.old.entries event }
         ensures ok { OnOk result (self.new ≡ record self.old {
@@ -36,8 +35,9 @@ impl<T: Tape> Session<T> {
         Ok(())
     }
 
-    /// Answers an event as [`Session::step`] does, and takes it: what a whole payload carries goes to
-    /// whoever takes it next, and isn't copied. An event that leaves no entry is gone, too.
+    /// Answers an event as [`Session::step`] does, and takes it: a message that comes whole, a payload's
+    /// or that of a request that needs no lease, goes to whoever takes it next, and isn't copied. An
+    /// event that leaves no entry is gone, too.
     pub fn bring(&mut self, who: u32, event: Event) -> Answer
         requires fair { CanBring self.old.settings event }
         requires no_draw { IsNoDrawEvent event }

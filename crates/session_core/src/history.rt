@@ -6,7 +6,7 @@ ghost use Rattle.tape.specs.Told.{entry_of};
 ghost use Rattle.tape.specs.declared.answer.Answer.TheVariants as answers;
 ghost use Rattle.tape.specs.declared.event.Event.TheVariants as events;
 
-use rs_wire::{Call, Delivery};
+use rs_wire::{Call, Delivery, Job};
 use std::marker::Model;
 use std::mem::replace;
 use std::snapshot::Snapshot;
@@ -50,6 +50,15 @@ pub enum Past {
         stream: Snapshot<u32>,
         /// What was delivered.
         delivery: Snapshot<Delivery>,
+    },
+    /// There is one more, of a take that got a job.
+    TakenJob {
+        /// The entries before it.
+        before: Snapshot<Past>,
+        /// Its caller.
+        who: Snapshot<u32>,
+        /// The job.
+        job: Snapshot<Job>,
     },
 }
 
@@ -118,6 +127,20 @@ impl History {
             who: Snapshot::of(&who),
             stream: Snapshot::of(&stream),
             delivery: Snapshot::of(delivery),
+        };
+        self.past = Snapshot::of(&more);
+    }
+
+    /// The same of a take that got this job.
+    pub fn note_job(&mut self, who: u32, job: &Job)
+        ensures { self.new ≡
+            entry_of who (events.Asked calls.TakeJob) (answers.GotJob job.now) ∷ self.old }
+    {
+        let before = replace(&mut self.past, Snapshot::of(&Past::Nothing));
+        let more = Past::TakenJob {
+            before,
+            who: Snapshot::of(&who),
+            job: Snapshot::of(job),
         };
         self.past = Snapshot::of(&more);
     }

@@ -6,7 +6,7 @@
 //! on the connection (RSocket 1.0, "Setup", "Request", "Framing Protocol Usage"). It holds over every
 //! tape, also over one that shows nothing. An event costs what it carries.
 //!
-//! Two ends in one process, from the program `examples_hello`; its function `end` makes a session
+//! Two ends in one process, from `hello.rt` of the program `examples`; its function `end` makes a session
 //! with the defaults of its side:
 //!
 //! ```

@@ -1,32 +1,32 @@
 //! Calls that go out in one frame, which is written from the call's own parts.
 
-ghost use Rattle.std.specs.Prelude.{◌≡◌, ◌||◌, ◌≢◌, ◌≤◌, ◌+◌, ◌<◌, ◌^◌, ◌∷◌, [], ℕ, None, Some, IfOk, IfSome, OnErr, false, true, length};
+ghost use Rattle.std.specs.Prelude.{◌≡◌, ◌≢◌, ◌≤◌, ◌+◌, ◌++◌, ◌<◌, ◌^◌, ◌∷◌, [], ℕ, None, Some, IfOk, IfSome, OnErr, OnOk, false, true, length, option_to_list};
 ghost use Rattle.rs_wire.specs.Calls.{CanBeAsked};
 ghost use Rattle.rs_wire.specs.Settings.{IsChecked};
-ghost use Rattle.rs_wire.specs.declared.call.Call.TheVariants as calls;
 ghost use Rattle.rs_frame.specs.declared.frame.Frame.{Frame};
-ghost use Rattle.rs_frame.specs.Spelling.{length_of};
-ghost use Rattle.tape.specs.declared.answer.Answer.TheVariants as answers;
+ghost use Rattle.rs_frame.specs.Framed.{framed_all};
+ghost use Rattle.rs_frame.specs.Spelling.{IsSpellable, length_of};
 ghost use Rattle.tape.specs.declared.event.Event.TheVariants as events;
-ghost use Rattle.stream_model.specs.Known.{is_open_response};
 ghost use Rattle.interactions.specs.Seen.{acted, known_to};
 ghost use Rattle.session_model.specs.Answers.{answer_to};
 ghost use Rattle.session_model.specs.Frames.{in_fragments};
+ghost use Rattle.session_model.specs.Legal.{IsFair};
 ghost use Rattle.session_core.specs.Fits.{AreLimits, HasRoom};
 ghost use Rattle.session_core.specs.Prepared.{with_line};
 ghost use Rattle.session_core.specs.Seen.{IsUnlessWant, entries_after};
-ghost use Rattle.session_core.specs.Sending.{GoesPlainly, LetsGo, MaySend, Sends, spoken_after};
+ghost use Rattle.session_core.specs.Sending.{GoesPlainly, IsMessageOn, LetsGo, MaySend, Sends, answer_on, frame_on, is_last, own_next, spoken_after};
 ghost use Rattle.session_core.specs.Speaking.{Acts, with_room};
 
+use crate::amounts::call_amounts_fit;
 use crate::asked::refused_call;
 use crate::gathering::let_stream_go;
 use crate::life::{agrees_leases, agrees_resumption};
+use crate::queue::Queue;
 use crate::session::Session;
 use crate::sizes::mtu;
 use crate::state::State;
 use interactions::Streams;
-use reassembly::Reassembly;
-use rs_wire::{Call, Checked, Message, OutOfMemory};
+use rs_wire::{Call, Checked, OutOfMemory};
 use tape::{Answer, Tape};
 
 // Frames go out at once, and none is kept; no lease counts requests.
@@ -48,13 +48,6 @@ fn fits(length: u32, mtu: u32) -> bool
     mtu == 0 || length <= mtu
 }
 
-// Drops what is gathered on a stream where the peer's messages are not taken in.
-fn let_go(parts: &mut Reassembly, streams: &Streams, on: u32)
-    ensures { LetsGo (known_to streams.now) on parts.old parts.new }
-{
-    let_stream_go(parts, streams, on);
-}
-
 // The call is not refused, and can go out by this way.
 fn may_send(settings: &Checked, state: &State, call: &Call) -> bool
     requires room { HasRoom state.now }
@@ -64,33 +57,99 @@ fn may_send(settings: &Checked, state: &State, call: &Call) -> bool
     goes_plainly(settings, state) && refused_call(settings, state, call).is_none()
 }
 
-// The payload of a response always ends it.
-fn completes(streams: &Streams, stream: u32, complete: bool) -> bool
-    ensures { result ≡ (complete || is_open_response ((known_to streams.now).kept stream)) }
+// The stream of a request or a payload: of a request the next of this end. `None` of any other call, and
+// where the ids are spent.
+#[tactic(auto, using(crate::proofs::SentOnce::next_own))]
+fn stream_of(streams: &Streams, call: &Call) -> Option<u32>
+    ensures { IfSome result (λ on. IsMessageOn (own_next streams.now) call.now on) }
 {
-    complete || streams.is_open_response(stream)
+    match call {
+        Call::Request { .. } => streams.next_id(),
+        Call::Next { stream, .. } => Some(*stream),
+        _ => None,
+    }
+}
+
+// The frame of a request or a payload says that this end sends nothing more on its stream. That of a
+// response always does.
+fn is_last(streams: &Streams, call: &Call) -> bool
+    ensures { result ≡ is_last (known_to streams.now) call.now }
+{
+    match call {
+        Call::Request { complete, .. } => *complete,
+        Call::Next {
+            stream,
+            complete,
+            ..
+        } => *complete || streams.is_open_response(*stream),
+        _ => false,
+    }
+}
+
+// How many bytes the frame of a request or a payload has; 0 of any other call, which has none.
+fn frame_length(on: u32, last: bool, call: &Call) -> u32
+    requires { IfSome (frame_on on last call.now) IsSpellable }
+    ensures { IfSome (frame_on on last call.now) (λ f. result ≡ length_of f) }
+{
+    match call {
+        Call::Request {
+            kind,
+            initial,
+            message,
+            ..
+        } => rs_frame::request_length(on, *kind, initial, last, message),
+        Call::Next { message, .. } => rs_frame::item_length(on, last, message),
+        _ => 0,
+    }
+}
+
+// Puts the frame of a request or a payload in line; nothing of any other call.
+fn append_frame(queue: &mut Queue, on: u32, last: bool, call: &Call) -> Result<(), OutOfMemory>
+    requires { IfSome (frame_on on last call.now) IsSpellable }
+    ensures ok { OnOk result (queue.new ≡ queue.old ++
+        framed_all (option_to_list (frame_on on last call.now))) }
+    ensures err { OnErr result (queue.new ≡ queue.old) }
+{
+    match call {
+        Call::Request {
+            kind,
+            initial,
+            message,
+            ..
+        } => queue.append_request(on, *kind, initial, last, message),
+        Call::Next { message, .. } => queue.append_item(on, last, message),
+        _ => Ok(()),
+    }
+}
+
+// The answer to a request or a payload on that stream: a request starts it.
+fn answer_on(call: &Call, on: u32) -> Answer
+    ensures { result ≡ answer_on call.now on }
+{
+    match call {
+        Call::Request { .. } => Answer::Started(on),
+        _ => Answer::Done,
+    }
 }
 
 impl State {
-    // Puts the item of a call in line where it goes out in one frame, and gives the length of that.
-    fn line_item(
+    // Puts the frame of a call in line where it goes out alone on this stream, and gives its length.
+    fn line_call(
         &mut self,
         settings: &Checked,
         call: &Call,
-        stream: u32,
-        message: &Message,
-        complete: bool,
+        on: u32,
     ) -> Result<Option<u32>, OutOfMemory>
-        requires item { call.now ≡ calls.Next stream message.now complete }
+        requires message { IsMessageOn (own_next self.old.streams) call.now on }
         requires checked { IsChecked settings.now }
-        requires askable { CanBeAsked call.now }
+        requires fair { IsFair settings.now (events.Asked call.now) }
         requires room { HasRoom self.old }
         requires limits { AreLimits settings.now self.old }
         ensures sends { IfOk result (λ o. IfSome o (λ n.
-            Sends settings.now self.old answers.Done call.now n)) }
+            Sends settings.now self.old (answer_on call.now on) call.now n)) }
         ensures lined { IfOk result (λ o. IfSome o (λ _. self.new ≡ with_room
-            (with_line settings.now self.old (events.Asked call.now) answers.Done)
-            (Some stream) self.old.parts self.old.replay.spare)) }
+            (with_line settings.now self.old (events.Asked call.now) (answer_on call.now on))
+            (Some on) self.old.parts self.old.replay.spare)) }
         ensures none { IfOk result (λ o. o ≡ None → self.new ≡ self.old) }
         ensures err { OnErr result (self.new ≡ with_room
             self.old self.new.streams.ready self.old.parts self.old.replay.spare) }
@@ -100,13 +159,13 @@ impl State {
         if !may_send(settings, self, call) {
             return Ok(None);
         }
-        let last = completes(&self.streams, stream, complete);
-        let length = rs_frame::item_length(stream, last, message);
+        let last = is_last(&self.streams, call);
+        let length = frame_length(on, last, call);
         if !fits(length, mtu(settings)) {
             return Ok(None);
         }
-        self.streams.reserve(stream)?;
-        self.queue.append_item(stream, last, message)?;
+        self.streams.reserve(on)?;
+        append_frame(&mut self.queue, on, last, call)?;
         Ok(Some(length))
     }
 
@@ -122,53 +181,13 @@ impl State {
         self.made.frames += 1;
         self.made.position += u64::from(length);
         let _stream = self.streams.act(call);
-        let_go(&mut self.parts, &self.streams, on);
+        let_stream_go(&mut self.parts, &self.streams, on);
     }
 }
 
 impl<T: Tape> Session<T> {
-    // Sends an item in one frame. `None` where it doesn't go out so: nothing has changed.
-    fn send_item(
-        &mut self,
-        who: u32,
-        call: &Call,
-        stream: u32,
-        message: &Message,
-        complete: bool,
-    ) -> Option<Answer>
-        requires item { call.now ≡ calls.Next stream message.now complete }
-        requires askable { CanBeAsked call.now }
-        requires not_full { length self.old.entries < 2 ^ 63 }
-        ensures answer { IfSome result (λ a. IsUnlessWant a
-            (answer_to self.old.settings self.old.entries (events.Asked call.now))) }
-        ensures not_full { result ≢ Some Answer.TapeFull }
-        ensures after { IfSome result (λ a. self.new ≡ record self.old {
-          entries = entries_after who (events.Asked call.now) a self.old.entries;
-          spare = self.new.spare;
-        }) }
-        ensures none { result ≡ None → self.new ≡ self.old }
-        ensures spare { self.old.spare ≤ self.new.spare + 1 }
-    {
-        let before = self.state.queue.len();
-        let length = match self
-            .state
-            .line_item(&self.settings, call, stream, message, complete)
-        {
-            Ok(Some(length)) => length,
-            Ok(None) => return None,
-            Err(OutOfMemory) => return Some(Answer::OutOfMemory),
-        };
-        if let Err(OutOfMemory) = self.tape.note_call(who, call, &Answer::Done) {
-            self.state.queue.truncate(before);
-            return Some(Answer::OutOfMemory);
-        }
-        self.history.note_call(who, call, &Answer::Done);
-        self.state.speak_once(call, stream, length);
-        Some(Answer::Done)
-    }
-
-    /// Sends a payload that goes out in one frame, where neither resumption nor leases are agreed.
-    /// `None` where the call isn't such a one, or is refused: nothing has changed.
+    /// Sends a request or a payload that goes out in one frame, where neither resumption nor leases are
+    /// agreed. `None` where the call isn't such a one, or is refused: nothing has changed.
     pub(crate) fn send(&mut self, who: u32, call: &Call) -> Option<Answer>
         requires askable { CanBeAsked call.now }
         requires not_full { length self.old.entries < 2 ^ 63 }
@@ -182,13 +201,21 @@ impl<T: Tape> Session<T> {
         ensures none { result ≡ None → self.new ≡ self.old }
         ensures spare { self.old.spare ≤ self.new.spare + 1 }
     {
-        match call {
-            Call::Next {
-                stream,
-                message,
-                complete,
-            } => self.send_item(who, call, *stream, message, *complete),
-            _ => None,
+        let on = stream_of(&self.state.streams, call)?;
+        call_amounts_fit(call);
+        let before = self.state.queue.len();
+        let length = match self.state.line_call(&self.settings, call, on) {
+            Ok(Some(length)) => length,
+            Ok(None) => return None,
+            Err(OutOfMemory) => return Some(Answer::OutOfMemory),
+        };
+        let answer = answer_on(call, on);
+        if let Err(OutOfMemory) = self.tape.note_call(who, call, &answer) {
+            self.state.queue.truncate(before);
+            return Some(Answer::OutOfMemory);
         }
+        self.history.note_call(who, call, &answer);
+        self.state.speak_once(call, on, length);
+        Some(answer)
     }
 }

@@ -1,4 +1,4 @@
-use Rattle.session_core.proofs.AfterSend.{alone_below}
+use Rattle.session_core.proofs.SentOnce.{alone_below}
 use Rattle.session_core.proofs.sending.fits.Goals as goal
 
 pub returns-else-mtu-eq0 : goal.returns-else-mtu-eq0

@@ -1,8 +1,7 @@
 use Rattle.std.proofs.Common.{◌<◌, ◌^◌, length, refl, subst, arith}
-use Rattle.session_model.specs.Streams.{unfinished}
+use Rattle.session_model.specs.Answers.{Facts, facts}
 use Rattle.session_core.specs.Alone.{IsAlone}
 use Rattle.session_core.specs.Seen.{Seen}
-use Rattle.session_core.proofs.Saying.{same_gathered}
 use Rattle.session_core.proofs.Soundness.{room_of}
 use Rattle.session_core.proofs.session.Session.bring.Goals as goal
 
@@ -14,6 +13,7 @@ comes_alone-requires-clause-room g c =
 pub hear-requires-clause-alone : goal.hear-requires-clause-alone
 hear-requires-clause-alone g c =
     let e = c.args.event in
-    let alone : IsAlone (unfinished c.self.inside.settings c.self.inside.history) e =
-    subst (λ held. IsAlone held e) (same_gathered c.self.inside.settings c.self.inside.state c.self.inside.history c.self.invariant.fits) (c.if-not-comes_alone.ensures.alone refl) in
-    subst (λ (v : Seen). IsAlone (unfinished v.settings v.entries) e) c.self.view_is alone
+    let settings = c.self.inside.settings in
+    let alone : IsAlone settings (facts settings c.self.inside.history) e =
+    subst (λ (t : Facts). IsAlone settings t e) c.self.invariant.fits.facts_are (c.if-not-comes_alone.ensures.alone refl) in
+    subst (λ (v : Seen). IsAlone v.settings (facts v.settings v.entries) e) c.self.view_is alone

@@ -2,16 +2,16 @@ use Rattle.std.proofs.Common.{rules, ◌≡◌, ◌<◌, ◌^◌, length, subst,
 use Rattle.reassembly.specs.Gathering.{gathered_at}
 use Rattle.interactions.specs.Seen.{Seen as Streams}
 use Rattle.tape.specs.declared.answer.Answer.TheVariants as answer
-use Rattle.session_model.specs.Answers.{answer_to}
+use Rattle.session_model.specs.Answers.{Facts, answer_to, facts}
 use Rattle.session_model.specs.Legal.{IsFair}
-use Rattle.session_model.specs.Streams.{unfinished}
 use Rattle.session_core.specs.After.{IsAfter}
 use Rattle.session_core.specs.Alone.{IsAlone}
+use Rattle.session_core.specs.Fits.{facts_of}
 use Rattle.session_core.specs.Leasing.{covers_next}
 use Rattle.session_core.specs.Seen.{Seen}
 use Rattle.session_core.specs.Speaking.{CanSay, arrival_for}
 use Rattle.session_core.proofs.Alone.{after_room}
-use Rattle.session_core.proofs.Saying.{can_say, same_gathered}
+use Rattle.session_core.proofs.Saying.{can_say}
 use Rattle.session_core.proofs.Soundness.{means_of, room_of, sound_more}
 use Rattle.session_core.proofs.session.Session.hear.Goals as goal
 
@@ -30,9 +30,12 @@ hear-requires-clause-room g c =
 
 pub hear-requires-clause-alone : goal.hear-requires-clause-alone
 hear-requires-clause-alone g c =
+    let settings = c.self.inside.settings in
+    let s = c.self.inside.state in
     let e = c.args.event in
-    let alone : IsAlone (unfinished c.self.inside.settings c.self.inside.history) e = subst (λ (v : Seen). IsAlone (unfinished v.settings v.entries) e) (sym c.self.view_is) c.requires.alone in
-    subst (λ held. IsAlone held e) (sym (same_gathered c.self.inside.settings c.self.inside.state c.self.inside.history c.self.invariant.fits)) alone
+    let alone : IsAlone settings (facts settings c.self.inside.history) e = subst (λ (v : Seen). IsAlone v.settings (facts v.settings v.entries) e) (sym c.self.view_is) c.requires.alone in
+    let here : IsAlone settings (facts_of s) e = subst (λ (t : Facts). IsAlone settings t e) (sym c.self.invariant.fits.facts_are) alone in
+    subst (λ (v : Streams). IsAlone settings (facts_of (record s { streams = v })) e) (sym c.in_ok-make_room.ensures.same) here
 
 pub hear-requires-clause-says : goal.hear-requires-clause-says
 hear-requires-clause-says g c =

@@ -1,4 +1,4 @@
-use Rattle.std.proofs.Common.{◌≡◌, ◌==◌, true, false, ℕ, refl, sym, subst, arith}
+use Rattle.std.proofs.Common.{◌≡◌, false, ℕ, refl, sym, subst, arith}
 use Rattle.std.proofs.lemmas.Bool.Decides.{nat_tests}
 use Rattle.interactions.specs.Seen.{known_to}
 use Rattle.reassembly.specs.Gathering.{has_part_at}

@@ -1,0 +1,48 @@
+use Rattle.std.proofs.Common.{rules, ◌≡◌, ◌∙◌, ◌++◌, Option, IfSome, option_to_list, ap, sym, subst}
+use Rattle.rs_frame.specs.Framed.{framed_all}
+use Rattle.rs_frame.specs.Spelling.{IsSpellable, length_of}
+use Rattle.rs_frame.specs.declared.frame.Frame.{Frame}
+use Rattle.interactions.specs.Seen.{known_to}
+use Rattle.session_core.specs.Sending.{own_next}
+use Rattle.session_core.proofs.SentOnce.{frame_spoken, sent_in_line, sent_made, sent_sends, sent_spellable}
+use Rattle.session_core.proofs.state.State.line_call.Goals as goal
+
+pub frame_length-length-requires : goal.frame_length-length-requires
+frame_length-length-requires c =
+    let s = c.args.self.now in
+    let spoke = frame_spoken (known_to s.streams) (own_next s.streams) c.args.call.now c.args.on c.is_last-last.result c.requires.message c.is_last-last.ensures in
+    subst (λ (o : Option Frame). IfSome o IsSpellable) (sym spoke)
+    (sent_spellable c.args.settings.now s c.args.call.now c.args.on c.requires.checked c.fair.ensures.even c.fair.ensures.odd c.requires.fair c.requires.limits c.requires.message (c.may_send.ensures (search rules)))
+
+pub append_frame-requires : goal.append_frame-requires
+append_frame-requires c =
+    let s = c.args.self.now in
+    let spoke = frame_spoken (known_to s.streams) (own_next s.streams) c.args.call.now c.args.on c.is_last-last.result c.requires.message c.is_last-last.ensures in
+    subst (λ (o : Option Frame). IfSome o IsSpellable) (sym spoke)
+    (sent_spellable c.args.settings.now s c.args.call.now c.args.on c.requires.checked c.fair.ensures.even c.fair.ensures.odd c.requires.fair c.requires.limits c.requires.message (c.may_send.ensures (search rules)))
+
+pub returns-clause-sends : goal.returns-clause-sends
+returns-clause-sends c =
+    let g = c.args.settings.now in
+    let s = c.args.self.now in
+    let asked = c.args.call.now in
+    let on = c.args.on in
+    let n = c.frame_length-length.result in
+    let spoke = frame_spoken (known_to s.streams) (own_next s.streams) asked on c.is_last-last.result c.requires.message c.is_last-last.ensures in
+    let long = subst (λ (o : Option Frame). IfSome o (λ f. n ≡ length_of f)) spoke c.frame_length-length.ensures in
+    let made = sent_made g s asked on c.mtu.result n long c.mtu.ensures.value (λ f is. c.fits.ensures f is (search rules)) in
+    sent_sends g s asked on n c.requires.message (c.may_send.ensures (search rules)) long made
+
+pub returns-clause-lined : goal.returns-clause-lined
+returns-clause-lined c =
+    let g = c.args.settings.now in
+    let s = c.args.self.now in
+    let asked = c.args.call.now in
+    let on = c.args.on in
+    let n = c.frame_length-length.result in
+    let may = c.may_send.ensures (search rules) in
+    let spoke = frame_spoken (known_to s.streams) (own_next s.streams) asked on c.is_last-last.result c.requires.message c.is_last-last.ensures in
+    let long = subst (λ (o : Option Frame). IfSome o (λ f. n ≡ length_of f)) spoke c.frame_length-length.ensures in
+    let made = sent_made g s asked on c.mtu.result n long c.mtu.ensures.value (λ f is. c.fits.ensures f is (search rules)) in
+    let queue = c.in_ok-append_frame.ensures.ok ∙ ap (λ (o : Option Frame). s.queue ++ framed_all (option_to_list o)) spoke in
+    sent_in_line g s asked on c.append_frame.new.queue c.reserve.new.self c.requires.message may.plainly made queue c.in_ok-reserve.ensures.after
