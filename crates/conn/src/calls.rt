@@ -52,7 +52,8 @@ impl<T: Tape> Connection<T> {
         answer
     }
 
-    /// Asks something of the session. It waits for a turn.
+    /// Asks something of the session. It waits for a turn, and for a second one where the call has to
+    /// be copied, which is done between the two.
     pub fn call<R: Wait>(&self, rt: &R, caller: &mut Caller<T>, call: &Call) -> Answer
         requires of { caller.old.of ≡ self.now }
         requires askable { CanBeAsked call.now }

@@ -1,6 +1,7 @@
 -- What a call adds to the front of its caller.
 use Rattle.std.proofs.lemmas.Bool.Decides.{nat_tests}
-use Rattle.std.proofs.Common.{◌≡◌, ◌+◌, ℕ, Bool, true, false, if◌then◌else◌, List, [], ◌∷◌, ◌++◌, refl, sym, ap, subst, ◌∙◌, arith, append_assoc}
+use Rattle.std.proofs.Common.{◌≡◌, ℕ, Bool, true, false, if◌then◌else◌, List, [], ◌∷◌, ◌++◌, Option, Some, None, refl, sym, ap, subst, ◌∙◌, arith, append_assoc}
+use Rattle.std.specs.Prelude.{IfSome}
 use Rattle.rs_wire.specs.declared.settings.Settings.{Settings}
 use Rattle.tape.specs.Answers.{leaves}
 use Rattle.tape.specs.Told.{entry_of}
@@ -8,7 +9,7 @@ use Rattle.tape.specs.declared.entry.Entry.{Entry}
 use Rattle.tape.specs.declared.event.Event.{Event}
 use Rattle.tape.specs.declared.answer.Answer.{Answer}
 use Rattle.tape.specs.declared.answer.Answer.TheVariants as answer
-use Rattle.session_core.specs.Seen.{entries_after}
+use Rattle.session_core.specs.Seen.{Seen, entries_after}
 use Rattle.conn_lock.specs.Callers.{once}
 use Rattle.conn_lock.proofs.Totals.{calls_append}
 use Rattle.conn_shared.specs.Members.{Follows, Gains, Knowledge}
@@ -25,6 +26,11 @@ gains_own past n e a = one (leaves a)
     one : (b : Bool) → Gains n past (if b then entry_of n e a ∷ past else past)
     one true = (entry_of n e a ∷ [], refl, (let o = once_same n in omega arith))
     one false = ([], refl, refl)
+
+-- and so does an answer of a session, which adds nothing where there is none
+pub gains_answered : (old new : Seen) (n : ℕ) (e : Event) (o : Option Answer) → IfSome o (λ a. new ≡ record old { entries = entries_after n e a old.entries; spare = new.spare }) → (o ≡ None → new ≡ old) → Gains n old.entries new.entries
+gains_answered old new n e None some none = subst (λ (s : Seen). Gains n old.entries s.entries) (sym (none refl)) ([], refl, refl)
+gains_answered old new n e (Some a) some none = subst (Gains n old.entries) (sym (ap (λ (s : Seen). s.entries) some)) (gains_own old.entries n e a)
 
 pub follows_on : (names : List ℕ) (a b c : List Entry) → Follows names a b → Follows names b c → Follows names a c
 follows_on names a b c p q = (

@@ -108,4 +108,4 @@ module _ (T : RattleType) (g : Ghosts T.Denot) (s : IsSend T) where
 
   pub shared_sync : IsSync (shared.the_row T g)
   shared_sync = view_sync (shared_inside.the_row T g) _ _ _ _ (recorded_sync (shared_inside.the_field T g).row _ _ (shared_inside.the_type T g).to_one
-      (struct_sync (shape (shared_inside.the_type T g)) (lock.the_sync (stored.the_row T g) line.the_row (stands.ghosts T g stands.no_dict) stored_send, (search (crosses, sendable) depth 20, tt))))
+      (struct_sync (shape (shared_inside.the_type T g)) (lock.the_sync (stored.the_row T g) line.the_row (stands.ghosts T g stands.no_dict) stored_send, (global.the_field_sync, (search (crosses, sendable) depth 20, tt)))))

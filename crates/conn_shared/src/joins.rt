@@ -141,10 +141,21 @@ impl<T: Tape> SharedSession<T> {
         ensures refused { IfErr result (λ r. member.parts < all_parts) }
         ensures kept { IfErr result (λ r. (r.0 ≡ self) × (r.1 ≡ member)) }
     {
-        let SharedSession { lock, settings } = self;
+        let SharedSession {
+            lock,
+            alloc,
+            settings,
+        } = self;
         match shut(lock, member.into_seat()) {
             Ok(session) => Ok(session),
-            Err((lock, seat)) => Err((SharedSession { lock, settings }, Member { seat })),
+            Err((lock, seat)) => {
+                let shared = SharedSession {
+                    lock,
+                    alloc,
+                    settings,
+                };
+                Err((shared, Member { seat }))
+            }
         }
     }
 }

@@ -17,6 +17,8 @@ use tape::Tape;
 #[derive(Drop)]
 pub struct SharedSession<T: Tape> {
     pub(crate) lock: Lock<Stored<T>>,
+    /// Where a call is copied that can't be answered from its own parts.
+    pub(crate) alloc: Global,
     /// What the session is set to, for contracts alone.
     pub(crate) settings: Snapshot<Checked>,
 }
@@ -49,7 +51,14 @@ impl<T: Tape> SharedSession<T> {
         };
         match Lock::new(alloc, stored) {
             Err((stored, why)) => Err((stored.into_session(), why)),
-            Ok((lock, seat)) => Ok((SharedSession { lock, settings }, Member { seat })),
+            Ok((lock, seat)) => {
+                let shared = SharedSession {
+                    lock,
+                    alloc,
+                    settings,
+                };
+                Ok((shared, Member { seat }))
+            }
         }
     }
 }

@@ -1,6 +1,6 @@
 //! Steps that wait for a turn.
 
-ghost use Rattle.std.specs.Prelude.{◌≡◌, ◌<◌, ◌^◌, None, length};
+ghost use Rattle.std.specs.Prelude.{◌≡◌, ◌<◌, ◌^◌, IfSome, None, length};
 ghost use Rattle.rs_wire.specs.Calls.{CanBeAsked};
 ghost use Rattle.session_model.specs.Frames.{queued};
 ghost use Rattle.session_model.specs.Legal.{CanBring};
@@ -14,7 +14,7 @@ ghost use Rattle.conn_shared.specs.Calls.{IsCalled, IsDrawCall};
 use crate::looked::Looked;
 use crate::member::Member;
 use crate::shared::SharedSession;
-use rs_wire::Call;
+use rs_wire::{Call, OutOfMemory};
 use std::sync::Wait;
 use tape::{Answer, Event, Tape};
 
@@ -48,7 +48,46 @@ impl<T: Tape> SharedSession<T> {
         (Member { seat }, answer)
     }
 
-    /// Asks something of the session. It waits for a turn.
+    // Asks in one turn, where nothing of the call has to be copied. `None` where something has to: the
+    // member has seen a session whose tape is not full.
+    fn ask_at_once<R: Wait>(
+        &self,
+        rt: &R,
+        member: Member<T>,
+        call: &Call,
+    ) -> (Member<T>, Option<Answer>)
+        requires of { member.of ≡ self.now }
+        requires askable { CanBeAsked call.now }
+        ensures same { result.0 ≡ record member { front = result.0.front; note = None } }
+        ensures called { IfSome result.1 (λ a. IsCalled self.now.settings member
+            (events.Asked call.now) a result.0.front) }
+        ensures follows { result.1 ≡ None →
+            Follows member.names member.front result.0.front }
+        ensures not_full { result.1 ≡ None → length result.0.front < 2 ^ 63 }
+    {
+        let turn = self.enter(rt, member.into_seat());
+        let (seat, answer) = self.ask_in(turn, call);
+        (Member { seat }, answer)
+    }
+
+    // Brings a copy of a call, which is made before the turn and dropped after it.
+    fn ask_by_copy<R: Wait>(&self, rt: &R, member: Member<T>, call: &Call) -> (Member<T>, Answer)
+        requires of { member.of ≡ self.now }
+        requires askable { CanBeAsked call.now }
+        requires not_full { length member.front < 2 ^ 63 }
+        requires note { member.note ≡ None }
+        ensures same { result.0 ≡ record member { front = result.0.front; note = None } }
+        ensures called { IsCalled self.now.settings member
+            (events.Asked call.now) result.1 result.0.front }
+    {
+        match call.copy(self.alloc) {
+            Ok(copy) => self.step(rt, member, &Event::Asked(copy)),
+            Err(OutOfMemory) => (member, Answer::OutOfMemory),
+        }
+    }
+
+    /// Asks something of the session. It waits for a turn, and for a second one where the call has to
+    /// be copied: the first turn finds that out, and the copy is made between the two.
     pub fn ask<R: Wait>(&self, rt: &R, member: Member<T>, call: &Call) -> (Member<T>, Answer)
         requires of { member.of ≡ self.now }
         requires askable { CanBeAsked call.now }
@@ -56,9 +95,10 @@ impl<T: Tape> SharedSession<T> {
         ensures called { IsCalled self.now.settings member
             (events.Asked call.now) result.1 result.0.front }
     {
-        let turn = self.enter(rt, member.into_seat());
-        let (seat, answer) = self.ask_in(turn, call);
-        (Member { seat }, answer)
+        match self.ask_at_once(rt, member, call) {
+            (member, Some(answer)) => (member, answer),
+            (member, None) => self.ask_by_copy(rt, member, call),
+        }
     }
 
     /// Draws bytes that are due on a connection into the buffer, which has 1 to 4,294,967,295 bytes.

@@ -1,6 +1,6 @@
 //! The session under the lock.
 
-ghost use Rattle.std.specs.Prelude.{◌≡◌, ◌<◌, ◌^◌, IfErr, IfOk, length};
+ghost use Rattle.std.specs.Prelude.{◌≡◌, ◌<◌, ◌^◌, IfErr, IfOk, IfSome, None, length};
 ghost use Rattle.rs_wire.specs.Calls.{CanBeAsked};
 ghost use Rattle.session_model.specs.Frames.{queued};
 ghost use Rattle.session_model.specs.Life.{carrying, closed, live};
@@ -94,11 +94,13 @@ impl<T: Tape> Stored<T> {
         answer
     }
 
-    /// One call of the session.
-    pub(crate) fn ask(&mut self, who: u32, call: &Call) -> Answer
+    /// One call of the session, where nothing of it has to be copied.
+    pub(crate) fn ask(&mut self, who: u32, call: &Call) -> Option<Answer>
         requires askable { CanBeAsked call.now }
-        ensures step { IsStep self.old.settings who self.old.entries
-            (events.Asked call.now) result self.new.entries }
+        ensures step { IfSome result (λ a. IsStep self.old.settings who self.old.entries
+            (events.Asked call.now) a self.new.entries) }
+        ensures not_full { result ≡ None → length self.old.entries < 2 ^ 63 }
+        ensures none { result ≡ None → self.new.entries ≡ self.old.entries }
         ensures own { Gains who self.old.entries self.new.entries }
         ensures settings { self.new.settings ≡ self.old.settings }
         ensures legal { Legal self.new.settings self.new.entries }

@@ -11,7 +11,7 @@ ghost use Rattle.conn_shared.specs.Calls.{IsCalled, IsDrawCall};
 
 use crate::member::Member;
 use crate::shared::SharedSession;
-use rs_wire::Call;
+use rs_wire::{Call, OutOfMemory};
 use tape::{Answer, Event, Tape};
 
 impl<T: Tape> SharedSession<T> {
@@ -38,9 +38,9 @@ impl<T: Tape> SharedSession<T> {
         }
     }
 
-    /// Asks as [`ask`](SharedSession::ask) does, but waits for nobody. `None` is as of
-    /// [`try_step`](SharedSession::try_step).
-    pub fn try_ask(&self, member: Member<T>, call: &Call) -> (Member<T>, Option<Answer>)
+    // Asks in one turn, if there is one at once, where nothing of the call has to be copied: there is
+    // no memory for a copy.
+    fn try_uncopied(&self, member: Member<T>, call: &Call) -> (Member<T>, Option<Answer>)
         requires of { member.of ≡ self.now }
         requires askable { CanBeAsked call.now }
         ensures same { IfSome result.1 (λ a.
@@ -53,8 +53,25 @@ impl<T: Tape> SharedSession<T> {
             Err(seat) => (Member { seat }, None),
             Ok(turn) => {
                 let (seat, answer) = self.ask_in(turn, call);
-                (Member { seat }, Some(answer))
+                (Member { seat }, Some(answer.unwrap_or(Answer::OutOfMemory)))
             }
+        }
+    }
+
+    /// Asks as [`ask`](SharedSession::ask) does, but waits for nobody: the call is copied before it is
+    /// seen whether there is a turn. `None` is as of [`try_step`](SharedSession::try_step).
+    pub fn try_ask(&self, member: Member<T>, call: &Call) -> (Member<T>, Option<Answer>)
+        requires of { member.of ≡ self.now }
+        requires askable { CanBeAsked call.now }
+        ensures same { IfSome result.1 (λ a.
+            result.0 ≡ record member { front = result.0.front; note = None }) }
+        ensures called { IfSome result.1 (λ a. IsCalled self.now.settings member
+            (events.Asked call.now) a result.0.front) }
+        ensures turned_away { IfNone result.1 (IsTurnedAway member result.0) }
+    {
+        match call.copy(self.alloc) {
+            Ok(copy) => self.try_step(member, &Event::Asked(copy)),
+            Err(OutOfMemory) => self.try_uncopied(member, call),
         }
     }
 

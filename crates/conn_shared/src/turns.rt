@@ -1,6 +1,6 @@
 //! Turns at the lock, with the session that is found there.
 
-ghost use Rattle.std.specs.Prelude.{◌≡◌, ◌<◌, ◌^◌, ◌⊎◌, ◌+◌, ◌-◌, IfErr, IfOk, None, Some, length};
+ghost use Rattle.std.specs.Prelude.{◌≡◌, ◌<◌, ◌^◌, ◌⊎◌, ◌+◌, ◌-◌, IfErr, IfOk, IfSome, None, Some, length};
 ghost use Rattle.rs_wire.specs.Calls.{CanBeAsked};
 ghost use Rattle.session_model.specs.Frames.{queued};
 ghost use Rattle.session_model.specs.Life.{carrying, closed, live};
@@ -122,8 +122,12 @@ impl<T: Tape> SharedSession<T> {
         (seat, answer)
     }
 
-    /// One call in a turn, which is then over.
-    pub(crate) fn ask_in(&self, turn: Turn<Stored<T>>, call: &Call) -> (Seat<Stored<T>>, Answer)
+    /// One call in a turn, which is then over, where nothing of the call has to be copied.
+    pub(crate) fn ask_in(
+        &self,
+        turn: Turn<Stored<T>>,
+        call: &Call,
+    ) -> (Seat<Stored<T>>, Option<Answer>)
         requires of { turn.seat.lock ≡ self.now.lock }
         requires settings { turn.value.settings ≡ self.now.settings }
         requires was { turn.seat.front ≡
@@ -133,8 +137,10 @@ impl<T: Tape> SharedSession<T> {
         ensures same { result.0 ≡ record turn.seat { front = result.0.front } }
         ensures settings { settings_in result.0.front ≡ self.now.settings }
         ensures member { IsMember result.0 }
-        ensures step { IsStep self.now.settings turn.seat.number turn.value.entries
-            (events.Asked call.now) result.1 (entries_in result.0.front) }
+        ensures step { IfSome result.1 (λ a. IsStep self.now.settings turn.seat.number
+            turn.value.entries (events.Asked call.now) a (entries_in result.0.front)) }
+        ensures not_full { result.1 ≡ None → length turn.value.entries < 2 ^ 63 }
+        ensures none { result.1 ≡ None → entries_in result.0.front ≡ turn.value.entries }
     {
         let mut turn = turn;
         let who = turn.number();
