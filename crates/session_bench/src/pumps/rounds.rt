@@ -1,0 +1,188 @@
+//! Items that cross in rounds, and the time that they take at each end.
+
+ghost use Rattle.rs_wire.specs.Calls.{CanBeAsked};
+
+use crate::asks::{next, request_response, request_stream, respond, take_job, take_next};
+use crate::pumps::end::{End, Said};
+use anyhow::{Result, bail, ensure};
+use rs_wire::{Blob, Call};
+use std::alloc::Global;
+use std::sync::Wait;
+use std::time::{Clock, Instant};
+
+/// What crosses.
+#[derive(Clone, Copy, Debug, PartialEq, Eq)]
+pub enum Shape {
+    /// A request and its response, each with an item.
+    Response,
+    /// An item of a stream, to the client.
+    Stream,
+}
+
+/// How items cross.
+#[derive(Clone, Copy)]
+pub struct Run {
+    /// What crosses.
+    pub shape: Shape,
+    /// An item.
+    pub item: &'static [u8],
+    /// How many cross at once, at least one. Their frames fit one draw, of 16,384 bytes.
+    pub batch: u32,
+    /// How many times so many cross.
+    pub rounds: u32,
+}
+
+/// Nanoseconds of the calls and turns at each end.
+#[derive(Clone, Copy)]
+pub struct Took {
+    /// At the client.
+    pub client: u128,
+    /// At the server.
+    pub server: u128,
+}
+
+fn request(shape: Shape, content: Blob) -> Call
+    ensures { CanBeAsked result }
+{
+    match shape {
+        Shape::Response => request_response(content),
+        Shape::Stream => request_stream(content),
+    }
+}
+
+// The client makes a request: on which stream.
+fn ask<R: Wait>(rt: &R, alloc: Global, client: &mut End, run: Run) -> Result<u32> {
+    let content = Blob::from_slice(alloc, run.item)?;
+    match client.ask(rt, request(run.shape, content))? {
+        Said::Started(stream) => Ok(stream),
+        said => bail!("a request is {said:?}"),
+    }
+}
+
+// The client makes a batch of requests: on which stream the first is.
+fn ask_all<R: Wait>(rt: &R, alloc: Global, client: &mut End, run: Run) -> Result<u32> {
+    let first = ask(rt, alloc, client, run)?;
+    for _ in 1..run.batch {
+        ask(rt, alloc, client, run)?;
+    }
+    client.turn(rt)?;
+    Ok(first)
+}
+
+// The server takes a request: on which stream.
+fn take_request<R: Wait>(rt: &R, server: &mut End) -> Result<u32> {
+    match server.ask(rt, take_job())? {
+        Said::Asked(stream) => Ok(stream),
+        said => bail!("a job is {said:?}"),
+    }
+}
+
+// The server sends an item on a stream, or answers the request that it takes.
+fn send<R: Wait>(rt: &R, alloc: Global, server: &mut End, stream: u32, run: Run) -> Result<()> {
+    let content = Blob::from_slice(alloc, run.item)?;
+    let said = match run.shape {
+        Shape::Response => {
+            let stream = take_request(rt, server)?;
+            server.ask(rt, respond(stream, content))?
+        }
+        Shape::Stream => server.ask(rt, next(stream, content))?,
+    };
+    ensure!(said == Said::Done, "an item is {said:?}");
+    Ok(())
+}
+
+fn send_all<R: Wait>(rt: &R, alloc: Global, server: &mut End, stream: u32, run: Run) -> Result<()> {
+    for _ in 0..run.batch {
+        send(rt, alloc, server, stream, run)?;
+    }
+    server.turn(rt)
+}
+
+// The client takes what came on a stream.
+fn take<R: Wait>(rt: &R, client: &mut End, stream: u32, wanted: Said) -> Result<()> {
+    let said = client.ask(rt, take_next(stream))?;
+    ensure!(said == wanted, "a take is {said:?}");
+    Ok(())
+}
+
+// The client takes a batch of items of a stream, or of responses, whose streams are every second
+// one.
+fn take_all<R: Wait>(rt: &R, client: &mut End, first: u32, run: Run) -> Result<()> {
+    let mut stream = first;
+    for _ in 0..run.batch {
+        take(rt, client, stream, Said::Item)?;
+        if run.shape == Shape::Response {
+            take(rt, client, stream, Said::Complete)?;
+            stream = stream.saturating_add(2);
+        }
+    }
+    Ok(())
+}
+
+// A round on a stream, or of requests.
+fn round<R: Clock + Wait>(
+    rt: &R,
+    alloc: Global,
+    client: &mut End,
+    server: &mut End,
+    stream: u32,
+    run: Run,
+) -> Result<Took> {
+    let start = Instant::now(rt)?;
+    let mut first = stream;
+    if run.shape == Shape::Response {
+        first = ask_all(rt, alloc, client, run)?;
+    }
+    let asked = Instant::now(rt)?;
+    if run.shape == Shape::Response {
+        server.receive(rt, client)?;
+    }
+    send_all(rt, alloc, server, stream, run)?;
+    let sent = Instant::now(rt)?;
+    client.receive(rt, server)?;
+    take_all(rt, client, first, run)?;
+    let taking = sent.elapsed(rt)?.as_nanos();
+    Ok(Took {
+        client: asked
+            .duration_since(start)
+            .as_nanos()
+            .saturating_add(taking),
+        server: sent.duration_since(asked).as_nanos(),
+    })
+}
+
+// The client asks for a stream, and the server takes the job.
+fn begin<R: Wait>(
+    rt: &R,
+    alloc: Global,
+    client: &mut End,
+    server: &mut End,
+    run: Run,
+) -> Result<u32> {
+    if run.shape == Shape::Response {
+        return Ok(0);
+    }
+    ask(rt, alloc, client, run)?;
+    client.turn(rt)?;
+    server.receive(rt, client)?;
+    take_request(rt, server)
+}
+
+/// Items cross between two new ends.
+pub fn cross<R: Clock + Wait>(rt: &R, alloc: Global, run: Run) -> Result<Took> {
+    let mut client = End::client(rt, alloc)?;
+    let mut server = End::server(rt, alloc, &mut client)?;
+    let stream = begin(rt, alloc, &mut client, &mut server, run)?;
+    let mut all = Took {
+        client: 0,
+        server: 0,
+    };
+    for _ in 0..run.rounds {
+        let took = round(rt, alloc, &mut client, &mut server, stream, run)?;
+        all = Took {
+            client: all.client.saturating_add(took.client),
+            server: all.server.saturating_add(took.server),
+        };
+    }
+    Ok(all)
+}

@@ -1,0 +1,46 @@
+//! New sessions and connections, with the defaults of their side.
+
+ghost use Rattle.std.specs.Prelude.{◌≡◌, IfOk, []};
+ghost use Rattle.rs_wire.specs.Settings.{usual};
+
+use anyhow::Result;
+use conn::{Caller, Connection};
+use rs_wire::{Checked, Settings, Side, check};
+use session_core::Session;
+use std::alloc::Global;
+use tape::Tape;
+
+// The defaults of a side.
+fn defaults(alloc: Global, side: Side) -> Result<Checked>
+    ensures { IfOk result (λ s. s ≡ usual side) }
+{
+    let settings = check(Settings::usual(alloc, side)?).map_err(|(_, fault)| fault)?;
+    Ok(settings)
+}
+
+/// A session at which nothing happened yet.
+pub fn new_session<T: Tape + Drop>(alloc: Global, side: Side, tape: T) -> Result<Session<T>>
+    requires { T.Tape.count tape ≡ 0 }
+    ensures settings { IfOk result (λ s. s.settings ≡ usual side) }
+    ensures entries { IfOk result (λ s. s.entries ≡ []) }
+{
+    let settings = defaults(alloc, side)?;
+    let session = Session::new(alloc, settings, tape).map_err(|(_, error)| error)?;
+    Ok(session)
+}
+
+/// One that its callers share, and the first of them.
+pub fn new_connection<T: Tape + Drop>(
+    alloc: Global,
+    side: Side,
+    tape: T,
+) -> Result<(Connection<T>, Caller<T>)>
+    requires { T.Tape.count tape ≡ 0 }
+    ensures of { IfOk result (λ r. r.1.of ≡ r.0) }
+    ensures settings { IfOk result (λ r. r.0.settings ≡ usual side) }
+{
+    match Connection::new(alloc, new_session(alloc, side, tape)?) {
+        Ok(made) => Ok(made),
+        Err((_, error)) => Err(error.into()),
+    }
+}
