@@ -3,8 +3,8 @@
 //!
 //! A waiter looks at the bell first, then whether what it waits for is there, and sleeps only where
 //! it is not and the bell has not rung meanwhile. Whoever makes it happen rings afterwards. So a
-//! ring between the look and the sleep is heard. A ring that finds nobody asleep adds to one word,
-//! reads two, and makes no call of the system.
+//! ring between the look and the sleep is heard. A ring for which nobody watches or listens reads two
+//! words, writes none, and makes no call of the system.
 //!
 //! Nothing is promised of who wakes, and when: contracts do not see a bell. The system may refuse
 //! to wake a link, so a link waits for a bounded time alone.
@@ -14,7 +14,7 @@ use crossbeam_utils::CachePadded;
 use crossbeam_utils::sync::{EventCount, Key};
 use mio::{Registry, Token, Waker};
 use std::io;
-use std::sync::atomic::{AtomicBool, AtomicU64, Ordering};
+use std::sync::atomic::{AtomicBool, Ordering};
 use std::sync::{RwLock, Wait};
 
 /// A bell. Threads share it by reference.
@@ -22,22 +22,22 @@ use std::sync::{RwLock, Wait};
 /// ```text
 ///   a thread                            a link
 ///   --------                            ------
-///   listener = bell.listen()            seen = bell.rung()
+///   listener = bell.listen()            bell.watch()
 ///   is it there? if so, go on           is it there? if so, go on
-///   listener.wait(rt)                   if bell.begin_sleep(seen): wait in the poll
+///   listener.wait(rt)                   if bell.begin_sleep(): wait in the poll
 ///                                       bell.end_sleep()
 /// ```
 ///
 /// Any number of threads listen. One link hears the bell, the last one that asked for it.
 #[derive(Drop)]
 pub struct Bell {
-    /// How often it rang. Each of the first three is on cache lines of its own, since a ring writes
-    /// this one and reads the other two.
-    rung: CachePadded<AtomicU64>,
-    /// The threads that listen.
+    /// The threads that listen. This and the next are on cache lines of their own, since each ring
+    /// reads both.
     listeners: CachePadded<EventCount>,
-    /// Whether the link that hears it sleeps, or is about to.
-    asleep: CachePadded<AtomicBool>,
+    /// Whether the link that hears it watches, and it has not rung since.
+    watched: CachePadded<AtomicBool>,
+    /// Whether that link sleeps, or is about to.
+    asleep: AtomicBool,
     /// What ends a wait in the poll of that link.
     waker: RwLock<Option<Waker>>,
 }
@@ -51,9 +51,9 @@ impl Bell {
     /// A bell that nobody listens to and no link hears.
     pub const fn new() -> Bell {
         Bell {
-            rung: CachePadded::new(AtomicU64::new(0)),
             listeners: CachePadded::new(EventCount::new()),
-            asleep: CachePadded::new(AtomicBool::new(false)),
+            watched: CachePadded::new(AtomicBool::new(false)),
+            asleep: AtomicBool::new(false),
             waker: RwLock::new(None),
         }
     }
@@ -71,14 +71,23 @@ impl Bell {
         }
     }
 
-    /// Wakes everyone who listens, and the link that hears the bell, if it sleeps. Call it after
-    /// what they wait for has happened. It waits for nobody.
+    /// Wakes everyone who listens, and the link that hears the bell, if it sleeps. It waits for nobody.
+    /// Call it after what they wait for has happened by a step on a word that is `SeqCst`, as giving
+    /// back a turn of a lock is, since a ring that finds nobody is none itself.
+    #[inline(always)]
     pub fn ring(&self) {
-        // A link writes that it sleeps and then reads the count, and a ring does it the other way
-        // round. So the link reads this ring, or this ring reads that the link sleeps.
-        self.rung.fetch_add(1, Ordering::SeqCst);
         self.listeners.notify_all();
-        if self.asleep.load(Ordering::SeqCst) && self.asleep.swap(false, Ordering::SeqCst) {
+        if self.watched.load(Ordering::SeqCst) {
+            self.tell_link();
+        }
+    }
+
+    // Tells the link that the bell rang since it watches. The link writes that it sleeps and then
+    // reads this word, and a ring does it the other way round. So the link reads this ring, or this
+    // ring reads that the link sleeps.
+    #[cold]
+    fn tell_link(&self) {
+        if self.watched.swap(false, Ordering::SeqCst) && self.asleep.load(Ordering::SeqCst) {
             self.wake_link();
         }
     }
@@ -91,8 +100,8 @@ impl Bell {
     }
 
     /// From now on the link with this poll hears the bell, by events of this token, and no link
-    /// that heard it before. The link reads [`rung`](Bell::rung) after this call and looks whether there
-    /// is anything to wait for after that. An error leaves the bell as it was.
+    /// that heard it before. The link [watches](Bell::watch) after this call and looks whether there is
+    /// anything to wait for after that. An error leaves the bell as it was.
     ///
     /// A link that no longer hears the bell may call [`end_sleep`](Bell::end_sleep) when the other
     /// one sleeps, which then sleeps for its bounded time, once.
@@ -102,18 +111,17 @@ impl Bell {
         Ok(())
     }
 
-    /// How often the bell rang. A link reads it before the look whether there is anything to wait
-    /// for. A thread that sleeps by itself sees by it whether anything happened meanwhile.
-    pub fn rung(&self) -> u64 {
-        self.rung.load(Ordering::SeqCst)
+    /// Watches from now on whether the bell rings. A link calls it before the look whether there is
+    /// anything to wait for.
+    pub fn watch(&self) {
+        self.watched.store(true, Ordering::SeqCst);
     }
 
     /// Says that the link that hears the bell is about to wait in its poll, so that the next ring
-    /// ends that wait. False where the bell has rung since the link read `seen`; then it must not
-    /// wait.
-    pub fn begin_sleep(&self, seen: u64) -> bool {
+    /// ends that wait. False where the bell has rung since the link watches; then it must not wait.
+    pub fn begin_sleep(&self) -> bool {
         self.asleep.store(true, Ordering::SeqCst);
-        let may_sleep = self.rung() == seen;
+        let may_sleep = self.watched.load(Ordering::SeqCst);
         if !may_sleep {
             self.end_sleep();
         }

@@ -74,15 +74,16 @@ fn a_ring_ends_the_sleep_of_a_link(rt: HostRuntime) -> Result<(), Fail> {
     let bell = Bell::new();
     let mut poll = Poll::new(&rt)?;
     bell.heard_by(&rt, poll.registry(), BELL)?;
-    assert!(rt; bell.begin_sleep(bell.rung()));
+    bell.watch();
+    assert!(rt; bell.begin_sleep());
     bell.ring();
     assert_eq!(rt; events_within(rt.alloc(), &mut poll, LONG)?, 1);
     bell.end_sleep();
 
     // The next one comes before the link sleeps: it is seen, and makes no event.
-    let seen = bell.rung();
+    bell.watch();
     bell.ring();
-    assert!(rt; !bell.begin_sleep(seen));
+    assert!(rt; !bell.begin_sleep());
     assert_eq!(rt; events_within(rt.alloc(), &mut poll, 0)?, 0);
     Ok(())
 }
@@ -94,7 +95,8 @@ fn the_last_link_that_asked_hears(rt: HostRuntime) -> Result<(), Fail> {
     let mut second = Poll::new(&rt)?;
     bell.heard_by(&rt, first.registry(), BELL)?;
     bell.heard_by(&rt, second.registry(), BELL)?;
-    assert!(rt; bell.begin_sleep(bell.rung()));
+    bell.watch();
+    assert!(rt; bell.begin_sleep());
     bell.ring();
     assert_eq!(rt; events_within(rt.alloc(), &mut second, LONG)?, 1);
     assert_eq!(rt; events_within(rt.alloc(), &mut first, 0)?, 0);
@@ -112,11 +114,11 @@ fn sleep_until_above<R: Wait>(
 ) -> io::Result<u64> {
     let mut in_vain = 0u64;
     for _ in rt.forever() {
-        let seen = bell.rung();
+        bell.watch();
         if word.load(Ordering::SeqCst) > above {
             break;
         }
-        if bell.begin_sleep(seen) && events_within(alloc, poll, LONG)? == 0 {
+        if bell.begin_sleep() && events_within(alloc, poll, LONG)? == 0 {
             in_vain = in_vain.saturating_add(1);
         }
         bell.end_sleep();

@@ -21,7 +21,8 @@ fn about_to_sleep<R: Abort + Net + Wait, T: Tape>(rt: &R, connection: &Connectio
     let bell = connection.bell();
     bell.heard_by(rt, poll.registry(), Token(1))
         .expect(rt, "there is a waker");
-    assert!(rt; bell.begin_sleep(bell.rung()));
+    bell.watch();
+    assert!(rt; bell.begin_sleep());
     poll
 }
 
@@ -46,10 +47,11 @@ fn open<R: Abort + Wait, T: Tape>(rt: &R, connection: &Connection<T>, caller: &m
 fn draw<R: Abort + Wait, T: Tape>(rt: &R, connection: &Connection<T>, caller: &mut Caller<T>)
     requires of { caller.old.of ≡ connection.now }
 {
-    let seen = connection.bell().rung();
+    let bell = connection.bell();
+    bell.watch();
     let mut buffer = [0; 100];
     assert!(rt; connection.draw(rt, caller, 1, &mut buffer).drawn() == Some(71));
-    assert!(rt; connection.bell().rung() == seen);
+    assert!(rt; bell.begin_sleep());
 }
 
 // A link sleeps until a client is opened, and not until it is drawn from.
