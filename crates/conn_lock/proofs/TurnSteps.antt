@@ -12,7 +12,7 @@ use Rattle.atomic_table.specs.Table.{State, Me, keeps, takes, gives, opening, Al
 use Rattle.atomic_table.proofs.Lists.{set_here, exchanged}
 use Rattle.conn_lock.specs.declared.view.View.{View}
 use Rattle.conn_lock.specs.Callers.{Follows, once, times, calls}
-use Rattle.conn_lock.specs.Rule.{below, IsSound, Kept, first_view, drew, looked, passed, noted, grabbed}
+use Rattle.conn_lock.specs.Rule.{below, IsSound, Kept, first_view, drew, passed, noted}
 use Rattle.conn_lock.proofs.Totals.{total_at, calls_append, calls_other}
 use Rattle.conn_lock.proofs.Changes.{within, follows, moved, stays, kept_place, refreshed, alone, other_turn, own_name, was_drawn, Goes}
 
@@ -45,32 +45,6 @@ module _ {S E : Type 0} (list_of : S → List E) (IsThere : S → Type 0) (numbe
       }
       one (suc i) v e = absurd (some-ne-none v (sym e))
 
-  pub draws : (slots id : ℕ) (me : Me S (View E)) (old new : ℕ) → new ≡ old + 1 → me.0.tickets ≡ [] → me.0.turn ≡ false → 0 < me.0.parts
-      → Allows (Kept list_of IsThere number) slots id me 0 (λ n. either (eqb n old) new n) (drew (step slots 0 old new none) me)
-  draws slots id me old new next none_yet out some_part s k _ at _ =
-      let v = me.0 in
-      let n : ℕ = slice_index s.words 0 in
-      let n_is : n ≡ k.ticket = ap (λ l. slice_index l 0) k.words in
-      let ok = k.sound id v at in
-      exchanged n old new (Goes list_of IsThere number s 0 id me (drew (step slots 0 old new none) me))
-      (λ hit. let w = record v { tickets = n ∷ []; note = None } in (
-        w,
-        keeps,
-        tt,
-        moved list_of IsThere number s k id v w at new k.serving k.drawn k.list (set s.words 0 new) s.homes
-            (ap (λ l. set l 0 new) k.words)
-            (λ x. let b : k.ticket ≡ old = sym n_is ∙ hit in rw (next, b, hit, none_yet) (grind (arith, nat_tests)))
-            (λ x. refl)
-            refl
-            k.few
-            k.known
-            (λ i u other e. k.sound i u e)
-            record { fits = ok.fits; spent = λ z. absurd (omega (arith, some_part, z)); inside = λ t. absurd (true≢false (sym t ∙ out)); found = ok.found; noted = λ m h. absurd (cc); begun = ok.begun }
-            (kept_place list_of IsThere number k.list s.homes s.views id v w at out k.place),
-        ((λ _. refl), (λ miss. absurd (miss hit))),
-      ))
-      (λ miss. (v, keeps, tt, stays list_of IsThere number s k id v at (set s.words 0 n) (rw k.words refl), ((λ hit. absurd (miss hit)), (λ _. refl))))
-
   -- the seat that has the ticket that is served takes the value out and is in its turn, as this view
   begins : (s : State S (View E)) (k : Kept list_of IsThere number s) (id : ℕ) (v : View E) → get_elem? s.views id ≡ some v → v.turn ≡ false → 0 < v.parts
       → (t : ℕ) (words tickets : List ℕ) (note : std.Option ℕ) → words ≡ t ∷ k.serving ∷ k.drawn ∷ [] → tickets ≡ k.serving ∷ []
@@ -102,26 +76,6 @@ module _ {S E : Type 0} (list_of : S → List E) (IsThere : S → Type 0) (numbe
       (λ (away : (i : ℕ) × (u : View E) × (s.homes ≡ none ∷ []) × (get_elem? s.views i ≡ some u) × (u.turn ≡ true)).
       absurd (alone_has away.0 away.1 (other_turn s.views id away.0 v away.1 at out away.3 away.4) away.3 ((k.sound away.0 away.1 away.3).inside away.4).2))
       k.place
-
-  -- the turn begins
-  pub looks : (slots id : ℕ) (me : Me S (View E)) (t : ℕ) → me.0.tickets ≡ t ∷ [] → me.0.turn ≡ false → 0 < me.0.parts
-      → Allows (Kept list_of IsThere number) slots id me 1 (λ n. n) (looked list_of IsThere number (step slots 1 0 0 none) me)
-  looks slots id me t mine out some_part s k _ at _ =
-      let v = me.0 in
-      let n : ℕ = slice_index s.words 1 in
-      let n_is : n ≡ k.serving = ap (λ l. slice_index l 1) k.words in
-      let same_words : set s.words 1 n ≡ s.words = rw k.words refl in
-      dite (ℕ_discrete t k.serving)
-      (λ yes.
-      let served : v.tickets ≡ k.serving ∷ [] = mine ∙ ap (λ z. z ∷ []) yes in
-      let b = begins s k id v at out some_part k.ticket (set s.words 1 n) v.tickets v.note (same_words ∙ k.words) served (λ y. refl) (k.sound id v at).noted (alone list_of IsThere number s k id v at served) in (
-        record v { turn = true; front = list_of b.0; shorter = [] },
-        takes 0 b.0,
-        b.1,
-        b.4,
-        ((λ _. (b.0, refl, b.2, b.3)), (λ miss. absurd (miss (served ∙ ap (λ z. z ∷ []) (sym n_is))))),
-      ))
-      (λ no. (v, keeps, tt, stays list_of IsThere number s k id v at (set s.words 1 n) same_words, ((λ hit. absurd (no (ap (λ l. slice_index l 0) (sym mine ∙ hit) ∙ n_is))), (λ _. refl))))
 
   -- the turn ends
   pub passes : (slots id : ℕ) (me : Me S (View E)) (x : S) → IsThere x → (t n : ℕ) (own : List E) → me.1 ≡ (0, x) ∷ [] → me.0.tickets ≡ t ∷ [] → me.0.turn ≡ true → 0 < me.0.parts → 0 < times n me.0.names → list_of x ≡ me.0.front ++ own → calls number n own ≡ length own
@@ -178,15 +132,15 @@ module _ {S E : Type 0} (list_of : S → List E) (IsThere : S → Type 0) (numbe
       let ok = k.sound id v at in
       (record v { note = Some n }, keeps, tt, refreshed list_of IsThere number s k id v at out v.found (Some n) v.misses ok.found (λ m h. let same : n ≡ m = ap (λ o. unwrap_or o 0) h in omega (arith, n_is, same)) (set s.words 1 n) (rw k.words refl), refl)
 
-  -- a turn that one exchange begins
-  pub grabs : (slots id : ℕ) (me : Me S (View E)) (old new : ℕ) → new ≡ old + 1 → me.0.note ≡ Some old → me.0.tickets ≡ [] → me.0.turn ≡ false → 0 < me.0.parts
-      → Allows (Kept list_of IsThere number) slots id me 0 (λ n. either (eqb n old) new n) (grabbed list_of IsThere number (step slots 0 old new none) me)
-  grabs slots id me old new next was none_yet out some_part s k _ at _ =
+  -- a turn that one exchange begins, where the seat has so many misses if it fails
+  pub draws : (misses slots id : ℕ) (me : Me S (View E)) (old new : ℕ) → new ≡ old + 1 → me.0.note ≡ Some old → me.0.tickets ≡ [] → me.0.turn ≡ false → 0 < me.0.parts
+      → Allows (Kept list_of IsThere number) slots id me 0 (λ n. either (eqb n old) new n) (drew misses list_of IsThere number (step slots 0 old new none) me)
+  draws misses slots id me old new next was none_yet out some_part s k _ at _ =
       let v = me.0 in
       let n : ℕ = slice_index s.words 0 in
       let n_is : n ≡ k.ticket = ap (λ l. slice_index l 0) k.words in
       let ok = k.sound id v at in
-      exchanged n old new (Goes list_of IsThere number s 0 id me (grabbed list_of IsThere number (step slots 0 old new none) me))
+      exchanged n old new (Goes list_of IsThere number s 0 id me (drew misses list_of IsThere number (step slots 0 old new none) me))
       (λ hit.
       let ahead : k.serving ≤ k.ticket = grind (arith, nat_tests, k.tickets k.ticket) in
       let same : k.serving ≡ n = let a = ok.noted old was in omega (arith, hit, n_is, ahead) in
@@ -202,9 +156,9 @@ module _ {S E : Type 0} (list_of : S → List E) (IsThere : S → Type 0) (numbe
         ((λ _. (b.0, refl, b.2, b.3)), (λ miss. absurd (miss hit))),
       ))
       (λ miss. (
-        record v { misses = v.misses + 1; note = None },
+        record v { misses = misses; note = None },
         keeps,
         tt,
-        refreshed list_of IsThere number s k id v at out v.found None (v.misses + 1) ok.found (λ m h. absurd (cc)) (set s.words 0 n) (rw k.words refl),
+        refreshed list_of IsThere number s k id v at out v.found None misses ok.found (λ m h. absurd (cc)) (set s.words 0 n) (rw k.words refl),
         ((λ hit. absurd (miss hit)), (λ _. refl)),
       ))

@@ -69,18 +69,6 @@ slot_list list_of (Some x) = list_of x
 
 -- The steps on words. Each says what the seat `after` is, where it was `me` and found n in the word; `step.first` is what an exchange was made from.
 module _ {S E : Type 0} where
-  -- ticket: the seat has the ticket that it found there, or found another and is as before
-  abbrev pub drew : Step S → Me S (View E) → ℕ → Me S (View E) → Type 0
-  drew step me n after =
-      (n ≡ step.first → after ≡ (record me.0 { tickets = n ∷ []; note = None }, me.1))
-      × (n ≢ step.first → after ≡ me)
-
-  -- serving: the turn begins and the value leaves the slot where the seat found its ticket, else the seat is as before
-  abbrev pub looked : (S → List E) → (S → Type 0) → (E → ℕ) → Step S → Me S (View E) → ℕ → Me S (View E) → Type 0
-  looked list_of IsThere number step me n after =
-      (me.0.tickets ≡ n ∷ [] → (x : S) × (after ≡ (record me.0 { turn = true; front = list_of x; shorter = [] }, (0, x) ∷ me.1)) × Follows number me.0.names me.0.front (list_of x) × IsThere x)
-      × (me.0.tickets ≢ n ∷ [] → after ≡ me)
-
   -- the list of the value that is out with the seat
   abbrev pub out_list : (S → List E) → List (ℕ × S) → List E
   out_list list_of [] = []
@@ -94,11 +82,19 @@ module _ {S E : Type 0} where
   abbrev pub noted : Step S → Me S (View E) → ℕ → Me S (View E) → Type 0
   noted step me n after = after ≡ (record me.0 { note = Some n }, me.1)
 
-  -- ticket: it was the noted one, so the seat has that ticket and its turn begins at once; else the seat has missed it, and the note goes
-  abbrev pub grabbed : (S → List E) → (S → Type 0) → (E → ℕ) → Step S → Me S (View E) → ℕ → Me S (View E) → Type 0
-  grabbed list_of IsThere number step me n after =
+  -- ticket: it was the noted one, so the seat has that ticket and its turn begins at once, in which the value leaves the slot; else the note goes, and the seat has so many misses
+  abbrev pub drew : ℕ → (S → List E) → (S → Type 0) → (E → ℕ) → Step S → Me S (View E) → ℕ → Me S (View E) → Type 0
+  drew misses list_of IsThere number step me n after =
       (n ≡ step.first → (x : S) × (after ≡ (record me.0 { tickets = n ∷ []; turn = true; front = list_of x; note = None; shorter = [] }, (0, x) ∷ me.1)) × Follows number me.0.names me.0.front (list_of x) × IsThere x)
-      × (n ≢ step.first → after ≡ (record me.0 { misses = me.0.misses + 1; note = None }, me.1))
+      × (n ≢ step.first → after ≡ (record me.0 { misses = misses; note = None }, me.1))
+
+  -- by a seat that tries again: nothing is counted
+  abbrev pub won : (S → List E) → (S → Type 0) → (E → ℕ) → Step S → Me S (View E) → ℕ → Me S (View E) → Type 0
+  won list_of IsThere number step me = drew me.0.misses list_of IsThere number step me
+
+  -- by a seat that tries once: it is a miss where another has the ticket
+  abbrev pub grabbed : (S → List E) → (S → Type 0) → (E → ℕ) → Step S → Me S (View E) → ℕ → Me S (View E) → Type 0
+  grabbed list_of IsThere number step me = drew (me.0.misses + 1) list_of IsThere number step me
 
   -- names: the seat has found how many numbers were drawn, which are no fewer than it had found before
   abbrev pub counted : Step S → Me S (View E) → ℕ → Me S (View E) → Type 0

@@ -1,8 +1,9 @@
 -- What the fields of a seat and of a turn have to do with what they know.
-use Rattle.std.specs.Prelude.{◌≡◌, ℕ, ◌<◌, ◌≤◌, ◌-◌, ◌^◌, [], ◌∷◌, true, false, Option, None}
+use Rattle.std.specs.Prelude.{◌≡◌, ℕ, ◌<◌, ◌≤◌, ◌-◌, ◌^◌, List, [], ◌∷◌, true, false, Option, None, IsSome}
 use Rattle.atomic_table.specs.Table.{Me}
 use Rattle.conn_lock.specs.declared.view.View.{View}
-use Rattle.conn_lock.specs.Callers.{Known, LockId, all_parts, times}
+use Rattle.conn_lock.specs.Callers.{Known, LockId, all_parts, times, Follows}
+use Rattle.conn_lock.specs.Rule.{slot_list}
 
 -- what a view means to its caller
 abbrev pub known : {E : Type 0} → LockId → ℕ → View E → Known E
@@ -29,3 +30,11 @@ pub record IsServed {S E : Type 0} (number parts ticket : ℕ) (me : Me (Option 
   pub parts_are : parts ≡ me.0.parts
   pub some_part : 0 < parts
   pub at_most_all : parts ≤ all_parts
+
+-- the turn of this ticket began: the value is out with the seat, and its list, which went on from the front by entries of others, is the front now
+abbrev pub IsBegun : {S E : Type 0} → (S → List E) → (E → ℕ) → ℕ → Me (Option S) (View E) → Me (Option S) (View E) → Type 0
+IsBegun {S} list_of number ticket me after =
+    (x : Option S)
+    × (after ≡ (record me.0 { tickets = ticket ∷ []; turn = true; front = slot_list list_of x; note = None; shorter = [] }, (0, x) ∷ []))
+    × Follows number me.0.names me.0.front (slot_list list_of x)
+    × IsSome x

@@ -22,25 +22,6 @@ impl<S: Stands> TableRule<Option<S>, View<S::Entry>, Snapshot<S>> for Rules<S> {
     ghost first = { λ start. first_view (S.list start.value) };
 }
 
-/// Draws a ticket, by an exchange of the ticket word.
-pub struct Draw;
-
-impl<S: Stands> Play<Option<S>, View<S::Entry>> for Draw {
-    ghost use Rattle.conn_lock.specs.Rule.{drew};
-
-    ghost then = { drew };
-}
-
-/// Looks at the ticket that is served. Where it is the seat's own, its turn begins, and the value
-/// leaves the slot with it.
-pub struct Look;
-
-impl<S: Stands> Play<Option<S>, View<S::Entry>> for Look {
-    ghost use Rattle.conn_lock.specs.Rule.{looked};
-
-    ghost then = { looked (slot_list S.list) IsSome S.number };
-}
-
 /// Passes on to the next ticket. The value comes home to the slot, and the turn is over.
 pub struct Pass;
 
@@ -59,8 +40,17 @@ impl<S: Stands> Play<Option<S>, View<S::Entry>> for Note {
     ghost then = { noted };
 }
 
-/// Draws the noted ticket, by one exchange of the ticket word. Where it succeeds the ticket is
-/// served already, and the turn begins at once.
+/// Draws the noted ticket, by an exchange of the ticket word that is tried again. Where it succeeds the
+/// ticket is served already, so the turn begins at once, and the value leaves the slot with it.
+pub struct Win;
+
+impl<S: Stands> Play<Option<S>, View<S::Entry>> for Win {
+    ghost use Rattle.conn_lock.specs.Rule.{won};
+
+    ghost then = { won (slot_list S.list) IsSome S.number };
+}
+
+/// The same, by an exchange that is tried once: where it fails the seat has missed.
 pub struct Grab;
 
 impl<S: Stands> Play<Option<S>, View<S::Entry>> for Grab {

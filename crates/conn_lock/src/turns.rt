@@ -1,19 +1,20 @@
 //! Turns: how one is waited for, tried for, and given back.
 
-ghost use Rattle.std.specs.Prelude.{◌≡◌, ◌<◌, ◌+◌, ◌-◌, ◌^◌, ◌⊎◌, [], ◌∷◌, IfErr, IfOk, IsSome, Option, None, Some, false, true};
+ghost use Rattle.std.specs.Prelude.{◌≡◌, ◌<◌, ◌+◌, ◌-◌, ◌^◌, ◌⊎◌, [], ◌∷◌, IfErr, IfOk, IfSome, IsSome, Option, None, Some, false};
 ghost use Rattle.conn_lock.specs.Callers.{Adds, Follows};
-ghost use Rattle.conn_lock.specs.Rule.{slot_list};
+ghost use Rattle.conn_lock.specs.Seats.{IsBegun};
 
 use crate::lock::{Lock, SERVING, TICKET, VALUE};
 use crate::seat::{Seat, Token};
 use crate::stands::Stands;
-use crate::steps::{Draw, Grab, Look, Note, Pass};
+use crate::steps::{Grab, Note, Pass, Win};
 use crate::turn::Turn;
 use crossbeam_utils::Backoff;
 use std::sync::Wait;
 
 impl<S: Stands> Lock<S> {
     /// Waits for a turn. Where 2^64 - 1 tickets have been drawn it waits for ever.
+    #[inline(always)]
     pub fn enter<R: Wait>(&self, rt: &R, seat: Seat<S>) -> Turn<S>
         requires { seat.lock ≡ self.now }
         ensures same { result.seat ≡ record seat { front = S.list result.value; note = None } }
@@ -24,8 +25,7 @@ impl<S: Stands> Lock<S> {
             number,
             parts,
         } = seat;
-        let ticket = self.draw(rt, &mut token);
-        self.wait_turn(rt, &mut token, ticket);
+        let ticket = self.win(rt, &mut token);
         let value = self.take_out(&mut token);
         Turn {
             token,
@@ -82,6 +82,7 @@ impl<S: Stands> Lock<S> {
 
     /// Gives the turn back. The seat has then seen the whole list of the value. The list may only
     /// have gained entries of the turn's number.
+    #[inline(always)]
     pub fn leave(&self, turn: Turn<S>) -> Seat<S>
         requires of { turn.seat.lock ≡ self.now }
         requires own { Adds S.number turn.seat.number turn.seat.front (S.list turn.value) }
@@ -105,61 +106,71 @@ impl<S: Stands> Lock<S> {
         }
     }
 
-    // Draws the ticket that is served, once nobody has it. It is never the last. No ticket waits in
-    // line, so a thread that waits and does not run holds up nobody.
-    fn draw<R: Wait>(&self, rt: &R, token: &mut Token<S>) -> u64
+    // Draws the ticket that is served, once nobody has it, and the turn begins. It is never the last. No
+    // ticket waits in line, so a thread that waits and does not run holds up nobody.
+    #[inline(always)]
+    fn win<R: Wait>(&self, rt: &R, token: &mut Token<S>) -> u64
         requires of { token.old.table_id ≡ self.now }
         requires idle { (token.old.me.1 ≡ []) × (token.old.me.0.tickets ≡ [])
             × (token.old.me.0.turn ≡ false) × (0 < token.old.me.0.parts) }
         ensures same { (token.new.table_id ≡ token.old.table_id) × (token.new.id ≡ token.old.id) }
         ensures fits { result < 2 ^ 64 - 1 }
-        ensures ticket { token.new.me ≡
-            (record token.old.me.0 { tickets = result ∷ []; note = None }, []) }
+        ensures turn { IsBegun S.list S.number result token.old.me token.new.me }
+    {
+        match self.try_win(token) {
+            Some(ticket) => ticket,
+            None => self.win_later(rt, token),
+        }
+    }
+
+    // The same, where somebody has a turn.
+    #[cold]
+    fn win_later<R: Wait>(&self, rt: &R, token: &mut Token<S>) -> u64
+        requires of { token.old.table_id ≡ self.now }
+        requires idle { (token.old.me.1 ≡ []) × (token.old.me.0.tickets ≡ [])
+            × (token.old.me.0.turn ≡ false) × (0 < token.old.me.0.parts) }
+        ensures same { (token.new.table_id ≡ token.old.table_id) × (token.new.id ≡ token.old.id) }
+        ensures fits { result < 2 ^ 64 - 1 }
+        ensures turn { IsBegun S.list S.number result token.old.me token.new.me }
     {
         let backoff = Backoff::new();
         for _ in rt.forever() {
-            let served = self.table.shared.peek(SERVING);
-            if served < u64::MAX && self.table.shared.peek(TICKET) == served {
-                let found = self
-                    .table
-                    .shared
-                    .compare_exchange::<Draw>(token, TICKET, served, served + 1);
-                if found == served {
-                    return found;
-                }
-            }
             backoff.snooze();
+            if let Some(ticket) = self.try_win(token) {
+                return ticket;
+            }
         }
         unreachable!()
     }
 
-    // Waits until the ticket is served, as it is already where `draw` gave it. The value is then out
-    // of the slot, with the seat.
-    fn wait_turn<R: Wait>(&self, rt: &R, token: &mut Token<S>, ticket: u64)
+    // Draws the ticket that is served, where nobody has it, unless it is the last.
+    #[inline(always)]
+    fn try_win(&self, token: &mut Token<S>) -> Option<u64>
         requires of { token.old.table_id ≡ self.now }
-        requires waits { (token.old.me.1 ≡ []) × (token.old.me.0.tickets ≡ ticket ∷ [])
+        requires idle { (token.old.me.1 ≡ []) × (token.old.me.0.tickets ≡ [])
             × (token.old.me.0.turn ≡ false) × (0 < token.old.me.0.parts) }
         ensures same { (token.new.table_id ≡ token.old.table_id) × (token.new.id ≡ token.old.id) }
-        ensures turn { (x : Option S) × (token.new.me ≡ (
-          record token.old.me.0
-              { turn = true; front = slot_list S.list x; shorter = [] },
-          (0, x) ∷ [],
-        ))
-            × Follows S.number token.old.me.0.names token.old.me.0.front (slot_list S.list x)
-            × IsSome x }
+        ensures fits { IfSome result (λ n. n < 2 ^ 64 - 1) }
+        ensures turn { IfSome result (λ n. IsBegun S.list S.number n token.old.me token.new.me) }
+        ensures none { result ≡ None → token.new.me ≡
+            (record token.old.me.0 { note = token.new.me.0.note }, []) }
     {
-        let backoff = Backoff::new();
-        for _ in rt.forever() {
-            let found = self.table.shared.load::<Look>(token, SERVING);
-            if found == ticket {
-                return;
-            }
-            backoff.snooze();
+        let served = self.table.shared.load::<Note>(token, SERVING);
+        if served == u64::MAX || self.table.shared.peek(TICKET) != served {
+            return None;
         }
-        unreachable!()
+        let found = self
+            .table
+            .shared
+            .compare_exchange::<Win>(token, TICKET, served, served + 1);
+        if found != served {
+            return None;
+        }
+        Some(served)
     }
 
     // Takes the value out of the slot, which is out with the seat.
+    #[inline(always)]
     fn take_out(&self, token: &mut Token<S>) -> S
         requires of { token.old.table_id ≡ self.now }
         requires there { (x : Option S) × (token.old.me.1 ≡ (0, x) ∷ []) × IsSome x }
@@ -174,6 +185,7 @@ impl<S: Stands> Lock<S> {
     }
 
     // Puts the value into the slot, which is out with the seat.
+    #[inline(always)]
     fn put_in(&self, token: &mut Token<S>, value: S)
         requires of { token.old.table_id ≡ self.now }
         requires out { token.old.me.1 ≡ (0, None) ∷ [] }
