@@ -37,6 +37,7 @@ impl<T: Tape> Model for Caller<T> {
 }
 
 /// Takes the member out of its caller, at the beginning of a call.
+#[inline(always)]
 pub(crate) fn take<T: Tape>(place: &mut Option<Member<T>>) -> Member<T>
     requires { IsThere place.old }
     ensures out { place.new ≡ None }
@@ -49,6 +50,7 @@ pub(crate) fn take<T: Tape>(place: &mut Option<Member<T>>) -> Member<T>
 }
 
 /// Gives the member back, at the end of the call. Nothing is dropped.
+#[inline(always)]
 pub(crate) fn give_back<T: Tape>(place: &mut Option<Member<T>>, member: Member<T>)
     requires { place.old ≡ None }
     ensures { place.new ≡ Some member }

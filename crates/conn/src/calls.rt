@@ -54,6 +54,7 @@ impl<T: Tape> Connection<T> {
 
     /// Asks something of the session. It waits for a turn, and for a second one where the call has to
     /// be copied, which is done between the two.
+    #[inline(always)]
     pub fn call<R: Wait>(&self, rt: &R, caller: &mut Caller<T>, call: &Call) -> Answer
         requires of { caller.old.of ≡ self.now }
         requires askable { CanBeAsked call.now }

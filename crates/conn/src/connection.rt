@@ -83,6 +83,7 @@ impl<T: Tape> Connection<T> {
 
     /// Rings where others may wait for what an event so answered left: also where the connection is
     /// parted or the peer counts as dead. Nobody waits for a draw, or for a moment alone.
+    #[inline(always)]
     pub(crate) fn announce(&self, answer: &Answer) {
         match answer {
             Answer::Drawn(_) | Answer::Quiet => {}

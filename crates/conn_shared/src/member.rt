@@ -38,6 +38,7 @@ impl<T: Tape> Model for Member<T> {
 
 impl<T: Tape> Member<T> {
     /// The member's seat.
+    #[inline(always)]
     pub(crate) fn into_seat(self) -> Seat<Stored<T>>
         ensures known { knows result ≡ self }
         ensures member { IsMember result }

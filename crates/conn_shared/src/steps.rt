@@ -21,6 +21,7 @@ use tape::{Answer, Event, Tape};
 impl<T: Tape> SharedSession<T> {
     /// Brings an event, which is no draw. It waits for a turn. An opening has a first frame exactly on
     /// a server, and frames can be spelled.
+    #[inline(always)]
     pub fn step<R: Wait>(&self, rt: &R, member: Member<T>, event: &Event) -> (Member<T>, Answer)
         requires of { member.of ≡ self.now }
         requires fair { CanBring self.now.settings event.now }
@@ -36,6 +37,7 @@ impl<T: Tape> SharedSession<T> {
     /// Brings an event as [`step`](SharedSession::step) does, and takes it, so that what a frame
     /// carries need not be copied. It serves whoever has the event for one call; `step` serves whoever
     /// brings it again.
+    #[inline(always)]
     pub fn bring<R: Wait>(&self, rt: &R, member: Member<T>, event: Event) -> (Member<T>, Answer)
         requires of { member.of ≡ self.now }
         requires fair { CanBring self.now.settings event }
@@ -50,6 +52,7 @@ impl<T: Tape> SharedSession<T> {
 
     // Asks in one turn, where nothing of the call has to be copied. `None` where something has to: the
     // member has seen a session whose tape is not full.
+    #[inline(always)]
     fn ask_at_once<R: Wait>(
         &self,
         rt: &R,
@@ -71,6 +74,7 @@ impl<T: Tape> SharedSession<T> {
     }
 
     // Brings a copy of a call, which is made before the turn and dropped after it.
+    #[cold]
     fn ask_by_copy<R: Wait>(&self, rt: &R, member: Member<T>, call: &Call) -> (Member<T>, Answer)
         requires of { member.of ≡ self.now }
         requires askable { CanBeAsked call.now }
@@ -88,6 +92,7 @@ impl<T: Tape> SharedSession<T> {
 
     /// Asks something of the session. It waits for a turn, and for a second one where the call has to
     /// be copied: the first turn finds that out, and the copy is made between the two.
+    #[inline(always)]
     pub fn ask<R: Wait>(&self, rt: &R, member: Member<T>, call: &Call) -> (Member<T>, Answer)
         requires of { member.of ≡ self.now }
         requires askable { CanBeAsked call.now }
@@ -103,6 +108,7 @@ impl<T: Tape> SharedSession<T> {
 
     /// Draws bytes that are due on a connection into the buffer, which has 1 to 4,294,967,295 bytes.
     /// It waits for a turn.
+    #[inline(always)]
     pub fn draw<R: Wait>(
         &self,
         rt: &R,

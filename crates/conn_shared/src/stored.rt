@@ -65,6 +65,7 @@ impl<T: Tape> Stored<T> {
     }
 
     /// One step of the session.
+    #[inline(always)]
     pub(crate) fn step(&mut self, who: u32, event: &Event) -> Answer
         requires fair { CanBring self.old.settings event.now }
         requires no_draw { IsNoDrawEvent event.now }
@@ -80,6 +81,7 @@ impl<T: Tape> Stored<T> {
     }
 
     /// One step of the session, which takes the event.
+    #[inline(always)]
     pub(crate) fn bring(&mut self, who: u32, event: Event) -> Answer
         requires fair { CanBring self.old.settings event }
         requires no_draw { IsNoDrawEvent event }
@@ -95,6 +97,7 @@ impl<T: Tape> Stored<T> {
     }
 
     /// One call of the session, where nothing of it has to be copied.
+    #[inline(always)]
     pub(crate) fn ask(&mut self, who: u32, call: &Call) -> Option<Answer>
         requires askable { CanBeAsked call.now }
         ensures step { IfSome result (λ a. IsStep self.old.settings who self.old.entries
@@ -112,6 +115,7 @@ impl<T: Tape> Stored<T> {
     }
 
     /// One draw of the session.
+    #[inline(always)]
     pub(crate) fn draw(&mut self, who: u32, conn: u64, buffer: &mut [u8]) -> Answer
         requires some { 0 < length buffer.old }
         requires few { length buffer.old < 2 ^ 32 }

@@ -22,6 +22,7 @@ use tape::{Answer, Event, Tape};
 
 impl<T: Tape> SharedSession<T> {
     /// Waits for a turn, in which the session has gone on from what the seat has seen.
+    #[inline(always)]
     pub(crate) fn enter<R: Wait>(&self, rt: &R, seat: Seat<Stored<T>>) -> Turn<Stored<T>>
         requires of { seat.lock ≡ self.now.lock }
         requires settings { settings_in seat.front ≡ self.now.settings }
@@ -61,6 +62,7 @@ impl<T: Tape> SharedSession<T> {
     }
 
     // Gives a turn back, in which the session has gained entries of the turn's number alone.
+    #[inline(always)]
     fn leave(&self, turn: Turn<Stored<T>>) -> Seat<Stored<T>>
         requires of { turn.seat.lock ≡ self.now.lock }
         requires settings { turn.value.settings ≡ self.now.settings }
@@ -79,6 +81,7 @@ impl<T: Tape> SharedSession<T> {
     }
 
     /// One step in a turn, which is then over.
+    #[inline(always)]
     pub(crate) fn step_in(&self, turn: Turn<Stored<T>>, event: &Event) -> (Seat<Stored<T>>, Answer)
         requires of { turn.seat.lock ≡ self.now.lock }
         requires settings { turn.value.settings ≡ self.now.settings }
@@ -101,6 +104,7 @@ impl<T: Tape> SharedSession<T> {
     }
 
     /// One step in a turn, which is then over, and takes the event.
+    #[inline(always)]
     pub(crate) fn bring_in(&self, turn: Turn<Stored<T>>, event: Event) -> (Seat<Stored<T>>, Answer)
         requires of { turn.seat.lock ≡ self.now.lock }
         requires settings { turn.value.settings ≡ self.now.settings }
@@ -123,6 +127,7 @@ impl<T: Tape> SharedSession<T> {
     }
 
     /// One call in a turn, which is then over, where nothing of the call has to be copied.
+    #[inline(always)]
     pub(crate) fn ask_in(
         &self,
         turn: Turn<Stored<T>>,
@@ -150,6 +155,7 @@ impl<T: Tape> SharedSession<T> {
     }
 
     /// One draw in a turn, which is then over.
+    #[inline(always)]
     pub(crate) fn draw_in(
         &self,
         turn: Turn<Stored<T>>,

@@ -44,6 +44,7 @@ impl Parts {
     }
 
     /// Makes room for what comes on a stream.
+    #[inline(always)]
     pub fn reserve(&mut self, stream: u32) -> Result<(), OutOfMemory>
         ensures limits { self.new.table.limits ≡ self.old.table.limits }
         ensures known { known_of self.new ≡ known_of self.old }

@@ -55,6 +55,7 @@ impl<T: Drop> Queue<T> {
     }
 
     /// What waits first.
+    #[inline(always)]
     pub fn front(&self) -> Option<&T>
         ensures { option_copied result ≡ front_of self.now.items }
     {
@@ -62,6 +63,7 @@ impl<T: Drop> Queue<T> {
     }
 
     /// Makes room for `n` items more.
+    #[inline(always)]
     pub fn reserve(&mut self, n: usize) -> Result<(), OutOfMemory>
         ensures items { self.new.items ≡ self.old.items }
         ensures room { OnOk result (n ≤ self.new.room) }
@@ -72,6 +74,7 @@ impl<T: Drop> Queue<T> {
     }
 
     /// One item more waits, as the last.
+    #[inline(always)]
     pub fn push(&mut self, item: T)
         requires { 0 < self.old.room }
         ensures items { self.new.items ≡ self.old.items ++ item ∷ [] }
@@ -92,6 +95,7 @@ impl<T: Drop> Queue<T> {
     }
 
     /// Takes what waits first.
+    #[inline(always)]
     pub fn pop(&mut self) -> Option<T>
         ensures items { self.old.items ≡ option_to_list result ++ self.new.items }
         ensures front { result ≡ front_of self.old.items }

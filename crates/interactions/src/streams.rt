@@ -73,6 +73,7 @@ impl Streams {
     }
 
     /// Makes room for one arrival on a stream. It lasts until the next arrival or act.
+    #[inline(always)]
     pub fn reserve(&mut self, stream: u32) -> Result<(), OutOfMemory>
         ensures after { OnOk result (self.new ≡ record self.old { ready = Some stream }) }
         ensures err { OnErr result (self.new ≡ self.old) }
@@ -100,6 +101,7 @@ impl Streams {
 
     /// Takes what waits first on a stream: `None` exactly where nothing waits. The room for an
     /// arrival stays.
+    #[inline(always)]
     pub fn take(&mut self, stream: u32) -> Option<Delivery>
         ensures first { result ≡ front_of ((known_to self.old).waits stream) }
         ensures after { self.new ≡ record self.old {

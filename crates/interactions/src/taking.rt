@@ -11,6 +11,7 @@ use rs_wire::{Delivery, Job};
 
 impl Parts {
     /// Takes what waits first on a stream.
+    #[inline(always)]
     pub fn take(&mut self, stream: u32) -> Option<Delivery>
         ensures front { result ≡ front_of ((known_of self.old).waits stream) }
         ensures limits { self.new.table.limits ≡ self.old.table.limits }
@@ -22,6 +23,7 @@ impl Parts {
     }
 
     /// Takes the job that waits first.
+    #[inline(always)]
     pub fn take_job(&mut self) -> Option<Job>
         ensures front { result ≡ front_of (known_of self.old).jobs }
         ensures limits { self.new.table.limits ≡ self.old.table.limits }

@@ -75,6 +75,7 @@ impl Waits {
     }
 
     /// Makes room for `n` deliveries of a stream.
+    #[inline(always)]
     pub fn reserve(&mut self, stream: u32, n: usize) -> Result<(), OutOfMemory>
         ensures waits { (s : ℕ) → waits_at self.new s ≡ waits_at self.old s }
         ensures place { OnOk result (0 < self.new.place) }
@@ -145,6 +146,7 @@ impl Waits {
 
     /// Takes what waits first on a stream. A queue that is empty then is let go, or becomes the
     /// fresh one where it has more room: so no room is lost.
+    #[inline(always)]
     pub fn pop(&mut self, stream: u32) -> Option<Delivery>
         ensures front { result ≡ front_of (waits_at self.old stream) }
         ensures waits { waits_at self.old stream

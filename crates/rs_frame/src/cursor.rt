@@ -83,6 +83,7 @@ pub fn is_stream(n: u32) -> bool
 }
 
 /// Appends bytes for which there is room.
+#[inline(always)]
 pub fn put(out: &mut Vec<u8>, bytes: &[u8])
     requires { vec_len out.old + length bytes.now ≤ vec_capacity out.old }
     ensures items { out.new.items ≡ out.old.items ++ bytes.now }

@@ -48,6 +48,7 @@ pub fn owned_option(alloc: Global, bytes: Option<&[u8]>) -> Result<Option<Blob>,
 }
 
 /// The payload as a message.
+#[inline(always)]
 pub fn owned(alloc: Global, parts: Parts<'_>) -> Result<Message, OutOfMemory>
     ensures { IfOk result (λ m. m ≡ parts_view parts.entry) }
 {

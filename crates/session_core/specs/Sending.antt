@@ -78,3 +78,12 @@ spoken_after s asked n parts = record s {
   streams = acted s.streams asked;
   parts = parts;
 }
+
+-- a call whose copy takes memory
+abbrev pub carries_bytes : Call → Bool
+carries_bytes (call.Request kind initial message complete) = true
+carries_bytes (call.Next s message complete) = true
+carries_bytes (call.Fail s code content) = true
+carries_bytes (call.Push metadata) = true
+carries_bytes (call.Lease ttl count metadata) = true
+carries_bytes _ = false

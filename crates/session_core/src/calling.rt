@@ -1,17 +1,20 @@
 //! What a caller asks of a session, which keeps its call.
 
-ghost use Rattle.std.specs.Prelude.{◌≡◌, ◌≢◌, ◌+◌, ◌<◌, ◌≤◌, ◌^◌, ◌↔◌, IfSome, None, Some, length};
+ghost use Rattle.std.specs.Prelude.{◌≡◌, ◌≢◌, ◌+◌, ◌<◌, ◌≤◌, ◌^◌, ◌↔◌, IfSome, None, Some, length, true};
 ghost use Rattle.rs_wire.specs.Calls.{CanBeAsked};
 ghost use Rattle.tape.specs.declared.event.Event.TheVariants as events;
 ghost use Rattle.session_model.specs.Answers.{answer_to};
 ghost use Rattle.session_core.specs.Seen.{IsUnlessWant, entries_after};
+ghost use Rattle.session_core.specs.Sending.{carries_bytes};
 
 use crate::session::{FULL, Session};
-use rs_wire::Call;
+use rs_wire::{Call, OutOfMemory};
 use tape::{Answer, Event, Tape};
 
 // A call whose copy takes memory.
-fn carries_bytes(call: &Call) -> bool {
+fn carries_bytes(call: &Call) -> bool
+    ensures { result ≡ carries_bytes call.now }
+{
     match call {
         Call::Request { .. }
         | Call::Next { .. }
@@ -30,6 +33,7 @@ fn carries_bytes(call: &Call) -> bool {
 impl<T: Tape> Session<T> {
     // The answer to a call that has a way of its own, in which nothing of it is copied: a take where
     // something waits, or what goes out in one frame. `None` of any other call: nothing has changed.
+    #[inline(always)]
     pub(crate) fn ask_shortly(&mut self, who: u32, call: &Call) -> Option<Answer>
         requires askable { CanBeAsked call.now }
         requires not_full { length self.old.entries < 2 ^ 63 }
@@ -51,9 +55,30 @@ impl<T: Tape> Session<T> {
         }
     }
 
+    // Answers a copy of a call, by the way that serves for all.
+    #[inline(never)]
+    fn answer_copy(&mut self, who: u32, call: &Call) -> Answer
+        requires askable { CanBeAsked call.now }
+        requires not_full { length self.old.entries < 2 ^ 63 }
+        ensures answer { IsUnlessWant result
+            (answer_to self.old.settings self.old.entries (events.Asked call.now)) }
+        ensures not_full { result ≢ Answer.TapeFull }
+        ensures after { self.new ≡ record self.old {
+          entries = entries_after who (events.Asked call.now) result self.old.entries;
+          spare = self.new.spare;
+        } }
+        ensures spare { self.old.spare ≤ self.new.spare + 1 }
+    {
+        match call.copy(self.alloc) {
+            Ok(call) => self.answer(who, &Event::Asked(call)),
+            Err(OutOfMemory) => Answer::OutOfMemory,
+        }
+    }
+
     /// Answers a call as [`Session::step`] answers the event of it, where nothing has to be copied but
     /// what a tape keeps. `None` comes of a call that carries bytes, where they have to be copied, and
     /// never at a full tape: nothing has changed, and `step` answers a copy of it.
+    #[inline(always)]
     pub fn ask(&mut self, who: u32, call: &Call) -> Option<Answer>
         requires askable { CanBeAsked call.now }
         ensures answer { IfSome result (λ a. IsUnlessWant a
@@ -64,6 +89,7 @@ impl<T: Tape> Session<T> {
           entries = entries_after who (events.Asked call.now) a self.old.entries;
           spare = self.new.spare;
         }) }
+        ensures carries { result ≡ None → carries_bytes call.now ≡ true }
         ensures not_full { result ≡ None → length self.old.entries < 2 ^ 63 }
         ensures none { result ≡ None → self.new ≡ self.old }
         ensures spare { self.old.spare ≤ self.new.spare + 1 }
@@ -71,15 +97,10 @@ impl<T: Tape> Session<T> {
         if self.tape.count() >= FULL {
             return Some(Answer::TapeFull);
         }
-        if let Some(answer) = self.ask_shortly(who, call) {
-            return Some(answer);
+        let asked = self.ask_shortly(who, call);
+        if asked.is_some() || carries_bytes(call) {
+            return asked;
         }
-        if carries_bytes(call) {
-            return None;
-        }
-        match call.copy(self.alloc) {
-            Ok(call) => Some(self.answer(who, &Event::Asked(call))),
-            Err(_) => Some(Answer::OutOfMemory),
-        }
+        Some(self.answer_copy(who, call))
     }
 }

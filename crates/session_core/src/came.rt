@@ -55,12 +55,12 @@ fn answer_spends(settings: &Checked, state: &State, request: &Request) -> bool
     }
 }
 
-// A message of this size is taken in, and has too many bytes.
-fn too_large(settings: &Checked, taken: bool, size: u64) -> Option<Rule>
-    ensures { result ≡ (if taken && nat_lt settings.now.max_payload size then
+// A message of this size has too many bytes.
+fn too_large(settings: &Checked, size: u64) -> Option<Rule>
+    ensures { result ≡ (if nat_lt settings.now.max_payload size then
         Some (Rule.TooLarge size) else None) }
 {
-    if taken && size > u64::from(settings.settings().max_payload) {
+    if size > u64::from(settings.settings().max_payload) {
         return Some(Rule::TooLarge(size));
     }
     None
@@ -83,7 +83,7 @@ fn broken_request(
     if !state.streams.is_peers_next(request.stream) {
         return Some(Rule::StreamId(request.stream));
     }
-    if let Some(rule) = too_large(settings, true, request.message.size()) {
+    if let Some(rule) = too_large(settings, request.message.size()) {
         return Some(rule);
     }
     if spends(settings, state, frame) || answer_spends(settings, state, request) {
@@ -126,7 +126,9 @@ fn broken_payload(
         return Some(rule);
     }
     let size = state.parts.size_with(stream, message);
-    if let Some(rule) = too_large(settings, state.streams.hears(stream), size) {
+    if let Some(rule) = too_large(settings, size)
+        && state.streams.hears(stream)
+    {
         return Some(rule);
     }
     only_position(settings, state, frame)

@@ -134,6 +134,7 @@ fn called_on(id: u32, call: &Call) -> Option<u32>
 }
 
 /// The stream on which an event and its answer say something, or on which something is taken.
+#[inline(always)]
 pub fn touches(answer: &Answer, event: &Event) -> Option<u32>
     ensures { result ≡ touches answer.now event.now }
 {
@@ -147,6 +148,7 @@ pub fn touches(answer: &Answer, event: &Event) -> Option<u32>
 }
 
 /// Drops what is gathered on a stream where the peer's messages are not taken in.
+#[inline(always)]
 pub fn let_stream_go(parts: &mut Reassembly, streams: &Streams, stream: u32)
     ensures heard { (s : ℕ) → hears_on ((known_to streams.now).kept s) ≡ true →
         gathered_at parts.new s ≡ gathered_at parts.old s }

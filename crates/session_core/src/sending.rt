@@ -170,6 +170,7 @@ impl State {
     }
 
     // Applies a call on a stream that makes one frame of this length, for which room was made.
+    #[inline(always)]
     fn speak_once(&mut self, call: &Call, on: u32, length: u32)
         requires acts { Acts self.old.streams call.now }
         requires frames { self.old.made.frames < 2 ^ 63 }
@@ -188,6 +189,7 @@ impl State {
 impl<T: Tape> Session<T> {
     /// Sends a request or a payload that goes out in one frame, where neither resumption nor leases are
     /// agreed. `None` where the call isn't such a one, or is refused: nothing has changed.
+    #[inline(always)]
     pub(crate) fn send(&mut self, who: u32, call: &Call) -> Option<Answer>
         requires askable { CanBeAsked call.now }
         requires not_full { length self.old.entries < 2 ^ 63 }

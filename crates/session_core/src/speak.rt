@@ -61,6 +61,7 @@ fn speaks_on(answer: &Answer, event: &Event) -> Option<u32>
 }
 
 /// Makes room for what an event and its answer say.
+#[inline(always)]
 pub fn make_room(streams: &mut Streams, event: &Event, answer: &Answer) -> Result<(), OutOfMemory>
     ensures same { streams.new ≡ record streams.old { ready = streams.new.ready } }
     ensures room { OnOk result (FindsRoom

@@ -19,6 +19,7 @@ use tape::{Answer, Tape};
 
 impl State {
     // Takes the delivery that waits first on a stream.
+    #[inline(always)]
     fn take(&mut self, stream: u32) -> Option<Delivery>
         requires heard { IsOfHeard (known_to self.old.streams) self.old.parts }
         ensures first { result ≡ front_of ((known_to self.old.streams).waits stream) }
@@ -31,6 +32,7 @@ impl State {
     }
 
     // Takes the job that waits first.
+    #[inline(always)]
     fn take_job(&mut self) -> Option<Job>
         requires heard { IsOfHeard (known_to self.old.streams) self.old.parts }
         ensures first { result ≡ front_of (known_to self.old.streams).jobs }
@@ -44,6 +46,7 @@ impl State {
 impl<T: Tape> Session<T> {
     /// Answers a take on a stream where something waits, and hands it out: only a tape that keeps its
     /// entries copies it. `None` where nothing waits: nothing has changed.
+    #[inline(always)]
     pub(crate) fn take(&mut self, who: u32, stream: u32) -> Option<Answer>
         requires not_full { length self.old.entries < 2 ^ 63 }
         ensures answer { IfSome result (λ a. IsUnlessWant a (answer_to self.old.settings
@@ -69,6 +72,7 @@ impl<T: Tape> Session<T> {
 
     /// Answers a take of a job where one waits, and hands it out as [`Session::take`] does. `None`
     /// where none waits: nothing has changed.
+    #[inline(always)]
     pub(crate) fn take_job(&mut self, who: u32) -> Option<Answer>
         requires not_full { length self.old.entries < 2 ^ 63 }
         ensures answer { IfSome result (λ a. IsUnlessWant a (answer_to self.old.settings
