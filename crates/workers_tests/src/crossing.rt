@@ -2,8 +2,10 @@
 
 ghost use Rattle.std.specs.Prelude.{◌≡◌};
 
-use crate::trial::{comes, connected, open, routes};
+use crate::trial::{blob, comes, connected, open, routes};
 use conn::{Caller, Connection};
+use handlers::{Handler, Law, Produced, Routes, Stored};
+use rs_wire::{Blob, Kind};
 use std::alloc::Global;
 use std::process::Abort;
 use std::sync::Wait;
@@ -12,21 +14,26 @@ use std::thread::{Threads, join, yield_now};
 use tape::Tape;
 use workers::{Gate, Work, Worked, serve_job};
 
-/// How often a gate looks before it gives up.
-const MOST_LOOKS: u32 = 100_000_000;
+/// How often stream 1 looks before it gives up.
+const MOST_LOOKS: u32 = 10_000_000;
 
 /// Holds stream 1 until stream 3 is answered.
 #[derive(Drop)]
-struct HeldGate {
+struct Hold {
     answered: AtomicBool,
     gave_up: AtomicBool,
 }
 
-impl Gate for HeldGate {
-    fn before(&self, stream: u32) {
-        if stream != 1 {
-            return;
+impl Hold {
+    fn new() -> Hold {
+        Hold {
+            answered: AtomicBool::new(false),
+            gave_up: AtomicBool::new(false),
         }
+    }
+
+    // Waits until stream 3 is answered, or gives up.
+    fn wait(&self) {
         for _ in 0..MOST_LOOKS {
             if self.answered.load(Ordering::SeqCst) {
                 return;
@@ -36,38 +43,136 @@ impl Gate for HeldGate {
         self.gave_up.store(true, Ordering::SeqCst);
     }
 
-    fn after(&self, stream: u32) {
+    // This stream is answered.
+    fn note(&self, stream: u32) {
         if stream == 3 {
             self.answered.store(true, Ordering::SeqCst);
         }
     }
 }
 
+/// Holds stream 1 before its handler is asked.
+#[derive(Drop)]
+struct HeldGate<'a> {
+    hold: &'a Hold,
+}
+
+impl Gate for HeldGate<'_> {
+    fn before(&self, stream: u32) {
+        if stream == 1 {
+            self.hold.wait();
+        }
+    }
+
+    fn after(&self, stream: u32) {
+        self.hold.note(stream);
+    }
+}
+
+/// Holds nothing, but tells what is answered.
+#[derive(Drop)]
+struct TellingGate<'a> {
+    hold: &'a Hold,
+}
+
+impl Gate for TellingGate<'_> {
+    fn before(&self, _stream: u32) {}
+
+    fn after(&self, stream: u32) {
+        self.hold.note(stream);
+    }
+}
+
+/// Echoes, and holds the content `a`, that of stream 1, while it is asked.
+#[derive(Drop)]
+struct HeldEcho<'a> {
+    hold: &'a Hold,
+}
+
+impl Handler for HeldEcho<'_> {
+    ghost use Rattle.handlers.specs.declared.law.Law.TheVariants as law;
+    ghost use Rattle.handlers.specs.Values.{value};
+
+    ghost gives = { λ _ content index. value law.Echo content index };
+
+    fn call(&self, alloc: Global, content: &Blob, index: u64) -> Produced {
+        if content.as_slice() == b"a".as_slice() {
+            self.hold.wait();
+        }
+        Law::Echo.call(alloc, content, index)
+    }
+}
+
 // Whether a response of one item was served.
-fn serves_one<R: Abort + Wait, T: Tape, G: Gate>(
+fn serves_one<R: Wait, T: Tape, F: Handler, G: Gate>(
     rt: &R,
     alloc: Global,
     connection: &Connection<T>,
     caller: Caller<T>,
+    routes: &Routes<F>,
     gate: &G,
 ) -> bool
     requires { caller.of ≡ connection.now }
 {
     let mut caller = caller;
-    let routes = routes(rt, alloc);
     let mut work = Work::new(alloc);
-    let worked = serve_job(rt, alloc, connection, &mut caller, &routes, gate, &mut work);
+    let worked = serve_job(rt, alloc, connection, &mut caller, routes, gate, &mut work);
     matches!(worked, Worked::Served { items: 1, .. })
 }
 
+/// Where stream 1 is held.
+#[derive(Clone, Copy)]
+enum Held {
+    /// Before its handler is asked.
+    Before,
+    /// While its handler is asked.
+    Within,
+}
+
+// Whether a worker serves a response, where stream 1 is held so.
+fn serves_held<R: Abort + Wait, T: Tape>(
+    rt: &R,
+    alloc: Global,
+    connection: &Connection<T>,
+    caller: Caller<T>,
+    held: Held,
+    hold: &Hold,
+) -> bool
+    requires { caller.of ≡ connection.now }
+{
+    match held {
+        Held::Before => {
+            let gate = HeldGate { hold };
+            serves_one(rt, alloc, connection, caller, &routes(rt, alloc), &gate)
+        }
+        Held::Within => {
+            let mut routes = Routes::new(alloc);
+            let stored = Stored::new(Law::Echo, HeldEcho { hold });
+            match routes.add(blob(rt, alloc, b"echo"), Kind::Response, stored) {
+                Ok(()) => {}
+                Err(_) => panic!(rt; "there is memory, and no route is added twice"),
+            }
+            serves_one(
+                rt,
+                alloc,
+                connection,
+                caller,
+                &routes,
+                &TellingGate { hold },
+            )
+        }
+    }
+}
+
 // Whether two workers serve a response each, in two threads.
-fn serve_in_two<R: Abort + Threads + Wait + Sync, T: Tape + Send, G: Gate + Sync>(
+fn serve_in_two<R: Abort + Threads + Wait + Sync, T: Tape + Send>(
     rt: &R,
     alloc: Global,
     connection: &Connection<T>,
     first: Caller<T>,
     second: Caller<T>,
-    gate: &G,
+    held: Held,
+    hold: &Hold,
 ) -> (bool, bool)
     requires first { first.of ≡ connection.now }
     requires second { second.of ≡ connection.now }
@@ -76,10 +181,10 @@ fn serve_in_two<R: Abort + Threads + Wait + Sync, T: Tape + Send, G: Gate + Sync
         rt,
         || -> bool
             requires { first.of ≡ connection.now }
-        { serves_one(rt, alloc, connection, first, gate) },
+        { serves_held(rt, alloc, connection, first, held, hold) },
         || -> bool
             requires { second.of ≡ connection.now }
-        { serves_one(rt, alloc, connection, second, gate) },
+        { serves_held(rt, alloc, connection, second, held, hold) },
     )
 }
 
@@ -95,32 +200,39 @@ fn one_more<R: Abort + Wait, T: Tape>(
     connection.split(rt, caller).expect(rt, "there are parts")
 }
 
-#[test]
-fn a_handler_is_held_while_another_job_is_answered(rt: HostRuntime) {
-    let alloc = rt.alloc();
-    let (connection, mut caller) = connected(&rt, alloc);
-    open(&rt, alloc, &connection, &mut caller);
+// Requests come on streams 1 and 3, and each of two workers serves one: the one of stream 1 goes on
+// once that of stream 3 is answered.
+fn cross<R: Abort + Threads + Wait + Sync>(rt: &R, alloc: Global, held: Held) {
+    let (connection, mut caller) = connected(rt, alloc);
+    open(rt, alloc, &connection, &mut caller);
     comes(
-        &rt,
+        rt,
         alloc,
         &connection,
         &mut caller,
         b"\x00\x00\x00\x01\x11\x00\x00\x00\x04echoa",
     );
     comes(
-        &rt,
+        rt,
         alloc,
         &connection,
         &mut caller,
         b"\x00\x00\x00\x03\x11\x00\x00\x00\x04echob",
     );
-    let other = one_more(&rt, &connection, &mut caller);
-    let gate = HeldGate {
-        answered: AtomicBool::new(false),
-        gave_up: AtomicBool::new(false),
-    };
-    let served = serve_in_two(&rt, alloc, &connection, caller, other, &gate);
+    let other = one_more(rt, &connection, &mut caller);
+    let hold = Hold::new();
+    let served = serve_in_two(rt, alloc, &connection, caller, other, held, &hold);
     assert!(rt; served.0);
     assert!(rt; served.1);
-    assert!(rt; !gate.gave_up.load(Ordering::SeqCst));
+    assert!(rt; !hold.gave_up.load(Ordering::SeqCst));
+}
+
+#[test]
+fn a_job_is_held_before_its_handler_while_another_is_answered(rt: HostRuntime) {
+    cross(&rt, rt.alloc(), Held::Before);
+}
+
+#[test]
+fn a_handler_is_held_while_another_job_is_answered(rt: HostRuntime) {
+    cross(&rt, rt.alloc(), Held::Within);
 }

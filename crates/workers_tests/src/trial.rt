@@ -88,7 +88,8 @@ pub fn connected<R: Abort>(rt: &R, alloc: Global) -> (Connection<Blank>, Caller<
     }
 }
 
-fn blob<R: Abort>(rt: &R, alloc: Global, bytes: &[u8]) -> Blob {
+/// The bytes.
+pub fn blob<R: Abort>(rt: &R, alloc: Global, bytes: &[u8]) -> Blob {
     Blob::from_slice(alloc, bytes).expect(rt, "there is memory")
 }
 
