@@ -10,13 +10,11 @@ use session_core::Session;
 use std::alloc::Global;
 use std::sync::{Mutex, Wait};
 use std::thread::{Threads, join};
-use tape::{Event, Tape};
+use tape::Tape;
 
 /// What each thread does.
 #[derive(Drop)]
 pub struct Work {
-    /// Where calls are copied to.
-    pub alloc: Global,
     /// What it asks.
     pub call: Call,
     /// How often.
@@ -29,7 +27,7 @@ impl Work {
         ensures { IfOk result (λ w. CanBeAsked w.call) }
     {
         let call = Call::fire_and_forget(Blob::from_slice(alloc, b"hi")?);
-        Ok(Work { alloc, call, times })
+        Ok(Work { call, times })
     }
 }
 
@@ -38,21 +36,16 @@ pub fn step_often<T: Tape>(session: &mut Session<T>, work: &Work)
     requires { CanBeAsked work.now.call }
 {
     for _ in 0..work.times {
-        if let Ok(asked) = work.call.copy(work.alloc) {
-            session.step(0, &Event::Asked(asked));
-        }
+        session.ask(0, &work.call);
     }
 }
 
-/// Asks a session under a mutex. The call is copied before the mutex is taken.
+/// Asks a session under a mutex.
 pub fn lock_often<R: Wait, T: Tape>(rt: &R, mutex: &Mutex<Session<T>>, work: &Work)
     requires { CanBeAsked work.now.call }
 {
     for _ in 0..work.times {
-        if let Ok(asked) = work.call.copy(work.alloc) {
-            let event = Event::Asked(asked);
-            mutex.lock(rt).step(0, &event);
-        }
+        mutex.lock(rt).ask(0, &work.call);
     }
 }
 

@@ -145,12 +145,10 @@ impl End {
         self.turn(rt)
     }
 
-    /// A caller asks something.
-    pub fn ask<R: Wait>(&mut self, rt: &R, call: Call) -> Result<Said>
-        requires { CanBeAsked call }
+    /// A caller asks something. `None` where the end refuses.
+    pub fn ask<R: Wait>(&mut self, rt: &R, call: &Call) -> Option<Said>
+        requires { CanBeAsked call.now }
     {
-        let answer = self.connection.call(rt, &mut self.caller, &call);
-        let said = said_by(&answer).context("an end refuses")?;
-        Ok(said)
+        said_by(&self.connection.call(rt, &mut self.caller, call))
     }
 }

@@ -4,7 +4,7 @@ ghost use Rattle.rs_wire.specs.Calls.{CanBeAsked};
 
 use crate::asks::{next, request_response, request_stream, respond, take_job, take_next};
 use crate::pumps::end::{End, Said};
-use anyhow::{Result, bail, ensure};
+use anyhow::{Context, Result, ensure};
 use rs_wire::{Blob, Call};
 use std::alloc::Global;
 use std::sync::Wait;
@@ -51,58 +51,56 @@ fn request(shape: Shape, content: Blob) -> Call
 }
 
 // The client makes a request: on which stream.
-fn ask<R: Wait>(rt: &R, alloc: Global, client: &mut End, run: Run) -> Result<u32> {
-    let content = Blob::from_slice(alloc, run.item)?;
-    match client.ask(rt, request(run.shape, content))? {
-        Said::Started(stream) => Ok(stream),
-        said => bail!("a request is {said:?}"),
+fn ask<R: Wait>(rt: &R, alloc: Global, client: &mut End, run: Run) -> Option<u32> {
+    let content = Blob::from_slice(alloc, run.item).ok()?;
+    match client.ask(rt, &request(run.shape, content))? {
+        Said::Started(stream) => Some(stream),
+        _ => None,
     }
 }
 
 // The client makes a batch of requests: on which stream the first is.
 fn ask_all<R: Wait>(rt: &R, alloc: Global, client: &mut End, run: Run) -> Result<u32> {
-    let first = ask(rt, alloc, client, run)?;
+    let first = ask(rt, alloc, client, run).context("a request is not started")?;
     for _ in 1..run.batch {
-        ask(rt, alloc, client, run)?;
+        let started = ask(rt, alloc, client, run).is_some();
+        ensure!(started, "a request is not started");
     }
     client.turn(rt)?;
     Ok(first)
 }
 
 // The server takes a request: on which stream.
-fn take_request<R: Wait>(rt: &R, server: &mut End) -> Result<u32> {
-    match server.ask(rt, take_job())? {
-        Said::Asked(stream) => Ok(stream),
-        said => bail!("a job is {said:?}"),
+fn take_request<R: Wait>(rt: &R, server: &mut End) -> Option<u32> {
+    match server.ask(rt, &take_job())? {
+        Said::Asked(stream) => Some(stream),
+        _ => None,
     }
 }
 
 // The server sends an item on a stream, or answers the request that it takes.
-fn send<R: Wait>(rt: &R, alloc: Global, server: &mut End, stream: u32, run: Run) -> Result<()> {
-    let content = Blob::from_slice(alloc, run.item)?;
-    let said = match run.shape {
+fn send<R: Wait>(rt: &R, alloc: Global, server: &mut End, stream: u32, run: Run) -> Option<Said> {
+    let content = Blob::from_slice(alloc, run.item).ok()?;
+    match run.shape {
         Shape::Response => {
             let stream = take_request(rt, server)?;
-            server.ask(rt, respond(stream, content))?
+            server.ask(rt, &respond(stream, content))
         }
-        Shape::Stream => server.ask(rt, next(stream, content))?,
-    };
-    ensure!(said == Said::Done, "an item is {said:?}");
-    Ok(())
+        Shape::Stream => server.ask(rt, &next(stream, content)),
+    }
 }
 
 fn send_all<R: Wait>(rt: &R, alloc: Global, server: &mut End, stream: u32, run: Run) -> Result<()> {
     for _ in 0..run.batch {
-        send(rt, alloc, server, stream, run)?;
+        let said = send(rt, alloc, server, stream, run);
+        ensure!(said == Some(Said::Done), "an item is {said:?}");
     }
     server.turn(rt)
 }
 
 // The client takes what came on a stream.
-fn take<R: Wait>(rt: &R, client: &mut End, stream: u32, wanted: Said) -> Result<()> {
-    let said = client.ask(rt, take_next(stream))?;
-    ensure!(said == wanted, "a take is {said:?}");
-    Ok(())
+fn take<R: Wait>(rt: &R, client: &mut End, stream: u32, wanted: Said) -> bool {
+    client.ask(rt, &take_next(stream)) == Some(wanted)
 }
 
 // The client takes a batch of items of a stream, or of responses, whose streams are every second
@@ -110,9 +108,11 @@ fn take<R: Wait>(rt: &R, client: &mut End, stream: u32, wanted: Said) -> Result<
 fn take_all<R: Wait>(rt: &R, client: &mut End, first: u32, run: Run) -> Result<()> {
     let mut stream = first;
     for _ in 0..run.batch {
-        take(rt, client, stream, Said::Item)?;
+        let taken = take(rt, client, stream, Said::Item);
+        ensure!(taken, "no item is taken");
         if run.shape == Shape::Response {
-            take(rt, client, stream, Said::Complete)?;
+            let ended = take(rt, client, stream, Said::Complete);
+            ensure!(ended, "no end is taken");
             stream = stream.saturating_add(2);
         }
     }
@@ -162,10 +162,10 @@ fn begin<R: Wait>(
     if run.shape == Shape::Response {
         return Ok(0);
     }
-    ask(rt, alloc, client, run)?;
+    ask(rt, alloc, client, run).context("the stream is not started")?;
     client.turn(rt)?;
     server.receive(rt, client)?;
-    take_request(rt, server)
+    take_request(rt, server).context("no job is taken")
 }
 
 /// Items cross between two new ends.
