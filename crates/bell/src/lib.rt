@@ -154,6 +154,3 @@ impl Default for Bell {
         Bell::new()
     }
 }
-
-#[cfg(test)]
-mod tests;

@@ -11,6 +11,3 @@
 mod queue;
 
 pub use queue::ByteQueue;
-
-#[cfg(test)]
-mod tests;

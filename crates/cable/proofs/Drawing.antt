@@ -17,7 +17,7 @@ use Rattle.session_model.specs.Life.{is_live, live}
 use Rattle.session_model.specs.Frames.{drawn, draws, due, given, queued}
 use Rattle.session_model.specs.Answers.{answer_to, facts}
 use Rattle.session_core.specs.Queued.{IfDrawn}
-use Rattle.session_core.specs.Seen.{Seen, IsUnlessWant, entries_after}
+use Rattle.session_core.specs.Seen.{Seen, IsOrOutOfMemory, entries_after}
 use Rattle.session_model.proofs.Queue.{drawn_owes}
 use Rattle.cable.specs.declared.carrying.Most.{Most}
 use Rattle.cable.specs.declared.carrying.Left.{Left}
@@ -35,14 +35,14 @@ unfolding facts
 fills g past c room here some fits = filling (is_live (live past) c) room (queued g past) (live past) here some fits
 
 pub filled : (v w : Seen) (c room : ℕ) (a : Answer) (buffer : List ℕ) → is_live (live v.entries) c ≡ true → 0 < room → room ≤ queued v.settings v.entries → IsNoWant a
-    → IsUnlessWant a (answer_to v.settings v.entries (event.Draw c room))
+    → IsOrOutOfMemory a (answer_to v.settings v.entries (event.Draw c room))
     → IfDrawn a (λ k. take k buffer ≡ take k (drop (drawn v.entries c) (framed_all (due v.settings v.entries c))))
     → w ≡ record v { entries = entries_after 0 (event.Draw c room) a v.entries; spare = w.spare }
     → Filled c v w room buffer
 filled v w c room a buffer h1 h2 h3 h4 h5 h6 h7 = grind (arith, common_steps, fills)
 
 pub staled : (v w : Seen) (c room : ℕ) (a : Answer) → is_live (live v.entries) c ≡ false → IsNoWant a
-    → IsUnlessWant a (answer_to v.settings v.entries (event.Draw c room))
+    → IsOrOutOfMemory a (answer_to v.settings v.entries (event.Draw c room))
     → w ≡ record v { entries = entries_after 0 (event.Draw c room) a v.entries; spare = w.spare }
     → IsStale c v w room
 unfolding facts

@@ -21,6 +21,3 @@ mod texts;
 pub use fault::WordsFault;
 pub use laws::words_laws;
 pub use task::{Task, read_words};
-
-#[cfg(test)]
-mod tests;

@@ -21,6 +21,3 @@ mod waits;
 pub use caller::Caller;
 pub use conn_shared::Looked;
 pub use connection::Connection;
-
-#[cfg(test)]
-mod tests;

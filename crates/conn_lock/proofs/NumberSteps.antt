@@ -9,10 +9,10 @@ use Rattle.std.proofs.lemmas.Bool.Decides.{nat_tests}
 use Rattle.atomic_table.specs.Table.{Me, keeps, Allows, Splits, Joins, step}
 use Rattle.atomic_table.proofs.Lists.{at_set, at_snoc, at_longer, exchanged}
 use Rattle.conn_lock.specs.declared.view.View.{View}
-use Rattle.conn_lock.specs.Callers.{times, calls, share, most_numbers}
+use Rattle.conn_lock.specs.Callers.{Fits, Follows, times, calls, share, most_numbers}
 use Rattle.conn_lock.specs.Rule.{IsSound, Kept, counted, named, told, left, right, both, spent}
 use Rattle.conn_lock.proofs.Totals.{total_split, total_two, total_at, times_append, calls_prefix, begins_longer}
-use Rattle.conn_lock.proofs.Changes.{moved, sound_set, stays, kept_place, refreshed, Goes}
+use Rattle.conn_lock.proofs.Changes.{follows, moved, sound_set, stays, kept_place, refreshed, Goes}
 
 module _ {S E : Type 0} (list_of : S → List E) (IsThere : S → Type 0) (number : E → ℕ) where
   pub counts : (slots id : ℕ) (me : Me S (View E)) → me.0.turn ≡ false → Allows (Kept list_of IsThere number) slots id me 2 (λ n. n) (counted (step slots 2 0 0 none) me)
@@ -66,7 +66,7 @@ module _ {S E : Type 0} (list_of : S → List E) (IsThere : S → Type 0) (numbe
         ((λ hit. absurd (miss hit)), (λ _. (refl, omega (arith, n_is), omega (arith, n_is)))),
       ))
 
-  pub tells : (slots id : ℕ) (me : Me S (View E)) → Allows (Kept list_of IsThere number) slots id me 2 (λ n. n) (told (step slots 2 0 0 none) me)
+  pub tells : (slots id : ℕ) (me : Me S (View E)) → Allows (Kept list_of IsThere number) slots id me 2 (λ n. n) (told number (step slots 2 0 0 none) me)
   tells slots id me s k _ at _ = (
     me.0,
     keeps,
@@ -105,7 +105,7 @@ module _ {S E : Type 0} (list_of : S → List E) (IsThere : S → Type 0) (numbe
         inside = λ t. absurd (true≢false (sym t));
         found = ok.found;
         noted = λ m h. absurd (cc);
-        begun = (v.front, refl);
+        begun = ((v.front, refl), λ y some_name. absurd (omega (arith, some_name)));
       } in
       record {
         ticket = k.ticket;
@@ -145,7 +145,7 @@ module _ {S E : Type 0} (list_of : S → List E) (IsThere : S → Type 0) (numbe
         inside = λ t. absurd (true≢false (sym t ∙ out));
         found = let f = ok.found in let g = ok_w.found in omega arith;
         noted = ok.noted;
-        begun = fronts.3;
+        begun = (fronts.3, lesser_fits k.list v.front w.front v.names w.names ok.fits ok_w.fits (nat_lt (length v.front) (length w.front)) fronts.0 fronts.3);
       } in
       let spent_ok : IsSound number k.list k.serving k.drawn s.homes spent = record {
         fits = ((k.list, refl), λ y some_name. absurd (omega (arith, some_name)));
@@ -153,7 +153,7 @@ module _ {S E : Type 0} (list_of : S → List E) (IsThere : S → Type 0) (numbe
         inside = λ t. absurd (true≢false (sym t));
         found = omega arith;
         noted = λ m h. absurd (cc);
-        begun = ([], refl);
+        begun = (([], refl), λ y some_name. absurd (omega (arith, some_name)));
       } in
       let first : List (View E) = set s.views id b in
       record {
@@ -172,8 +172,20 @@ module _ {S E : Type 0} (list_of : S → List E) (IsThere : S → Type 0) (numbe
         place = kept_place list_of IsThere number k.list s.homes first other w spent there out_w (kept_place list_of IsThere number k.list s.homes s.views id v b at out k.place);
       }
     where
+      -- the entries of these names in the longer front stand in the shorter
+      lesser_fits : (list x y : List E) (m n : List ℕ) → Fits number list m x → Fits number list n y → (t : Bool) → IsPrefix (cond t y x) list → IsPrefix (cond t x y) (cond t y x)
+          → (z : ℕ) → 0 < times z (cond t m n) → calls number z (cond t y x) ≡ calls number z (cond t x y)
+      lesser_fits list x y m n p q true long short z has = let a = calls_prefix number z y list long in let b = calls_prefix number z x y short in let c = p.1 z has in omega arith
+      lesser_fits list x y m n p q false long short z has = let a = calls_prefix number z x list long in let b = calls_prefix number z y x short in let c = q.1 z has in omega arith
+
       -- both are prefixes of the longer, which is a prefix of the list
       two : (list x y : List E) → IsPrefix x list → IsPrefix y list → (t : Bool) → nat_lt (length x) (length y) ≡ t
           → IsPrefix (cond t y x) list × IsPrefix x (cond t y x) × IsPrefix y (cond t y x) × IsPrefix (cond t x y) (cond t y x)
       two list x y p q true e = let h = begins_longer x y list p q (let l : length x < length y = grind (arith, nat_tests) in omega arith) in (q, h, ([], append-nil y), h)
       two list x y p q false e = let h = begins_longer y x list q p (grind (arith, nat_tests)) in (p, ([], append-nil x), h, h)
+
+-- where the shorter front fits the longer, neither seat's entries stand after its front
+pub owns : {E : Type 0} (number : E → ℕ) (x y : List E) (m n : List ℕ) (t : Bool) → Fits number (cond t y x) (cond t m n) (cond t x y)
+    → Follows number m x (cond t y x) × Follows number n y (cond t y x)
+owns number x y m n true fits = (follows number y m x y refl fits, ([], sym (append-nil y), λ z has. refl))
+owns number x y m n false fits = (([], sym (append-nil x), λ z has. refl), follows number x n y x refl fits)

@@ -41,7 +41,7 @@ module _ {S E : Type 0} (list_of : S → List E) (IsThere : S → Type 0) (numbe
         inside = λ t. absurd (true≢false (sym t));
         found = omega arith;
         noted = λ n h. absurd (cc);
-        begun = (list_of x, refl);
+        begun = ((list_of x, refl), λ y some_name. absurd (omega (arith, some_name)));
       }
       one (suc i) v e = absurd (some-ne-none v (sym e))
 
@@ -51,12 +51,12 @@ module _ {S E : Type 0} (list_of : S → List E) (IsThere : S → Type 0) (numbe
       → ((x : ℕ) → times x tickets + below x k.serving + below x k.ticket ≡ times x v.tickets + below x k.serving + below x t)
       → ((n : ℕ) → note ≡ Some n → n ≤ k.serving) → ((i : ℕ) (u : View E) → i ≢ id → get_elem? s.views i ≡ some u → u.tickets ≡ k.serving ∷ [] → ⊥)
       → (x : S) × (get_elem? s.homes 0 ≡ some (some x)) × Follows number v.names v.front (list_of x) × IsThere x
-      × Kept list_of IsThere number record { words = words; homes = set s.homes 0 none; views = set s.views id (record v { tickets = tickets; turn = true; front = list_of x; note = note; shorter = [] }) }
+      × Kept list_of IsThere number record { words = words; homes = set s.homes 0 none; views = set s.views id (record v { tickets = tickets; turn = true; front = list_of x; note = note; shorter = []; lesser = [] }) }
   begins s k id v at out some_part t words tickets note is served counted noted alone_has = ⊎_elim
       (λ (home : (x : S) × (s.homes ≡ some x ∷ []) × (list_of x ≡ k.list) × IsThere x).
       let x = home.0 in
       let ok = k.sound id v at in
-      let w = record v { tickets = tickets; turn = true; front = list_of x; note = note; shorter = [] } in (
+      let w = record v { tickets = tickets; turn = true; front = list_of x; note = note; shorter = []; lesser = [] } in (
         x,
         ap (λ l. get_elem? l 0) home.1,
         follows number k.list v.names v.front (list_of x) home.2 ok.fits,
@@ -69,7 +69,7 @@ module _ {S E : Type 0} (list_of : S → List E) (IsThere : S → Type 0) (numbe
               inside = λ _. (ap (λ l. set l 0 none) home.1, home.2, served);
               found = ok.found;
               noted = noted;
-              begun = (list_of x, refl);
+              begun = ((list_of x, refl), λ y some_name. absurd (omega (arith, some_name)));
             }
             (inr (id, w, ap (λ l. set l 0 none) home.1, set_here s.views id w (within s.views id v at), refl)),
       ))
@@ -87,7 +87,7 @@ module _ {S E : Type 0} (list_of : S → List E) (IsThere : S → Type 0) (numbe
       let in_turn = ok.inside inside in
       let list_is : k.list ≡ v.front = sym in_turn.1 in
       let served : t ≡ k.serving = ap (λ l. slice_index l 0) (sym mine ∙ in_turn.2) in
-      let w = record v { turn = false; tickets = []; front = list_of x; shorter = [] } in
+      let w = record v { turn = false; tickets = []; front = list_of x; shorter = []; lesser = [] } in
       let counts : (y : ℕ) → calls number y (list_of x) ≡ calls number y k.list + calls number y own = λ y. ap (calls number y) added ∙ (calls_append number y v.front own ∙ ap (λ l. calls number y l + calls number y own) (sym list_is)) in
       let none_of : (y : ℕ) → n ≢ y → calls number y own ≡ 0 = λ y other. let o = calls_other number n y other own in omega (arith, counted) in
       let drawn = was_drawn list_of IsThere number s k id v at n named in
@@ -118,7 +118,7 @@ module _ {S E : Type 0} (list_of : S → List E) (IsThere : S → Type 0) (numbe
               inside = λ turn. absurd (true≢false (sym turn));
               found = ok.found;
               noted = λ m h. let a = ok.noted m h in omega (arith, served);
-              begun = (list_of x, refl);
+              begun = ((list_of x, refl), λ y some_name. absurd (omega (arith, some_name)));
             }
             (inl (x, homes_are, refl, is_there)),
         refl,
@@ -149,7 +149,7 @@ module _ {S E : Type 0} (list_of : S → List E) (IsThere : S → Type 0) (numbe
       absurd (grind (arith, nat_tests, total_at (λ (w : View E). times q w.tickets) s.views i u e, ap (times q) theirs, k.tickets q)) in
       let b = begins s k id v at out some_part new (set s.words 0 new) (n ∷ []) None (ap (λ l. set l 0 new) k.words) (ap (λ z. z ∷ []) (sym same))
       (λ y. let b : k.ticket ≡ old = sym n_is ∙ hit in rw (next, b, hit, none_yet) (grind (arith, nat_tests))) (λ m h. absurd (cc)) nobody in (
-        record v { tickets = n ∷ []; turn = true; front = list_of b.0; note = None; shorter = [] },
+        record v { tickets = n ∷ []; turn = true; front = list_of b.0; note = None; shorter = []; lesser = [] },
         takes 0 b.0,
         b.1,
         b.4,

@@ -6,7 +6,7 @@
 --
 -- `list_of` gives the list that the slot's value represents, `IsThere` says that there is one, and
 -- `number` is the number that an entry carries.
-use Rattle.std.specs.Prelude.{◌≡◌, ◌≢◌, ℕ, ◌+◌, ◌-◌, ◌<◌, ◌≤◌, List, [], ◌∷◌, ◌++◌, true, false, cond, nat_lt, max, ◌⊎◌, None, Some}
+use Rattle.std.specs.Prelude.{◌≡◌, ◌≢◌, ℕ, ◌+◌, ◌-◌, ◌<◌, ◌≤◌, List, [], ◌∷◌, ◌++◌, length, true, false, cond, nat_lt, max, ◌⊎◌, None, Some}
 use Rattle.std.specs.Prelude as std
 use mathlib.Core.List.{IsPrefix}
 use mathlib.Core.Option.{Option, none, some}
@@ -33,7 +33,8 @@ pub record IsSound {S E : Type 0} (number : E → ℕ) (list : List E) (serving 
   pub inside : v.turn ≡ true → (homes ≡ none ∷ []) × (v.front ≡ list) × (v.tickets ≡ serving ∷ [])
   pub found : v.found ≤ drawn
   pub noted : (n : ℕ) → v.note ≡ Some n → n ≤ serving
-  pub begun : IsPrefix v.shorter v.front
+  -- of two fronts that were joined the shorter fits the longer
+  pub begun : Fits number v.front v.lesser v.shorter
 
 -- the value is at home and represents the list, or a seat in its turn has it
 abbrev pub IsPlaced : {S E : Type 0} → (S → List E) → (S → Type 0) → List E → List (Option S) → List (View E) → Type 0
@@ -60,7 +61,7 @@ pub record Kept {S E : Type 0} (list_of : S → List E) (IsThere : S → Type 0)
 
 -- the view of the first seat: number 0, all parts, and the list at the start
 abbrev pub first_view : {E : Type 0} → List E → View E
-first_view list = record { names = 0 ∷ []; parts = all_parts; tickets = []; turn = false; front = list; found = 1; note = None; misses = 0; shorter = [] }
+first_view list = record { names = 0 ∷ []; parts = all_parts; tickets = []; turn = false; front = list; found = 1; note = None; misses = 0; shorter = []; lesser = [] }
 
 -- the list of the value in the slot, where it is there
 abbrev pub slot_list : {S E : Type 0} → (S → List E) → std.Option S → List E
@@ -76,7 +77,7 @@ module _ {S E : Type 0} where
 
   -- serving: the value comes home, and the turn is over
   abbrev pub passed : (S → List E) → Step S → Me S (View E) → ℕ → Me S (View E) → Type 0
-  passed list_of step me n after = after ≡ (record me.0 { turn = false; tickets = []; front = out_list list_of me.1; shorter = [] }, rest me.1)
+  passed list_of step me n after = after ≡ (record me.0 { turn = false; tickets = []; front = out_list list_of me.1; shorter = []; lesser = [] }, rest me.1)
 
   -- serving: the seat notes what it found
   abbrev pub noted : Step S → Me S (View E) → ℕ → Me S (View E) → Type 0
@@ -85,7 +86,7 @@ module _ {S E : Type 0} where
   -- ticket: it was the noted one, so the seat has that ticket and its turn begins at once, in which the value leaves the slot; else the note goes, and the seat has so many misses
   abbrev pub drew : ℕ → (S → List E) → (S → Type 0) → (E → ℕ) → Step S → Me S (View E) → ℕ → Me S (View E) → Type 0
   drew misses list_of IsThere number step me n after =
-      (n ≡ step.first → (x : S) × (after ≡ (record me.0 { tickets = n ∷ []; turn = true; front = list_of x; note = None; shorter = [] }, (0, x) ∷ me.1)) × Follows number me.0.names me.0.front (list_of x) × IsThere x)
+      (n ≡ step.first → (x : S) × (after ≡ (record me.0 { tickets = n ∷ []; turn = true; front = list_of x; note = None; shorter = []; lesser = [] }, (0, x) ∷ me.1)) × Follows number me.0.names me.0.front (list_of x) × IsThere x)
       × (n ≢ step.first → after ≡ (record me.0 { misses = misses; note = None }, me.1))
 
   -- by a seat that tries again: nothing is counted
@@ -106,9 +107,9 @@ module _ {S E : Type 0} where
       (n ≡ step.first → (after ≡ (record me.0 { names = n ∷ me.0.names; found = n + 1 }, me.1)) × (me.0.found ≤ n) × (times n me.0.names ≡ 0) × (calls number n me.0.front ≡ 0))
       × (n ≢ step.first → (after ≡ (record me.0 { found = n }, me.1)) × (me.0.found ≤ n) × (n ≤ most_numbers))
 
-  -- any word: of two fronts that were joined the shorter begins the longer, no name stands twice, and the parts are at most all
-  abbrev pub told : Step S → Me S (View E) → ℕ → Me S (View E) → Type 0
-  told step me n after = (after ≡ me) × IsPrefix me.0.shorter me.0.front × ((x : ℕ) → times x me.0.names ≤ 1) × (me.0.parts ≤ all_parts)
+  -- any word: of two fronts that were joined the shorter fits the longer, no name stands twice, and the parts are at most all
+  abbrev pub told : (E → ℕ) → Step S → Me S (View E) → ℕ → Me S (View E) → Type 0
+  told number step me n after = (after ≡ me) × Fits number me.0.front me.0.lesser me.0.shorter × ((x : ℕ) → times x me.0.names ≤ 1) × (me.0.parts ≤ all_parts)
 
 -- The steps on seats.
 abbrev pub heads : List ℕ → List ℕ
@@ -125,11 +126,15 @@ module _ {E : Type 0} where
   left v = record v { names = tails v.names; parts = v.parts - share v.parts }
 
   abbrev pub right : View E → View E
-  right v = record { names = heads v.names; parts = share v.parts; tickets = []; turn = false; front = v.front; found = v.found; note = None; misses = 0; shorter = [] }
+  right v = record { names = heads v.names; parts = share v.parts; tickets = []; turn = false; front = v.front; found = v.found; note = None; misses = 0; shorter = []; lesser = [] }
+
+  -- the names of the view with the shorter front
+  abbrev pub shorter_names : View E → View E → List ℕ
+  shorter_names v w = cond (nat_lt (length v.front) (length w.front)) v.names w.names
 
   -- join: the first seat gets the names and parts of both, the longer front and the greater count found
   abbrev pub both : View E → View E → View E
-  both v w = record v { names = v.names ++ w.names; parts = v.parts + w.parts; front = longer v.front w.front; found = max v.found w.found; shorter = shorter v.front w.front }
+  both v w = record v { names = v.names ++ w.names; parts = v.parts + w.parts; front = longer v.front w.front; found = max v.found w.found; shorter = shorter v.front w.front; lesser = shorter_names v w }
 
   abbrev pub spent : View E
-  spent = record { names = []; parts = 0; tickets = []; turn = false; front = []; found = 0; note = None; misses = 0; shorter = [] }
+  spent = record { names = []; parts = 0; tickets = []; turn = false; front = []; found = 0; note = None; misses = 0; shorter = []; lesser = [] }

@@ -35,6 +35,6 @@ pub record IsServed {S E : Type 0} (number parts ticket : ℕ) (me : Me (Option 
 abbrev pub IsBegun : {S E : Type 0} → (S → List E) → (E → ℕ) → ℕ → Me (Option S) (View E) → Me (Option S) (View E) → Type 0
 IsBegun {S} list_of number ticket me after =
     (x : Option S)
-    × (after ≡ (record me.0 { tickets = ticket ∷ []; turn = true; front = slot_list list_of x; note = None; shorter = [] }, (0, x) ∷ []))
+    × (after ≡ (record me.0 { tickets = ticket ∷ []; turn = true; front = slot_list list_of x; note = None; shorter = []; lesser = [] }, (0, x) ∷ []))
     × Follows number me.0.names me.0.front (slot_list list_of x)
     × IsSome x

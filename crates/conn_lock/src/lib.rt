@@ -30,6 +30,3 @@ pub use numbers::SplitFault;
 pub use seat::Seat;
 pub use stands::Stands;
 pub use turn::Turn;
-
-#[cfg(test)]
-mod tests;

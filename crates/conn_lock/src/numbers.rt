@@ -2,7 +2,7 @@
 
 ghost use Rattle.std.specs.Prelude.{◌≡◌, ◌<◌, ◌≤◌, ◌+◌, ◌-◌, ◌↔◌, ℕ, List, [], ◌∷◌, ◌++◌, IfErr, IfNone, IfOk, IfSome, None, false, max};
 ghost use mathlib.Core.List.{IsPrefix};
-ghost use Rattle.conn_lock.specs.Callers.{all_parts, calls, longer, most_numbers, share, times};
+ghost use Rattle.conn_lock.specs.Callers.{all_parts, calls, Follows, longer, most_numbers, share, times};
 ghost use Rattle.conn_lock.specs.Rule.{left, right};
 
 use crate::lock::{Lock, NAMES};
@@ -122,6 +122,9 @@ impl<S: Stands> Lock<S> {
           found = max seat.found other.found;
         } }
         ensures fronts { IsPrefix seat.front result.front × IsPrefix other.front result.front }
+        // The entries of a seat's names are those in its front.
+        ensures own { Follows S.number seat.names seat.front result.front
+            × Follows S.number other.names other.front result.front }
         ensures apart { (x : ℕ) → 0 < times x seat.names → times x other.names ≡ 0 }
         ensures distinct { (x : ℕ) → times x result.names ≤ 1 }
         ensures at_most_all { result.parts ≤ all_parts }

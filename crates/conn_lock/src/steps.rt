@@ -83,7 +83,7 @@ pub struct Tell;
 impl<S: Stands> Play<Option<S>, View<S::Entry>> for Tell {
     ghost use Rattle.conn_lock.specs.Rule.{told};
 
-    ghost then = { told };
+    ghost then = { told S.number };
 }
 
 /// Hands the number that was drawn last, and a share of the parts, to a new seat.

@@ -23,4 +23,6 @@ pub struct View<E> {
     pub misses: u64,
     /// The shorter of two fronts that were joined, until it is known to be a prefix of the longer.
     pub shorter: LinkedList<E>,
+    /// The names of the seat that had the shorter front.
+    pub lesser: LinkedList<u64>,
 }

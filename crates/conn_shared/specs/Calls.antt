@@ -9,7 +9,7 @@ use Rattle.tape.specs.declared.answer.Answer.TheVariants as answer
 use Rattle.tape.specs.declared.entry.Entry.{Entry}
 use Rattle.session_model.specs.Answers.{answer_to}
 use Rattle.session_model.specs.Frames.{due, drawn}
-use Rattle.session_core.specs.Seen.{IsUnlessWant, entries_after}
+use Rattle.session_core.specs.Seen.{IsOrOutOfMemory, entries_after}
 use Rattle.session_core.specs.Queued.{IfDrawn}
 use Rattle.conn_shared.specs.Members.{Follows, Knowledge}
 
@@ -17,7 +17,7 @@ use Rattle.conn_shared.specs.Members.{Follows, Knowledge}
 pub record IsStep (g : Settings) (number : ℕ) (before : List Entry) (e : Event) (a : Answer) (new : List Entry) : Type 0 where
   -- its entry is the one that is added, where the answer leaves one
   pub after : new ≡ entries_after number e a before
-  pub answered : IsUnlessWant a (answer_to g before e)
+  pub answered : IsOrOutOfMemory a (answer_to g before e)
   pub full : (a ≡ answer.TapeFull) ↔ (2 ^ 63 ≤ length before)
 
 -- A call of this caller, whose front becomes `new`.

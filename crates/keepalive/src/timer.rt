@@ -1,6 +1,6 @@
 //! The timer of one connection.
 
-ghost use Rattle.std.specs.Prelude.{◌≡◌, ◌+◌, ◌≤◌, ◌↔◌, IsTrue};
+ghost use Rattle.std.specs.Prelude.{◌≡◌, ◌≢◌, ◌+◌, ◌<◌, ◌≤◌, ◌↔◌, ℕ, IsTrue};
 ghost use Rattle.keepalive.specs.Times.{IsDead, IsSendDue, due_at};
 
 use rs_wire::Amount;
@@ -66,6 +66,13 @@ fn has_passed(since: u64, span: Amount, now: u64) -> bool
     now >= since && now - since >= u64::from(span.get())
 }
 
+// The end of a span of milliseconds that begins at a moment.
+fn end_of(since: u64, span: Amount) -> u128
+    ensures { result ≡ since + span }
+{
+    u128::from(since) + u128::from(span.get())
+}
+
 impl Timer {
     /// The timer of a connection that is opened at the moment `now`, in milliseconds, with the
     /// interval between two KEEPALIVEs and the lifetime, in milliseconds. `sends` says whether this
@@ -128,6 +135,21 @@ impl Timer {
             return Due::Send;
         }
         Due::Nothing
+    }
+
+    /// The first moment, in milliseconds, at which something is due as things stand: [`Timer::due`]
+    /// answers [`Due::Nothing`] exactly at each earlier one. It may lie above every `u64`.
+    pub fn next_due(&self) -> u128
+        ensures before { (now : ℕ) → now < result → due_at self.now now ≡ Due.Nothing }
+        ensures from { (now : ℕ) → result ≤ now → due_at self.now now ≢ Due.Nothing }
+    {
+        let dead = end_of(self.arrival, self.lifetime);
+        let send = end_of(self.sending, self.interval);
+        if self.sends && send < dead {
+            send
+        } else {
+            dead
+        }
     }
 
     /// Takes the moment `now`, in milliseconds, and says what is due at it, as [`Timer::due`] does.

@@ -2,8 +2,8 @@
 //! peers, where links come from, and the time.
 //!
 //! A [`Source`] gives bytes and a [`Sink`] takes them, as many in a call as it can. A [`Link`] does
-//! both, says when nothing can move for now, and may hear the bell of its connection; a [`Net`] hands links out and takes them back; a
-//! [`Clock`] gives the moment. Each has a meaning that contracts see: the bytes left, written, taken
+//! both, says when nothing can move for now, and may hear the bell of its connection; a [`Net`]
+//! hands links out and takes them back; a [`Clock`] gives the moment. Each has a meaning that contracts see: the bytes left, written, taken
 //! or given, the calls asked of a net and the links put back, the moments of a clock, where it shows
 //! them, and the counts of its faults and lulls. The promise to the crates above: a call that fails
 //! or lulls is counted once, no other call is, and whatever is shown of the content is exact.
@@ -27,6 +27,7 @@ mod net;
 mod sink;
 mod source;
 mod std_streams;
+mod tally;
 
 pub use clock::Clock;
 pub use link::{Given, Link, Taken};
@@ -39,3 +40,4 @@ pub use net::{Ask, Net, NetFault};
 pub use sink::{Sink, Wrote};
 pub use source::{Read, Source};
 pub use std_streams::{StdSink, StdSource};
+pub use tally::Tally;

@@ -12,7 +12,7 @@ use Rattle.tape.specs.declared.answer.Answer.{Answer}
 use Rattle.tape.specs.declared.answer.Answer.TheVariants as answer
 use Rattle.session_model.specs.Answers.{answer_to}
 use Rattle.session_model.specs.Frames.{drawn, due}
-use Rattle.session_core.specs.Seen.{IsUnlessWant}
+use Rattle.session_core.specs.Seen.{IsOrOutOfMemory}
 use Rattle.conn_shared.specs.Members.{Knowledge}
 use Rattle.link_model.specs.Carrying.{Between, Keeps}
 use Rattle.link_model.specs.Giving.{count_drawn, next_drawn}
@@ -38,7 +38,7 @@ is_some_by [] h = absurd (h refl)
 is_some_by (x ∷ xs) h = refl
 
 -- a draw draws no more than is due
-within_by : (g : Settings) (past : List Entry) (c room : ℕ) (a : Answer) → IsUnlessWant a (answer_to g past (event.Draw c room)) → drawn past c ≤ length (framed_all (due g past c)) → drawn past c + count_drawn a ≤ length (framed_all (due g past c))
+within_by : (g : Settings) (past : List Entry) (c room : ℕ) (a : Answer) → IsOrOutOfMemory a (answer_to g past (event.Draw c room)) → drawn past c ≤ length (framed_all (due g past c)) → drawn past c + count_drawn a ≤ length (framed_all (due g past c))
 within_by g past c room (answer.Drawn n) is within = drawable g past c room n is within
 within_by g past c room _ is within = omega (arith, within)
 
@@ -55,7 +55,7 @@ kept_draw g was now b s p left is on none d k =
     let h = brought_draw g was p.conn b left now.front d in
     let before = d.2.called.before in
     let bytes : left ≡ next_drawn was.of.settings before p.conn d.0 = subst (λ t. left ≡ next_drawn t before p.conn d.0) (sym is) d.2.bytes in
-    let answered : IsUnlessWant d.0 (answer_to was.of.settings before (event.Draw p.conn PIECE)) = subst (λ t. IsUnlessWant d.0 (answer_to t before (event.Draw p.conn PIECE))) (sym is) d.2.called.step.answered in
+    let answered : IsOrOutOfMemory d.0 (answer_to was.of.settings before (event.Draw p.conn PIECE)) = subst (λ t. IsOrOutOfMemory d.0 (answer_to t before (event.Draw p.conn PIECE))) (sym is) d.2.called.step.answered in
     elim (leaves_by b) as (λ v. (leaves_by b) ≡ v → IsKept now s (record p { left = left })) [
       | true ↦ λ some. kept_entry g was now (event.Draw p.conn PIECE) b s p (record p { left = left }) on some refl h
           (λ (kept : Keeps was.of.settings before s p). subst (λ t. Keeps was.of.settings (entry_of was.number (event.Draw p.conn PIECE) d.0 ∷ before) s (record p { left = t })) (sym bytes)

@@ -14,7 +14,7 @@ use Rattle.session_model.specs.Answers.{answer_to, facts}
 use Rattle.session_model.specs.Legal.{CanBring}
 use Rattle.session_model.specs.Means.{Means}
 use Rattle.session_model.proofs.Meaning.{meaning}
-use Rattle.session_core.specs.Seen.{IsNoDrawEvent, IsUnlessWant}
+use Rattle.session_core.specs.Seen.{IsNoDrawEvent, IsOrOutOfMemory}
 use Rattle.conn_shared.specs.Calls.{IsCalled}
 use Rattle.conn_shared.specs.Members.{Continues, Knowledge}
 use Rattle.link_model.specs.Carrying.{Between}
@@ -144,7 +144,7 @@ waited _ h = absurd (true≢false (sym h))
 pub arrives_some : (g : Settings) (me : Knowledge) (c : ℕ) (e : Event) (b : Brought) (new : List Entry) → Arrives c e → HasBrought g me e b new → b ≡ brings.Nothing → ⊥
 arrives_some g me c e b new h brought is =
     let wait : brought.answer ≡ answer.NotYet = waited brought.answer (ap is_nothing (sym brought.is ∙ is)) in
-    not_yet g brought.called.before c e h (subst (λ a. IsUnlessWant a (answer_to g brought.called.before e)) wait brought.called.step.answered)
+    not_yet g brought.called.before c e h (subst (λ a. IsOrOutOfMemory a (answer_to g brought.called.before e)) wait brought.called.step.answered)
 
 -- an entry that is left says what came
 pub arrived : (g : Settings) (me : Knowledge) (c : ℕ) (e : Event) (b : Brought) (new : List Entry) → Arrives c e → leaves_by b ≡ true → HasBrought g me e b new → HasArrived c me new

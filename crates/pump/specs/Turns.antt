@@ -1,8 +1,8 @@
 -- What a turn of a pump adds to what its caller has seen, what it keeps, and what its result says. Entries stand newest first.
-use Rattle.std.specs.Prelude.{◌≡◌, ◌<◌, ◌≤◌, ◌^◌, ◌+◌, ◌-◌, ◌⊎◌, ◌&&◌, ℕ, Bool, true, false, List, [], ◌∷◌, ◌++◌, length, not, Contains, Option, Some, None, IfSome, is_some}
+use Rattle.std.specs.Prelude.{◌≡◌, ◌<◌, ◌≤◌, ◌^◌, ◌+◌, ◌-◌, ◌⊎◌, ◌&&◌, ℕ, Bool, true, false, List, [], ◌∷◌, ◌++◌, length, not, Option, Some, None, is_some}
 use Rattle.std.specs.List.{AllByRecursion}
 use Rattle.rs_wire.specs.declared.settings.Settings.{Settings}
-use Rattle.outside.specs.Causes.{Rose}
+use Rattle.outside.specs.Causes.{IsMoment, Rose}
 use Rattle.outside.specs.Links.{Shown}
 use Rattle.tape.specs.declared.event.Event.{Event}
 use Rattle.tape.specs.declared.event.Event.TheVariants as event
@@ -72,10 +72,6 @@ abbrev pub Arrives : ℕ → Event → Type 0
 Arrives c (event.Came conn f) = conn ≡ c
 Arrives c (event.Bad conn rule) = conn ≡ c
 Arrives c _ = ⊥
-
--- a moment of a clock, where it shows those that it may give
-abbrev pub IsMoment : Option (List ℕ) → ℕ → Type 0
-IsMoment moments now = IfSome moments (λ told. Contains told now)
 
 -- a tick with such a moment
 abbrev pub Ticks : Option (List ℕ) → Event → Type 0

@@ -30,10 +30,10 @@ abbrev pub entries_after : ℕ → Event → Answer → List Entry → List Entr
 entries_after who e a past = if leaves a then entry_of who e a ∷ past else past
 
 -- the answer is this one, but for a full tape and out of memory
-abbrev pub IsUnlessWant : Answer → Answer → Type 0
-IsUnlessWant answer.TapeFull right = Unit {0}
-IsUnlessWant answer.OutOfMemory right = Unit {0}
-IsUnlessWant a right = a ≡ right
+abbrev pub IsOrOutOfMemory : Answer → Answer → Type 0
+IsOrOutOfMemory answer.TapeFull right = Unit {0}
+IsOrOutOfMemory answer.OutOfMemory right = Unit {0}
+IsOrOutOfMemory a right = a ≡ right
 
 abbrev pub IsCutEvent : Event → Type 0
 IsCutEvent (event.Cut conn) = Unit {0}

@@ -5,7 +5,7 @@ ghost use Rattle.tape.specs.Told.{entry_of};
 ghost use Rattle.session_model.specs.Answers.{answer_to, facts};
 ghost use Rattle.session_model.specs.Legal.{CanBring, IsFair};
 ghost use Rattle.session_core.specs.Alone.{IsAlone};
-ghost use Rattle.session_core.specs.Seen.{IsCutEvent, IsNoDrawEvent, IsUnlessWant, entries_after};
+ghost use Rattle.session_core.specs.Seen.{IsCutEvent, IsNoDrawEvent, IsOrOutOfMemory, entries_after};
 
 use crate::hearing::comes_alone;
 use crate::session::{FULL, Session};
@@ -41,7 +41,7 @@ impl<T: Tape> Session<T> {
     pub fn bring(&mut self, who: u32, event: Event) -> Answer
         requires fair { CanBring self.old.settings event }
         requires no_draw { IsNoDrawEvent event }
-        ensures answer { IsUnlessWant result
+        ensures answer { IsOrOutOfMemory result
             (answer_to self.old.settings self.old.entries event) }
         ensures full { (result ≡ Answer.TapeFull) ↔ (2 ^ 63 ≤ length self.old.entries) }
         ensures after { self.new ≡ record self.old {

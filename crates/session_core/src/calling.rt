@@ -4,7 +4,7 @@ ghost use Rattle.std.specs.Prelude.{◌≡◌, ◌≢◌, ◌+◌, ◌<◌, ◌�
 ghost use Rattle.rs_wire.specs.Calls.{CanBeAsked};
 ghost use Rattle.tape.specs.declared.event.Event.TheVariants as events;
 ghost use Rattle.session_model.specs.Answers.{answer_to};
-ghost use Rattle.session_core.specs.Seen.{IsUnlessWant, entries_after};
+ghost use Rattle.session_core.specs.Seen.{IsOrOutOfMemory, entries_after};
 ghost use Rattle.session_core.specs.Sending.{carries_bytes};
 
 use crate::session::{FULL, Session};
@@ -37,7 +37,7 @@ impl<T: Tape> Session<T> {
     pub(crate) fn ask_shortly(&mut self, who: u32, call: &Call) -> Option<Answer>
         requires askable { CanBeAsked call.now }
         requires not_full { length self.old.entries < 2 ^ 63 }
-        ensures answer { IfSome result (λ a. IsUnlessWant a (answer_to self.old.settings
+        ensures answer { IfSome result (λ a. IsOrOutOfMemory a (answer_to self.old.settings
             self.old.entries (events.Asked call.now))) }
         ensures not_full { result ≢ Some Answer.TapeFull }
         ensures after { IfSome result (λ a. self.new ≡ record self.old {
@@ -60,7 +60,7 @@ impl<T: Tape> Session<T> {
     fn answer_copy(&mut self, who: u32, call: &Call) -> Answer
         requires askable { CanBeAsked call.now }
         requires not_full { length self.old.entries < 2 ^ 63 }
-        ensures answer { IsUnlessWant result
+        ensures answer { IsOrOutOfMemory result
             (answer_to self.old.settings self.old.entries (events.Asked call.now)) }
         ensures not_full { result ≢ Answer.TapeFull }
         ensures after { self.new ≡ record self.old {
@@ -81,7 +81,7 @@ impl<T: Tape> Session<T> {
     #[inline(always)]
     pub fn ask(&mut self, who: u32, call: &Call) -> Option<Answer>
         requires askable { CanBeAsked call.now }
-        ensures answer { IfSome result (λ a. IsUnlessWant a
+        ensures answer { IfSome result (λ a. IsOrOutOfMemory a
             (answer_to self.old.settings self.old.entries (events.Asked call.now))) }
         ensures full { IfSome result (λ a.
             (a ≡ Answer.TapeFull) ↔ (2 ^ 63 ≤ length self.old.entries)) }

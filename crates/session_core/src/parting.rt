@@ -4,7 +4,7 @@ ghost use Rattle.std.specs.Prelude.{◌≡◌, ◌≢◌, ◌+◌, ◌<◌, ◌�
 ghost use Rattle.tape.specs.Told.{entry_of};
 ghost use Rattle.session_model.specs.Answers.{answer_to};
 ghost use Rattle.session_core.specs.Queued.{IsOfCut};
-ghost use Rattle.session_core.specs.Seen.{IsUnlessWant, entries_after};
+ghost use Rattle.session_core.specs.Seen.{IsOrOutOfMemory, entries_after};
 
 use crate::judge::judge_cut;
 use crate::session::{Session, answered_again};
@@ -14,7 +14,7 @@ impl<T: Tape> Session<T> {
     /// Answers a cut and applies it. Where there is spare it needs no memory.
     pub(crate) fn cut(&mut self, who: u32, conn: u64) -> Answer
         requires not_full { length self.old.entries < 2 ^ 63 }
-        ensures answer { IsUnlessWant result
+        ensures answer { IsOrOutOfMemory result
             (answer_to self.old.settings self.old.entries (Event.Cut conn)) }
         ensures not_full { result ≢ Answer.TapeFull }
         ensures after { self.new ≡ record self.old {

@@ -13,7 +13,7 @@ ghost use Rattle.session_model.specs.Frames.{in_fragments};
 ghost use Rattle.session_model.specs.Legal.{IsFair};
 ghost use Rattle.session_core.specs.Fits.{AreLimits, HasRoom};
 ghost use Rattle.session_core.specs.Prepared.{with_line};
-ghost use Rattle.session_core.specs.Seen.{IsUnlessWant, entries_after};
+ghost use Rattle.session_core.specs.Seen.{IsOrOutOfMemory, entries_after};
 ghost use Rattle.session_core.specs.Sending.{GoesPlainly, IsMessageOn, LetsGo, MaySend, Sends, answer_on, frame_on, is_last, own_next, spoken_after};
 ghost use Rattle.session_core.specs.Speaking.{Acts, with_room};
 
@@ -193,7 +193,7 @@ impl<T: Tape> Session<T> {
     pub(crate) fn send(&mut self, who: u32, call: &Call) -> Option<Answer>
         requires askable { CanBeAsked call.now }
         requires not_full { length self.old.entries < 2 ^ 63 }
-        ensures answer { IfSome result (λ a. IsUnlessWant a
+        ensures answer { IfSome result (λ a. IsOrOutOfMemory a
             (answer_to self.old.settings self.old.entries (events.Asked call.now))) }
         ensures not_full { result ≢ Some Answer.TapeFull }
         ensures after { IfSome result (λ a. self.new ≡ record self.old {

@@ -10,7 +10,7 @@ ghost use Rattle.session_model.specs.Frames.{drawn, due, queued};
 ghost use Rattle.session_model.specs.Answers.{answer_to};
 ghost use Rattle.session_model.specs.Legal.{CanBring, Fair, IsFair, LeavesEntry, Legal};
 ghost use Rattle.session_core.specs.Queued.{IfDrawn, IsBrief, IsOfDraw, IsUntouched};
-ghost use Rattle.session_core.specs.Seen.{IsCutEvent, IsNoDrawEvent, IsUnlessWant, counts_of, entries_after, told_by};
+ghost use Rattle.session_core.specs.Seen.{IsCutEvent, IsNoDrawEvent, IsOrOutOfMemory, counts_of, entries_after, told_by};
 
 use crate::amounts::amounts_fit;
 use crate::counts::Counts;
@@ -126,7 +126,7 @@ impl<T: Tape> Session<T> {
     pub fn step(&mut self, who: u32, event: &Event) -> Answer
         requires fair { CanBring self.old.settings event.now }
         requires no_draw { IsNoDrawEvent event.now }
-        ensures answer { IsUnlessWant result
+        ensures answer { IsOrOutOfMemory result
             (answer_to self.old.settings self.old.entries event.now) }
         ensures full { (result ≡ Answer.TapeFull) ↔ (2 ^ 63 ≤ length self.old.entries) }
         ensures after { self.new ≡ record self.old {
@@ -154,7 +154,7 @@ impl<T: Tape> Session<T> {
         requires fair { CanBring self.old.settings event.now }
         requires no_draw { IsNoDrawEvent event.now }
         requires not_full { length self.old.entries < 2 ^ 63 }
-        ensures answer { IsUnlessWant result
+        ensures answer { IsOrOutOfMemory result
             (answer_to self.old.settings self.old.entries event.now) }
         ensures not_full { result ≢ Answer.TapeFull }
         ensures after { self.new ≡ record self.old {
@@ -222,7 +222,7 @@ impl<T: Tape> Session<T> {
     pub fn draw(&mut self, who: u32, conn: u64, buffer: &mut [u8]) -> Answer
         requires some { 0 < length buffer.old }
         requires few { length buffer.old < 2 ^ 32 }
-        ensures answer { IsUnlessWant result
+        ensures answer { IsOrOutOfMemory result
             (answer_to self.old.settings self.old.entries (Event.Draw conn (length buffer.old))) }
         ensures full { (result ≡ Answer.TapeFull) ↔ (2 ^ 63 ≤ length self.old.entries) }
         ensures memory { 0 < self.old.spare → result ≢ Answer.OutOfMemory }

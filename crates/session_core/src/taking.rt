@@ -9,7 +9,7 @@ ghost use Rattle.interactions.specs.Seen.{front_of, known_to};
 ghost use Rattle.session_model.specs.Answers.{answer_to};
 ghost use Rattle.session_core.specs.After.{IsAfter};
 ghost use Rattle.session_core.specs.Gathering.{IsOfHeard};
-ghost use Rattle.session_core.specs.Seen.{IsUnlessWant, entries_after};
+ghost use Rattle.session_core.specs.Seen.{IsOrOutOfMemory, entries_after};
 
 use crate::gathering::let_stream_go;
 use crate::session::Session;
@@ -49,7 +49,7 @@ impl<T: Tape> Session<T> {
     #[inline(always)]
     pub(crate) fn take(&mut self, who: u32, stream: u32) -> Option<Answer>
         requires not_full { length self.old.entries < 2 ^ 63 }
-        ensures answer { IfSome result (λ a. IsUnlessWant a (answer_to self.old.settings
+        ensures answer { IfSome result (λ a. IsOrOutOfMemory a (answer_to self.old.settings
             self.old.entries (events.Asked (calls.Take stream)))) }
         ensures not_full { result ≢ Some Answer.TapeFull }
         ensures after { IfSome result (λ a. self.new ≡ record self.old {
@@ -75,7 +75,7 @@ impl<T: Tape> Session<T> {
     #[inline(always)]
     pub(crate) fn take_job(&mut self, who: u32) -> Option<Answer>
         requires not_full { length self.old.entries < 2 ^ 63 }
-        ensures answer { IfSome result (λ a. IsUnlessWant a (answer_to self.old.settings
+        ensures answer { IfSome result (λ a. IsOrOutOfMemory a (answer_to self.old.settings
             self.old.entries (events.Asked calls.TakeJob))) }
         ensures not_full { result ≢ Some Answer.TapeFull }
         ensures after { IfSome result (λ a. self.new ≡ record self.old {

@@ -15,7 +15,7 @@ use Rattle.tape.specs.declared.answer.Answer.{Answer}
 use Rattle.tape.specs.declared.answer.Answer.TheVariants as answer
 use Rattle.tape.specs.declared.entry.Entry.{Entry}
 use Rattle.session_model.specs.Answers.{Facts, accepted as accepted_call, answer_to, facts, got, got_job, refused_call, refused_or}
-use Rattle.session_core.specs.Seen.{IsUnlessWant, entries_after}
+use Rattle.session_core.specs.Seen.{IsOrOutOfMemory, entries_after}
 use Rattle.handlers.specs.Listed.{Listed}
 use Rattle.conn_lock.specs.Callers.{IsOthers, once, times}
 use Rattle.conn_shared.specs.Lines.{who_of}
@@ -141,7 +141,7 @@ was_answered g me asked a new c = record {
 
 -- ---- the answers of a worker's calls
 
-right_or : (a right : Answer) → IsUnlessWant a right → (a ≡ right) ⊎ (a ≡ answer.TapeFull) ⊎ (a ≡ answer.OutOfMemory)
+right_or : (a right : Answer) → IsOrOutOfMemory a right → (a ≡ right) ⊎ (a ≡ answer.TapeFull) ⊎ (a ≡ answer.OutOfMemory)
 right_or answer.TapeFull right h = inr (inl refl)
 right_or answer.OutOfMemory right h = inr (inr refl)
 right_or _ right h = inl h

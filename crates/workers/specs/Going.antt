@@ -15,7 +15,7 @@ use Rattle.tape.specs.declared.entry.Entry.{Entry}
 use Rattle.tape.specs.declared.event.Event.TheVariants as event
 use Rattle.rs_wire.specs.declared.settings.Settings.{Settings}
 use Rattle.session_model.specs.Answers.{answer_to}
-use Rattle.session_core.specs.Seen.{IsUnlessWant}
+use Rattle.session_core.specs.Seen.{IsOrOutOfMemory}
 use Rattle.conn_shared.specs.Members.{Continues}
 use Rattle.handlers.specs.Listed.{Listed}
 use Rattle.handlers.specs.Values.{value}
@@ -143,7 +143,7 @@ found_of a = found.NoMore a
 
 -- the answer to a call after these entries, but for a full tape and out of memory
 unfoldable pub IsRight : Settings → List Entry → Call → Answer → Type 0
-IsRight g before asked a = IsUnlessWant a (answer_to g before (event.Asked asked))
+IsRight g before asked a = IsOrOutOfMemory a (answer_to g before (event.Asked asked))
 
 -- between two fronts a call was so answered, after the entries before it
 pub record WasAnswered (g : Settings) (old new : List Entry) (asked : Call) (a : Answer) : Type 0 where

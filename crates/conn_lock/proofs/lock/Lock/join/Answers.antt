@@ -1,8 +1,8 @@
-use Rattle.std.proofs.Common.{rules, IsSome, ◌≡◌, ◌+◌, ◌++◌, ◌∙◌, arith, ap, sym}
-use Rattle.conn_lock.specs.Callers.{times}
+use Rattle.std.proofs.Common.{rules, IsSome, ◌≡◌, ◌+◌, ◌++◌, ◌∙◌, arith, ap, sym, subst, length, nat_lt}
+use Rattle.conn_lock.specs.Callers.{Fits, Follows, longer, times}
 use Rattle.conn_lock.specs.Rule.{slot_list}
 use Rattle.conn_lock.proofs.Totals.{times_append}
-use Rattle.conn_lock.proofs.NumberSteps.{joins, tells}
+use Rattle.conn_lock.proofs.NumberSteps.{joins, owns, tells}
 use Rattle.conn_lock.proofs.lock.Lock.join.Goals as goal
 
 pub join_seat-requires : goal.join_seat-requires
@@ -51,3 +51,16 @@ returns-clause-apart g c =
     let most = c.load.ensures.2.2 x in
     let sum = times_append x a b in
     omega arith
+
+pub returns-clause-own : goal.returns-clause-own
+returns-clause-own g c =
+    let a = c.seat.inside.token.me.0 in
+    let b = c.other.inside.token.me.0 in
+    let number = g.S.Stands.number in
+    let joined = c.join_seat.ensures.2 in
+    let fits = subst (λ m. Fits number m.0.front m.0.lesser m.0.shorter) joined c.load.ensures.2.1 in
+    let both = owns number a.front b.front a.names b.names (nat_lt (length a.front) (length b.front)) fits in
+    let front : c.load.new.seat.me.0.front ≡ longer a.front b.front = ap (λ m. m.0.front) (c.load.ensures.2.0 ∙ joined) in
+    let first = subst (Follows number a.names a.front) (sym front) both.0 in
+    let second = subst (Follows number b.names b.front) (sym front) both.1 in
+    (subst (λ k. Follows number k.names k.front c.load.new.seat.me.0.front) c.seat.view_is first, subst (λ k. Follows number k.names k.front c.load.new.seat.me.0.front) c.other.view_is second)
