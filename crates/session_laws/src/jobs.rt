@@ -1,6 +1,7 @@
 //! Laws of what the peer asks of one end, whatever it sends (RSocket 1.0, "Request").
 
-ghost use Rattle.std.specs.Prelude.{◌≡◌, ◌++◌, ◌⊎◌, ℕ, Bool, false, List, [], Contains, Option, Some};
+ghost use Rattle.std.specs.Prelude.{◌≡◌, ◌++◌, ◌⊎◌, ℕ, Bool, false, List, []};
+ghost use Rattle.std.specs.Prelude.{Contains, Option, Some};
 ghost use Rattle.rs_wire.specs.declared.call.Call.TheVariants as call;
 ghost use Rattle.rs_wire.specs.declared.delivery.Job.TheVariants as job;
 ghost use Rattle.rs_wire.specs.declared.fault.Cause.{Cause};

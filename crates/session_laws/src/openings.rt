@@ -1,5 +1,5 @@
-//! Laws of the openings of one end (RSocket 1.0, "Setup" and "Resuming Operation"), whatever its peer
-//! sends.
+//! Laws of the openings of one end (RSocket 1.0, "Setup" and "Resuming Operation"), whatever its
+//! peer sends.
 
 ghost use Rattle.std.specs.Prelude.{◌≡◌, ◌≢◌, ◌≤◌, ◌++◌, ℕ, Bool, false, List, Some};
 ghost use Rattle.rs_wire.specs.declared.settings.Settings.{Settings};
