@@ -78,7 +78,7 @@ ready_lined g s past told count e a p ready parts spare sound is fair short prep
       place = place;
       starts = starts_of g s past told count e a sound is;
       says = subst (λ (b : Bool). CanSay (with_room s ready parts spare).streams a e (arrival_for b (gathered_at parts) a e)) (sym prepared.covered)
-        (subst (λ (k : ℕ → Gathered). CanSay (with_room s ready parts spare).streams a e (arrival_for (covers_next g s) k a e)) (sym gathered) says);
+          (subst (λ (k : ℕ → Gathered). CanSay (with_room s ready parts spare).streams a e (arrival_for (covers_next g s) k a e)) (sym gathered) says);
       heard = λ i off. kept i ∙ sound.fits.heard i off;
     }
 

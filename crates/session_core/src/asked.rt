@@ -14,8 +14,10 @@ ghost use Rattle.session_core.specs.Fits.{AreLimits, HasRoom, facts_of};
 ghost use Rattle.session_core.specs.Sizes.{size_of_frames};
 
 use crate::leasing::{by_agreement, by_lease};
-use crate::sizes::{LENGTH_FIELD, MANY_BYTES, MANY_FRAMES, MOST_PAYLOAD};
-use crate::sizes::{closing_size, option_len, size_beside, size_spoken};
+use crate::sizes::{
+    LENGTH_FIELD, MANY_BYTES, MANY_FRAMES, MOST_PAYLOAD, closing_size, option_len, size_beside,
+    size_spoken,
+};
 use crate::state::State;
 use fragment::SplitSize;
 use rs_wire::{Call, Checked, OutOfMemory, Refusal};

@@ -26,5 +26,5 @@ act-requires g c =
     let short : length past < 2 ^ 63 = subst (λ (v : Seen). length v.entries < 2 ^ 63) (sym c.self.view_is) c.requires.not_full in
     record {
       ready = ready_cut settings s past _ _ c.args.conn c.args.answer c.nothing_more-prepared.result c.self.invariant short c.requires.of_cut is c.nothing_more-prepared.ensures.setup c.nothing_more-prepared.ensures.made
-        c.nothing_more-prepared.ensures.spelled c.nothing_more-prepared.ensures.arrival c.nothing_more-prepared.ensures.covered c.nothing_more-prepared.ensures.before;
+          c.nothing_more-prepared.ensures.spelled c.nothing_more-prepared.ensures.arrival c.nothing_more-prepared.ensures.covered c.nothing_more-prepared.ensures.before;
     }
