@@ -12,6 +12,8 @@ enum Step {
     Sent,
     /// Something comes.
     Came,
+    /// This is the next moment at which something is due.
+    Next(u128),
 }
 
 /// A timer, and what happens at it.
@@ -34,10 +36,13 @@ const ROWS: [Row; 5] = [
         sends: true,
         steps: &[
             Step::Tick(5, Due::Nothing),
+            Step::Next(20_005),
             Step::Tick(20_004, Due::Nothing),
             Step::Tick(20_005, Due::Send),
             Step::Tick(20_006, Due::Send),
+            Step::Next(20_005),
             Step::Sent,
+            Step::Next(40_006),
             Step::Tick(40_005, Due::Nothing),
             Step::Tick(40_006, Due::Send),
         ],
@@ -51,10 +56,14 @@ const ROWS: [Row; 5] = [
         steps: &[
             Step::Tick(20_000, Due::Send),
             Step::Sent,
+            Step::Next(40_000),
             Step::Came,
+            Step::Next(40_000),
             Step::Tick(109_999, Due::Send),
             Step::Sent,
+            Step::Next(110_000),
             Step::Tick(110_000, Due::Dead(20_000)),
+            Step::Next(110_000),
         ],
     },
     Row {
@@ -64,6 +73,7 @@ const ROWS: [Row; 5] = [
         now: 0,
         sends: true,
         steps: &[
+            Step::Next(1_000),
             Step::Tick(999, Due::Nothing),
             Step::Tick(1_000, Due::Dead(0)),
         ],
@@ -75,6 +85,7 @@ const ROWS: [Row; 5] = [
         now: 0,
         sends: false,
         steps: &[
+            Step::Next(90_000),
             Step::Tick(20_000, Due::Nothing),
             Step::Tick(89_999, Due::Nothing),
             Step::Tick(90_000, Due::Dead(0)),
@@ -88,7 +99,10 @@ const ROWS: [Row; 5] = [
         sends: true,
         steps: &[
             Step::Tick(u64::MAX - 1, Due::Nothing),
+            Step::Next(0xffff_ffff_ffff_ffff),
             Step::Tick(u64::MAX, Due::Send),
+            Step::Sent,
+            Step::Next(0x1_0000_0000_0000_4e1f),
             Step::Tick(0, Due::Nothing),
         ],
     },
@@ -106,6 +120,7 @@ fn comes(timer: &mut Timer, step: Step) -> bool {
             timer.came();
             true
         }
+        Step::Next(moment) => timer.next_due() == moment,
     }
 }
 

@@ -17,3 +17,5 @@ pub mod Leasing
 pub mod Line
 pub mod Timing
 pub mod Sending
+pub mod Due
+pub mod Ready

@@ -14,8 +14,8 @@ use tape::{Answer, Event};
 /// What a frame that is handled brings, made before anything changes.
 #[derive(Drop)]
 pub struct Incoming {
-    /// What the frame says on a stream. A payload that is a part of a message says nothing before it
-    /// is joined to the other parts.
+    /// What the frame says on a stream. A payload that is a part of a message says nothing before
+    /// it is joined to the other parts.
     pub arrival: Option<Arrival>,
     /// The frame is a payload that is a part of a message.
     pub is_part: bool,
@@ -121,7 +121,7 @@ fn ready_in(
     }
 }
 
-// The frame is a payload that is a part of a message: more follow, or some came before.
+// Whether the frame is a payload that is a part of a message: more follow, or some came before.
 fn is_part(parts: &Reassembly, frame: &Frame) -> bool
     ensures { IsPartOrWhole parts.now result frame.now }
 {
@@ -176,8 +176,8 @@ fn incoming_in(
     })
 }
 
-/// What a frame that is handled brings, and room for it among the parts, where `covered` says whether a
-/// request is.
+/// What a frame that is handled brings, and room for it among the parts, where `covered` says
+/// whether a request is.
 pub fn incoming_of(
     alloc: Global,
     parts: &mut Reassembly,

@@ -14,7 +14,10 @@ ghost use Rattle.session_core.specs.Fits.{AreLimits, HasRoom, facts_of};
 ghost use Rattle.session_core.specs.Sizes.{size_of_frames};
 
 use crate::leasing::{by_agreement, by_lease};
-use crate::sizes::{closing_size, option_len, size_beside, size_spoken};
+use crate::sizes::{
+    LENGTH_FIELD, MANY_BYTES, MANY_FRAMES, MOST_PAYLOAD, closing_size, option_len, size_beside,
+    size_spoken,
+};
 use crate::state::State;
 use fragment::SplitSize;
 use rs_wire::{Call, Checked, OutOfMemory, Refusal};
@@ -55,7 +58,7 @@ fn by_closed(state: &State, call: &Call) -> Option<Refusal>
 
 fn by_size(settings: &Checked, call: &Call) -> Option<Refusal>
     ensures value { result ≡ by_size settings.now call.now }
-    ensures small { result ≡ None → size_in call.now ≤ 16000000 }
+    ensures small { result ≡ None → size_in call.now ≤ MOST_PAYLOAD }
 {
     let size = size_in(call);
     if size > u64::from(settings.settings().max_payload) {
@@ -64,23 +67,23 @@ fn by_size(settings: &Checked, call: &Call) -> Option<Refusal>
     None
 }
 
-/// Frames of this size go out at once, and find no room in the queue.
+/// Whether frames of this size go out at once, and find no room in the queue.
 #[tactic(auto, using(crate::proofs::Framed::framed_size))]
 pub fn find_full(settings: &Checked, state: &State, size: SplitSize) -> bool
-    requires few { size.frames < 2 ^ 40 }
-    requires small { size.bytes < 2 ^ 60 }
+    requires few { size.frames < MANY_FRAMES }
+    requires small { size.bytes < MANY_BYTES }
     ensures { (fs : List Frame) → size ≡ size_of_frames fs → result ≡
         find_full settings.now (facts_of state.now) fs }
 {
-    let bytes = 3 * size.frames + size.bytes;
+    let bytes = LENGTH_FIELD * size.frames + size.bytes;
     state.carrying && state.queue.len() + bytes > settings.out_limit()
 }
 
 // Frames of this size can't be made.
 fn refused_frames(settings: &Checked, state: &State, size: SplitSize) -> Option<Refusal>
     requires room { HasRoom state.now }
-    requires few { size.frames < 2 ^ 40 }
-    requires small { size.bytes < 2 ^ 60 }
+    requires few { size.frames < MANY_FRAMES }
+    requires small { size.bytes < MANY_BYTES }
     ensures { (fs : List Frame) → size ≡ size_of_frames fs → result ≡
         refused_frames settings.now (facts_of state.now) fs }
 {
@@ -99,7 +102,7 @@ fn refused_frames(settings: &Checked, state: &State, size: SplitSize) -> Option<
 // The frames of a call, where it makes any, can't be made.
 fn refused_sending(settings: &Checked, state: &State, call: &Call) -> Option<Refusal>
     requires room { HasRoom state.now }
-    requires size { size_in call.now ≤ 16000000 }
+    requires size { size_in call.now ≤ MOST_PAYLOAD }
     ensures { (t : Known) (id : ℕ) → result ≡
         refused_sending settings.now (facts_of state.now) (spoken t id call.now) }
 {
@@ -121,8 +124,8 @@ fn refused_closing(settings: &Checked, state: &State) -> Option<Refusal>
 
 // A frame of the connection alone, of this size, can't be sent.
 fn refused_beside(settings: &Checked, state: &State, size: SplitSize) -> Option<Refusal>
-    requires few { size.frames < 2 ^ 40 }
-    requires small { size.bytes < 2 ^ 60 }
+    requires few { size.frames < MANY_FRAMES }
+    requires small { size.bytes < MANY_BYTES }
     ensures { (f : Frame) → size ≡ size_of_frames (f ∷ []) → result ≡
         refused_beside settings.now (facts_of state.now) f }
 {
@@ -138,7 +141,7 @@ fn refused_beside(settings: &Checked, state: &State, size: SplitSize) -> Option<
 // The frames of a call that is not Close can't be sent.
 fn refused_frame(settings: &Checked, state: &State, call: &Call) -> Option<Refusal>
     requires room { HasRoom state.now }
-    requires size { size_in call.now ≤ 16000000 }
+    requires size { size_in call.now ≤ MOST_PAYLOAD }
     ensures { call.now ≢ Call.Close → result ≡
         by_sending settings.now (facts_of state.now) call.now }
 {
@@ -151,7 +154,7 @@ fn refused_frame(settings: &Checked, state: &State, call: &Call) -> Option<Refus
 // Close needs no connection.
 fn by_sending(settings: &Checked, state: &State, call: &Call) -> Option<Refusal>
     requires room { HasRoom state.now }
-    requires size { size_in call.now ≤ 16000000 }
+    requires size { size_in call.now ≤ MOST_PAYLOAD }
     ensures { result ≡ by_sending settings.now (facts_of state.now) call.now }
 {
     match call {

@@ -15,7 +15,7 @@ use tape::{Answer, Event, Tape};
 
 impl<T: Tape> Session<T> {
     // Applies a message that came whole and is handled, where nothing was gathered on its stream.
-    fn hear(&mut self, who: u32, event: Event) -> Result<(), OutOfMemory>
+    fn note_whole(&mut self, who: u32, event: Event) -> Result<(), OutOfMemory>
         requires fair { IsFair self.old.settings event }
         requires alone { IsAlone self.old.settings
             (facts self.old.settings self.old.entries) event }
@@ -31,13 +31,13 @@ impl<T: Tape> Session<T> {
         make_room(&mut self.state.streams, &event, &Answer::Handled)?;
         self.tape.note(who, &event, &Answer::Handled)?;
         self.history.note(who, &event, &Answer::Handled);
-        self.state.hear(&self.settings, event);
+        self.state.apply_whole(&self.settings, event);
         Ok(())
     }
 
-    /// Answers an event as [`Session::step`] does, and takes it: a message that comes whole, a payload's
-    /// or that of a request that needs no lease, goes to whoever takes it next, and isn't copied. An
-    /// event that leaves no entry is gone, too.
+    /// Answers an event as [`Session::step`] does, and takes it: a message that comes whole, a
+    /// payload's or that of a request that needs no lease, goes to whoever takes it next, and isn't
+    /// copied. An event that leaves no entry is gone, too.
     pub fn bring(&mut self, who: u32, event: Event) -> Answer
         requires fair { CanBring self.old.settings event }
         requires no_draw { IsNoDrawEvent event }
@@ -57,7 +57,7 @@ impl<T: Tape> Session<T> {
         if !comes_alone(&self.settings, &self.state, &event) {
             return self.step(who, &event);
         }
-        match self.hear(who, event) {
+        match self.note_whole(who, event) {
             Ok(()) => Answer::Handled,
             Err(OutOfMemory) => Answer::OutOfMemory,
         }

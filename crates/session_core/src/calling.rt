@@ -11,7 +11,7 @@ use crate::session::{FULL, Session};
 use rs_wire::{Call, OutOfMemory};
 use tape::{Answer, Event, Tape};
 
-// A call whose copy takes memory.
+// Whether the copy of a call takes memory.
 fn carries_bytes(call: &Call) -> bool
     ensures { result ≡ carries_bytes call.now }
 {
@@ -31,8 +31,9 @@ fn carries_bytes(call: &Call) -> bool
 }
 
 impl<T: Tape> Session<T> {
-    // The answer to a call that has a way of its own, in which nothing of it is copied: a take where
-    // something waits, or what goes out in one frame. `None` of any other call: nothing has changed.
+    // The answer to a call that has a way of its own, in which nothing of it is copied: a take
+    // where something waits, or what goes out in one frame. `None` of any other call: nothing has
+    // changed.
     #[inline(always)]
     pub(crate) fn ask_shortly(&mut self, who: u32, call: &Call) -> Option<Answer>
         requires askable { CanBeAsked call.now }
@@ -75,9 +76,12 @@ impl<T: Tape> Session<T> {
         }
     }
 
-    /// Answers a call as [`Session::step`] answers the event of it, where nothing has to be copied but
-    /// what a tape keeps. `None` comes of a call that carries bytes, where they have to be copied, and
-    /// never at a full tape: nothing has changed, and `step` answers a copy of it.
+    /// Answers a call as [`Session::step`] answers the event of it. Of a call that goes a short way
+    /// (a take where something waits, and a request or a payload that goes out in one frame)
+    /// nothing is copied but what a tape keeps; a call without bytes is copied here. `None` comes
+    /// of any other call: it carries bytes, which have to be copied. Nothing has changed then; the
+    /// caller copies the call, outside of its turn where the session is shared, and `step` answers
+    /// the copy. At a full tape `None` never comes.
     #[inline(always)]
     pub fn ask(&mut self, who: u32, call: &Call) -> Option<Answer>
         requires askable { CanBeAsked call.now }

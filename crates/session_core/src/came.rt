@@ -17,7 +17,8 @@ use rs_wire::{Checked, Message, Rule};
 use session_model::{ANSWER_ROOM, EXTENSION, MAY_IGNORE};
 use tape::Answer;
 
-/// The bytes of the ERROR that turns a request away before its word: a header of 6, and a code of 4.
+/// The bytes of the ERROR that turns a request away before its word: a header of 6, and a code of
+/// 4.
 const TURNED_AWAY: u64 = 10;
 
 // The rule that a frame breaks whose type this end doesn't know.
@@ -30,7 +31,7 @@ fn unknown_type(number: u8, flags: u16) -> Option<Rule>
     Some(Rule::UnknownType(number))
 }
 
-// The position of the frames handled would pass the top.
+// Whether the position of the frames handled would pass the top.
 fn spends(settings: &Checked, state: &State, frame: &Frame) -> bool
     requires room { HasRoom state.now }
     requires spellable { IsSpellable frame.now }
@@ -40,7 +41,7 @@ fn spends(settings: &Checked, state: &State, frame: &Frame) -> bool
     position > settings.settings().top_position
 }
 
-// The position of the frames made would pass the top by the answer to a request.
+// Whether the position of the frames made would pass the top by the answer to a request.
 fn answer_spends(settings: &Checked, state: &State, request: &Request) -> bool
     requires room { HasRoom state.now }
     requires limits { AreLimits settings.now state.now }

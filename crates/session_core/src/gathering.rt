@@ -163,8 +163,8 @@ pub fn let_stream_go(parts: &mut Reassembly, streams: &Streams, stream: u32)
     parts.forget(stream);
 }
 
-// Drops what is gathered on the stream of an event, where the peer's messages are not taken in there
-// any more.
+// Drops what is gathered on the stream of an event, where the peer's messages are not taken in
+// there any more.
 fn let_go(parts: &mut Reassembly, streams: &Streams, event: &Event, answer: &Answer)
     ensures heard { (s : ℕ) → hears_on ((known_to streams.now).kept s) ≡ true →
         gathered_at parts.new s ≡ gathered_at parts.old s }
@@ -178,8 +178,8 @@ fn let_go(parts: &mut Reassembly, streams: &Streams, event: &Event, answer: &Ans
     }
 }
 
-/// Takes in what comes, and says on the streams what the event and its answer say, for which there is
-/// room. Of a stream on which the peer's messages are not taken in any more nothing is kept.
+/// Takes in what comes, and says on the streams what the event and its answer say, for which there
+/// is room. Of a stream on which the peer's messages are not taken in any more nothing is kept.
 pub fn speak(
     parts: &mut Reassembly,
     streams: &mut Streams,

@@ -17,7 +17,7 @@ ghost use Rattle.session_core.specs.Speaking.{CanSay, arrival_for};
 use crate::came::to_frame;
 use crate::gathering::{let_stream_go, touches};
 use crate::leasing::leases_agreed;
-use crate::speak::hear;
+use crate::speak::arrive;
 use crate::state::{State, count_came};
 use crate::turned_away::turned_away_for;
 use interactions::Streams;
@@ -27,8 +27,8 @@ use rs_wire::Checked;
 use stream_model::Arrival;
 use tape::{Answer, Event};
 
-// A request is admitted with its whole message: it needs no lease, nothing was gathered on its stream,
-// and no ERROR turns it away.
+// Whether a request is admitted with its whole message: it needs no lease, nothing was gathered on
+// its stream, and no ERROR turns it away.
 fn is_admitted(settings: &Checked, state: &State, request: &Request) -> bool
     requires limits { AreLimits settings.now state.now }
     ensures { result ≡ true → IsAdmitted settings.now (facts_of state.now) request.now }
@@ -39,7 +39,7 @@ fn is_admitted(settings: &Checked, state: &State, request: &Request) -> bool
         && turned_away_for(&state.streams, true, request).is_none()
 }
 
-// A message came whole, and nothing was gathered on its stream.
+// Whether a message came whole, and nothing was gathered on its stream.
 fn is_alone(settings: &Checked, state: &State, event: &Event) -> bool
     requires limits { AreLimits settings.now state.now }
     ensures { result ≡ true → IsAlone settings.now (facts_of state.now) event.now }
@@ -61,7 +61,7 @@ fn is_alone(settings: &Checked, state: &State, event: &Event) -> bool
     }
 }
 
-/// A message came whole, nothing was gathered on its stream, and it is handled.
+/// Whether a message came whole, nothing was gathered on its stream, and it is handled.
 pub fn comes_alone(settings: &Checked, state: &State, event: &Event) -> bool
     requires fair { CanBring settings.now event.now }
     requires room { HasRoom state.now }
@@ -130,9 +130,9 @@ fn let_go_on(parts: &mut Reassembly, streams: &Streams, on: Option<u32>)
 }
 
 impl State {
-    /// Applies a message that came whole and is handled, where nothing was gathered on its stream, and
-    /// room was made for it. The message goes to whoever takes it.
-    pub fn hear(&mut self, settings: &Checked, event: Event)
+    /// Applies a message that came whole and is handled, where nothing was gathered on its stream,
+    /// and room was made for it. The message goes to whoever takes it.
+    pub fn apply_whole(&mut self, settings: &Checked, event: Event)
         requires fair { IsFair settings.now event }
         requires room { HasRoom self.old }
         requires alone { IsAlone settings.now (facts_of self.old) event }
@@ -146,7 +146,7 @@ impl State {
         count_came(&mut self.handled, settings, &event);
         self.timer.came();
         let on = touches(&Answer::Handled, &event);
-        hear(&mut self.streams, said_alone(event));
+        arrive(&mut self.streams, said_alone(event));
         let_go_on(&mut self.parts, &self.streams, on);
     }
 }

@@ -14,15 +14,15 @@ use rs_frame::Frame;
 use rs_wire::{Call, Checked, Refusal};
 use tape::{Answer, Event};
 
-/// Leases are agreed.
+/// Whether leases are agreed.
 pub fn leases_agreed(settings: &Checked, state: &State) -> bool
     ensures { result ≡ leases_by settings.now (facts_of state.now) }
 {
     agrees_leases(settings.settings(), &state.setup)
 }
 
-/// The next request of the peer's is covered: no leases are agreed, or fewer were covered than this end
-/// let it make, in sum over the session.
+/// Whether the next request of the peer's is covered: no leases are agreed, or fewer were covered
+/// than this end let it make, in sum over the session.
 pub fn is_covered(settings: &Checked, state: &State) -> bool
     ensures { result ≡ covers_next settings.now state.now }
 {
@@ -61,8 +61,8 @@ fn lease_refused(fault: Option<LeaseFault>) -> Option<Refusal>
     }
 }
 
-/// Why a call is refused for its lease: where leases are agreed, a request needs one that is neither
-/// used up nor over.
+/// Why a call is refused for its lease: where leases are agreed, a request needs one that is
+/// neither used up nor over.
 pub fn by_lease(settings: &Checked, state: &State, call: &Call) -> Option<Refusal>
     ensures { result ≡ by_lease settings.now (facts_of state.now) call.now }
 {

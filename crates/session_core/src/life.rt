@@ -19,7 +19,7 @@ pub fn openings_in(event: &Event) -> u64
     }
 }
 
-/// An opening is accepted.
+/// Whether an opening is accepted.
 pub fn is_opened(answer: &Answer) -> bool
     ensures { result ≡ is_opened answer.now }
 {
@@ -40,8 +40,9 @@ pub fn live_after(answer: &Answer, before: u64) -> u64
     }
 }
 
-/// Whether frames go out at once after an event and its answer: an accepted opening carries from the
-/// start, but for a client's later one, which waits for RESUME_OK (RSocket 1.0, "RESUME_OK Frame").
+/// Whether frames go out at once after an event and its answer: an accepted opening carries from
+/// the start, but for a client's later one, which waits for RESUME_OK (RSocket 1.0, "RESUME_OK
+/// Frame").
 pub fn carrying_after(
     settings: &Settings,
     begun: bool,
@@ -96,7 +97,7 @@ pub fn told_in(agreed: bool, answer: &Answer, event: &Event) -> u64
     }
 }
 
-/// Resumption is agreed: on a client as it is set, on a server as SETUP asks.
+/// Whether resumption is agreed: on a client as it is set, on a server as SETUP asks.
 pub fn agrees_resumption(settings: &Settings, setup: &Option<Setup>) -> bool
     ensures { result ≡ agrees_resumption settings.now setup.now }
 {
@@ -109,7 +110,7 @@ pub fn agrees_resumption(settings: &Settings, setup: &Option<Setup>) -> bool
     }
 }
 
-/// Leases are agreed: on a client as it is set, on a server as SETUP asks.
+/// Whether leases are agreed: on a client as it is set, on a server as SETUP asks.
 pub fn agrees_leases(settings: &Settings, setup: &Option<Setup>) -> bool
     ensures { result ≡ agrees_leases settings.now setup.now }
 {

@@ -10,9 +10,9 @@ use std::alloc::Global;
 use tape::Answer;
 
 /// The frame that a server gives on a connection whose first frame it refused, and nothing else
-/// (RSocket 1.0, "Setup"): for [`Answer::SetupRefused`] the ERROR on stream 0 with the fault's code,
-/// for [`Answer::ResumeRefused`] that with the code REJECTED_RESUME, and the fault's word as content.
-/// Every other answer has none.
+/// (RSocket 1.0, "Setup"): for [`Answer::SetupRefused`] the ERROR on stream 0 with the fault's
+/// code, for [`Answer::ResumeRefused`] that with the code REJECTED_RESUME, and the fault's word as
+/// content. Every other answer has none.
 pub fn refusal_frame(alloc: Global, answer: &Answer) -> Result<Option<Frame>, OutOfMemory>
     ensures { IfOk result (λ f. f ≡ refusal answer.now) }
 {

@@ -11,7 +11,7 @@ use rs_frame::{Resume, Setup};
 use rs_wire::{Blob, Gone};
 use tape::Answer;
 
-// A held frame begins or ends at the position.
+// Whether a held frame begins or ends at the position.
 fn has_boundary(state: &State, position: u64) -> bool
     ensures { result ≡ has_boundary state.now.replay.held position }
 {

@@ -1,15 +1,13 @@
 //! Calls that go out in one frame, which is written from the call's own parts.
 
-ghost use Rattle.std.specs.Prelude.{◌≡◌, ◌≢◌, ◌≤◌, ◌+◌, ◌++◌, ◌<◌, ◌^◌, ◌∷◌, [], ℕ, None, Some, IfOk, IfSome, OnErr, OnOk, false, true, length, option_to_list};
+ghost use Rattle.std.specs.Prelude.{◌≡◌, ◌≢◌, ◌≤◌, ◌+◌, ◌++◌, ◌<◌, ◌^◌, None, Some, IfOk, IfSome, OnErr, OnOk, false, true, length, option_to_list};
 ghost use Rattle.rs_wire.specs.Calls.{CanBeAsked};
 ghost use Rattle.rs_wire.specs.Settings.{IsChecked};
-ghost use Rattle.rs_frame.specs.declared.frame.Frame.{Frame};
 ghost use Rattle.rs_frame.specs.Framed.{framed_all};
 ghost use Rattle.rs_frame.specs.Spelling.{IsSpellable, length_of};
 ghost use Rattle.tape.specs.declared.event.Event.TheVariants as events;
 ghost use Rattle.interactions.specs.Seen.{acted, known_to};
 ghost use Rattle.session_model.specs.Answers.{answer_to};
-ghost use Rattle.session_model.specs.Frames.{in_fragments};
 ghost use Rattle.session_model.specs.Legal.{IsFair};
 ghost use Rattle.session_core.specs.Fits.{AreLimits, HasRoom};
 ghost use Rattle.session_core.specs.Prepared.{with_line};
@@ -23,13 +21,14 @@ use crate::gathering::let_stream_go;
 use crate::life::{agrees_leases, agrees_resumption};
 use crate::queue::Queue;
 use crate::session::Session;
-use crate::sizes::mtu;
+use crate::sizes::{fits, mtu};
+use crate::speak::completes;
 use crate::state::State;
 use interactions::Streams;
 use rs_wire::{Call, Checked, OutOfMemory};
 use tape::{Answer, Tape};
 
-// Frames go out at once, and none is kept; no lease counts requests.
+// Whether frames go out at once, and none is kept; no lease counts requests.
 fn goes_plainly(settings: &Checked, state: &State) -> bool
     ensures { result ≡ true → GoesPlainly settings.now state.now }
 {
@@ -40,15 +39,7 @@ fn goes_plainly(settings: &Checked, state: &State) -> bool
         && !agrees_leases(set, &state.setup)
 }
 
-// A frame of this length is not longer than the mtu.
-fn fits(length: u32, mtu: u32) -> bool
-    ensures { (f : Frame) → length_of f ≡ length → result ≡ true →
-        in_fragments mtu f ≡ f ∷ [] }
-{
-    mtu == 0 || length <= mtu
-}
-
-// The call is not refused, and can go out by this way.
+// Whether the call is not refused, and can go out by this way.
 fn may_send(settings: &Checked, state: &State, call: &Call) -> bool
     requires room { HasRoom state.now }
     requires limits { AreLimits settings.now state.now }
@@ -57,8 +48,8 @@ fn may_send(settings: &Checked, state: &State, call: &Call) -> bool
     goes_plainly(settings, state) && refused_call(settings, state, call).is_none()
 }
 
-// The stream of a request or a payload: of a request the next of this end. `None` of any other call, and
-// where the ids are spent.
+// The stream of a request or a payload: of a request the next of this end. `None` of any other
+// call, and where the ids are spent.
 #[tactic(auto, using(crate::proofs::SentOnce::next_own))]
 fn stream_of(streams: &Streams, call: &Call) -> Option<u32>
     ensures { IfSome result (λ on. IsMessageOn (own_next streams.now) call.now on) }
@@ -70,8 +61,7 @@ fn stream_of(streams: &Streams, call: &Call) -> Option<u32>
     }
 }
 
-// The frame of a request or a payload says that this end sends nothing more on its stream. That of a
-// response always does.
+// Whether the frame of a request or a payload says that this end sends nothing more on its stream.
 fn is_last(streams: &Streams, call: &Call) -> bool
     ensures { result ≡ is_last (known_to streams.now) call.now }
 {
@@ -81,7 +71,7 @@ fn is_last(streams: &Streams, call: &Call) -> bool
             stream,
             complete,
             ..
-        } => *complete || streams.is_open_response(*stream),
+        } => completes(streams, *stream, *complete),
         _ => false,
     }
 }
@@ -133,7 +123,8 @@ fn answer_on(call: &Call, on: u32) -> Answer
 }
 
 impl State {
-    // Puts the frame of a call in line where it goes out alone on this stream, and gives its length.
+    // Puts the frame of a call in line where it goes out alone on this stream, and gives its
+    // length.
     fn line_call(
         &mut self,
         settings: &Checked,
@@ -187,8 +178,8 @@ impl State {
 }
 
 impl<T: Tape> Session<T> {
-    /// Sends a request or a payload that goes out in one frame, where neither resumption nor leases are
-    /// agreed. `None` where the call isn't such a one, or is refused: nothing has changed.
+    /// Sends a request or a payload that goes out in one frame, where neither resumption nor leases
+    /// are agreed. `None` where the call isn't such a one, or is refused: nothing has changed.
     #[inline(always)]
     pub(crate) fn send(&mut self, who: u32, call: &Call) -> Option<Answer>
         requires askable { CanBeAsked call.now }
@@ -204,6 +195,7 @@ impl<T: Tape> Session<T> {
         ensures spare { self.old.spare ≤ self.new.spare + 1 }
     {
         let on = stream_of(&self.state.streams, call)?;
+        // It does nothing: it says that the amounts of the call have their range.
         call_amounts_fit(call);
         let before = self.state.queue.len();
         let length = match self.state.line_call(&self.settings, call, on) {

@@ -1,14 +1,17 @@
 //! One end of a session.
 
-ghost use Rattle.std.specs.Prelude.{◌≡◌, ◌≢◌, ◌+◌, ◌<◌, ◌≤◌, ◌^◌, ◌↔◌, [], ◌∷◌, IfErr, IfOk, OnErr, OnOk, drop, is_some, length, take};
+ghost use Rattle.std.specs.Prelude.{◌≡◌, ◌≢◌, ◌+◌, ◌<◌, ◌≤◌, ◌^◌, ◌↔◌, [], ◌∷◌, IfErr, IfOk, IfSome, None, OnErr, OnOk, drop, is_some, length, max, take, ℕ};
 ghost use Rattle.std.specs.Option.{option_copied};
 ghost use Rattle.rs_wire.specs.Settings.{IsChecked};
 ghost use Rattle.rs_frame.specs.Framed.{framed_all};
 ghost use Rattle.tape.specs.Told.{entry_of};
 ghost use Rattle.session_model.specs.Life.{carrying, closed, live, setup};
 ghost use Rattle.session_model.specs.Frames.{drawn, due, queued};
+ghost use Rattle.session_model.specs.Moments.{moment, times};
+ghost use Rattle.keepalive.specs.Times.{due_at};
 ghost use Rattle.session_model.specs.Answers.{answer_to};
 ghost use Rattle.session_model.specs.Legal.{CanBring, Fair, IsFair, LeavesEntry, Legal};
+ghost use Rattle.session_core.specs.Due.{heeds_ticks};
 ghost use Rattle.session_core.specs.Queued.{IfDrawn, IsBrief, IsOfDraw, IsUntouched};
 ghost use Rattle.session_core.specs.Seen.{IsCutEvent, IsNoDrawEvent, IsOrOutOfMemory, counts_of, entries_after, told_by};
 
@@ -17,6 +20,8 @@ use crate::counts::Counts;
 use crate::history::History;
 use crate::judge::{judge, judge_draw};
 use crate::state::State;
+use crate::ticking::next_due;
+use keepalive::Due;
 use rs_frame::Setup;
 use rs_wire::{Cause, Checked, OutOfMemory};
 use std::alloc::Global;
@@ -28,6 +33,28 @@ pub(crate) const FULL: u64 = 1 << 63;
 
 /// One end of a session, with the tape of its entries. Contracts see its settings, its entries, the
 /// newest first, whether the tape shows them, and how many more it takes without memory.
+///
+/// # How to drive a session
+///
+/// A program has three kinds of calls.
+///
+/// - *Something happened*: [`Session::bring`], or [`Session::step`], with `Open`, `Came`, `Bad`,
+///   `Cut` or `Tick`.
+/// - *A caller wants something*: [`Session::ask`], which gives a call back that has to be copied;
+///   `step` or `bring` answers the copy.
+/// - *What goes out*: [`Session::draw`], until it answers `NotYet`. Do so after every call of the
+///   other two kinds, since any of them may queue bytes.
+///
+/// A `Tick` says what time it is. Bring one before each `Open`, so that the connection's times
+/// begin at it, and one when the moment of [`Session::next_due`] has come; ask for that again after
+/// each event, since any of them may move it. Moments never fall.
+///
+/// After `Parted`, `Dead`, `PeerError` and `Violation` look at [`Session::cause`]: without one the
+/// session waits for the next `Open`. What answers `NotYet`, `OutBusy`, `TapeFull` or `OutOfMemory`
+/// has changed nothing, and may be brought again (an event that `bring` took has to be made anew).
+/// [`Session::queued`], [`Session::live`] and what else only looks may be called at any time.
+///
+/// # The life of a session
 ///
 /// ```text
 ///                     Open: Opened(n)
@@ -44,13 +71,14 @@ pub(crate) const FULL: u64 = 1 << 63;
 ///    +----------------------------------------------------------+
 /// ```
 ///
-/// Where resumption is agreed, a cut and a dead peer leave a begun session without a live connection,
-/// and calls go on. A client opens again by RESUME, and what it makes waits for RESUME_OK; a server is
-/// opened again by RESUME, which takes the place of a connection that is still live.
+/// Where resumption is agreed, a cut and a dead peer leave a begun session without a live
+/// connection, and calls go on. A client opens again by RESUME, and what it makes waits for
+/// RESUME_OK; a server is opened again by RESUME, which takes the place of a connection that is
+/// still live.
 ///
-/// A connection stays live in a closed session until it is cut, so what is queued can still be drawn,
-/// and what waits on a stream can still be taken. Every other call is then refused as `Closed`, and
-/// every frame and opening is answered `Closed`.
+/// A connection stays live in a closed session until it is cut, so what is queued can still be
+/// drawn, and what waits on a stream can still be taken. Every other call is then refused as
+/// `Closed`, and every frame and opening is answered `Closed`.
 #[derive(Drop)]
 pub struct Session<T: Tape> {
     pub(crate) alloc: Global,
@@ -117,12 +145,12 @@ impl<T: Tape> Session<T> {
         }
     }
 
-    /// Answers an event, which is no draw, and notes it on the tape for the caller `who`. An opening
-    /// has a first frame exactly on a server, and frames can be spelled.
+    /// Answers an event, which is no draw, and notes it on the tape for the caller `who`. An
+    /// opening has a first frame exactly on a server, and frames can be spelled.
     ///
-    /// `TapeFull` comes exactly where there are 2^63 entries. `OutOfMemory` may come in place of any
-    /// answer that leaves an entry, but at a cut only where there is no spare. These two, `NotYet` and
-    /// `OutBusy` leave all as it was.
+    /// `TapeFull` comes exactly where there are 2^63 entries. `OutOfMemory` may come in place of
+    /// any other answer, of `NotYet` and `OutBusy` too, but at a cut only where there is no spare.
+    /// These four leave all as it was.
     pub fn step(&mut self, who: u32, event: &Event) -> Answer
         requires fair { CanBring self.old.settings event.now }
         requires no_draw { IsNoDrawEvent event.now }
@@ -169,6 +197,7 @@ impl<T: Tape> Session<T> {
         if !answer.leaves_entry() {
             return answer;
         }
+        // It does nothing: it says that the amounts of a call have their range.
         amounts_fit(&self.settings, event);
         match self.note(who, event, &answer) {
             Ok(()) => answer,
@@ -300,6 +329,27 @@ impl<T: Tape> Session<T> {
         ensures { result ≡ queued self.now.settings self.now.entries }
     {
         self.state.queue.len()
+    }
+
+    /// The first moment, in milliseconds, at which an [`Event::Tick`] does more than take its
+    /// moment, as things stand: a KEEPALIVE is due then, or the peer counts as dead (RSocket 1.0,
+    /// "KEEPALIVE Frame"). A tick at each earlier moment is answered `Quiet`. `None` without a live
+    /// connection, and once the session is closed: then a tick is `Quiet` whatever its moment is.
+    ///
+    /// The moment may be past, where a KEEPALIVE is due and could not be made: the queue had no
+    /// room, or a client waits for RESUME_OK. Then a tick comes at once, and again when bytes were
+    /// drawn or a frame came. It may also lie above every `u64`.
+    pub fn next_due(&self) -> Option<u128>
+        ensures some { is_some result ≡ heeds_ticks self.now.settings self.now.entries }
+        ensures none { result ≡ None → (now : ℕ) →
+            answer_to self.now.settings self.now.entries (Event.Tick now) ≡ Answer.Quiet }
+        ensures before { IfSome result (λ t. (now : ℕ) →
+            max (moment self.now.entries) now < t →
+            answer_to self.now.settings self.now.entries (Event.Tick now) ≡ Answer.Quiet) }
+        ensures from { IfSome result (λ t. (now : ℕ) → t ≤ now →
+            due_at (times self.now.settings self.now.entries) now ≢ Due.Nothing) }
+    {
+        next_due(&self.state)
     }
 
     /// Whether frames that are made go out at once on the live connection.

@@ -2,10 +2,11 @@
 
 ghost use Rattle.std.specs.Prelude.{◌≡◌, ◌+◌, ◌<◌, ◌≤◌, ◌^◌, [], ◌∷◌, ℕ, true, IfSome, length};
 ghost use Rattle.rs_wire.specs.Message.{option_length};
-ghost use Rattle.rs_frame.specs.Spelling.{number_there};
+ghost use Rattle.rs_frame.specs.Spelling.{length_of, number_there};
+ghost use Rattle.rs_frame.specs.declared.frame.Frame.{Frame};
 ghost use Rattle.stream_model.specs.Known.{Known};
 ghost use Rattle.fragment.specs.Splitting.{IsMtu};
-ghost use Rattle.session_model.specs.Frames.{closing_error, spoken};
+ghost use Rattle.session_model.specs.Frames.{closing_error, in_fragments, spoken};
 ghost use Rattle.rs_frame.specs.declared.frame.Frame.TheVariants as frames;
 ghost use Rattle.session_model.specs.Answers.{size_in};
 ghost use Rattle.session_core.specs.Outgoing.{frame_beside};
@@ -23,6 +24,20 @@ const NUMBER: u32 = 4;
 /// The bytes of the position of a KEEPALIVE.
 const POSITION: u32 = 8;
 
+/// The bytes of the length before each frame (RSocket 1.0, "Framing Protocol Usage").
+pub const LENGTH_FIELD: u64 = 3;
+
+/// The most bytes that a call may send on: the upper limit of the setting `max_payload`. With them
+/// the length of a frame still has 24 bits.
+pub const MOST_PAYLOAD: u64 = 16_000_000;
+
+/// More frames than a call goes out in, by far: with [`MANY_BYTES`] it keeps sums of sizes below
+/// 2^64.
+pub const MANY_FRAMES: u64 = 1 << 40;
+
+/// More bytes than the frames of a call have, by far.
+pub const MANY_BYTES: u64 = 1 << 60;
+
 /// The most bytes of a frame that is sent, 0 for no limit.
 #[tactic(auto, using(crate::proofs::Framed::mtu_limit))]
 pub fn mtu(settings: &Checked) -> u32
@@ -30,6 +45,15 @@ pub fn mtu(settings: &Checked) -> u32
     ensures limit { IsMtu result }
 {
     settings.settings().mtu
+}
+
+/// Whether a frame of this length goes out in one piece: it is not longer than the mtu, or there is
+/// no limit.
+pub fn fits(length: u32, mtu: u32) -> bool
+    ensures { (f : Frame) → length_of f ≡ length → result ≡ true →
+        in_fragments mtu f ≡ f ∷ [] }
+{
+    mtu == 0 || length <= mtu
 }
 
 /// How many bytes these are, where there are some.
@@ -54,8 +78,8 @@ fn one(bytes: u64) -> SplitSize
 #[tactic(auto, unfolding(position::specs::Boundaries::pos_by))]
 pub fn closing_size() -> SplitSize
     ensures value { result ≡ size_of_frames (closing_error [] ∷ []) }
-    ensures few { result.frames < 2 ^ 40 }
-    ensures small { result.bytes < 2 ^ 60 }
+    ensures few { result.frames < MANY_FRAMES }
+    ensures small { result.bytes < MANY_BYTES }
 {
     one(u64::from(HEADER + NUMBER))
 }
@@ -65,18 +89,18 @@ pub fn closing_size() -> SplitSize
 pub fn keepalive_size() -> SplitSize
     ensures value { (position : ℕ) → result ≡
         size_of_frames (frames.Keepalive true position [] ∷ []) }
-    ensures few { result.frames < 2 ^ 40 }
-    ensures small { result.bytes < 2 ^ 60 }
+    ensures few { result.frames < MANY_FRAMES }
+    ensures small { result.bytes < MANY_BYTES }
 {
     one(u64::from(HEADER + POSITION))
 }
 
 /// The size of the frame of the connection alone that a call makes, where it makes one.
 pub fn size_beside(call: &Call) -> Option<SplitSize>
-    requires { size_in call.now ≤ 16000000 }
+    requires { size_in call.now ≤ MOST_PAYLOAD }
     ensures value { result ≡ size_alone (frame_beside call.now) }
-    ensures few { IfSome result (λ n. n.frames < 2 ^ 40) }
-    ensures small { IfSome result (λ n. n.bytes < 2 ^ 60) }
+    ensures few { IfSome result (λ n. n.frames < MANY_FRAMES) }
+    ensures small { IfSome result (λ n. n.bytes < MANY_BYTES) }
 {
     match call {
         Call::Push { metadata } => Some(one(u64::from(HEADER) + metadata.len() as u64)),
@@ -100,11 +124,11 @@ fn head(initial: Option<Amount>) -> u32
 
 /// How many frames the frame of a call goes out in, where it makes one, and their bytes in sum.
 pub fn size_spoken(settings: &Checked, call: &Call) -> Option<SplitSize>
-    requires { size_in call.now ≤ 16000000 }
+    requires { size_in call.now ≤ MOST_PAYLOAD }
     ensures value { (t : Known) (id : ℕ) → result ≡
         size_sent settings.now.mtu (spoken t id call.now) }
-    ensures few { IfSome result (λ n. n.frames < 2 ^ 40) }
-    ensures small { IfSome result (λ n. n.bytes < 2 ^ 60) }
+    ensures few { IfSome result (λ n. n.frames < MANY_FRAMES) }
+    ensures small { IfSome result (λ n. n.bytes < MANY_BYTES) }
 {
     let mtu = mtu(settings);
     match call {

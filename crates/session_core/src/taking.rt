@@ -44,8 +44,8 @@ impl State {
 }
 
 impl<T: Tape> Session<T> {
-    /// Answers a take on a stream where something waits, and hands it out: only a tape that keeps its
-    /// entries copies it. `None` where nothing waits: nothing has changed.
+    /// Answers a take on a stream where something waits, and hands it out: only a tape that keeps
+    /// its entries copies it. `None` where nothing waits: nothing has changed.
     #[inline(always)]
     pub(crate) fn take(&mut self, who: u32, stream: u32) -> Option<Answer>
         requires not_full { length self.old.entries < 2 ^ 63 }

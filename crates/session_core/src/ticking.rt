@@ -1,6 +1,8 @@
 //! The answer to a tick (RSocket 1.0, "KEEPALIVE Frame").
 
-ghost use Rattle.std.specs.Prelude.{◌≡◌, [], ◌∷◌, not};
+ghost use Rattle.std.specs.Prelude.{◌≡◌, ◌≢◌, ◌<◌, ◌≤◌, ◌==◌, ◌||◌, ℕ, [], ◌∷◌, IfSome, None, is_some, max, not};
+ghost use Rattle.rs_wire.specs.declared.settings.Settings.{Settings};
+ghost use Rattle.keepalive.specs.Times.{due_at};
 ghost use Rattle.session_model.specs.Answers.{asks_alive, find_full, to_due, to_tick};
 ghost use Rattle.session_core.specs.Fits.{facts_of};
 
@@ -12,7 +14,7 @@ use keepalive::Due;
 use rs_wire::Checked;
 use tape::Answer;
 
-// The queue has room for a KEEPALIVE that asks for an answer.
+// Whether the queue has room for a KEEPALIVE that asks for an answer.
 fn finds_place(settings: &Checked, state: &State) -> bool
     ensures { result ≡ not (find_full settings.now (facts_of state.now)
         (asks_alive settings.now (facts_of state.now) ∷ [])) }
@@ -20,8 +22,8 @@ fn finds_place(settings: &Checked, state: &State) -> bool
     !find_full(settings, state, keepalive_size())
 }
 
-// The answer where this is due. A KEEPALIVE is sent where the connection carries and the queue has room
-// for it.
+// The answer where this is due. A KEEPALIVE is sent where the connection carries and the queue has
+// room for it.
 fn to_due(settings: &Checked, state: &State, due: Due) -> Answer
     ensures { result ≡ to_due settings.now (facts_of state.now) due }
 {
@@ -32,14 +34,40 @@ fn to_due(settings: &Checked, state: &State, due: Due) -> Answer
     }
 }
 
-/// The answer to a tick. Without a live connection, and once the session is closed, the moment is taken
-/// and nothing else is done.
+// Whether a tick takes its moment and does nothing else: without a live connection, and once the
+// session is closed.
+fn is_idle(state: &State) -> bool
+    ensures { result ≡ ((state.now.live == 0) || is_some state.now.closed) }
+{
+    state.live == 0 || state.closed.is_some()
+}
+
+/// The answer to a tick. Without a live connection, and once the session is closed, the moment is
+/// taken and nothing else is done.
 pub fn to_tick(settings: &Checked, state: &State, now: u64) -> Answer
     ensures { result ≡ to_tick settings.now (facts_of state.now) now }
 {
-    if state.live == 0 || state.closed.is_some() {
+    if is_idle(state) {
         return Answer::Quiet;
     }
     let now = later(state.timer.moment(), now);
     to_due(settings, state, state.timer.due(now))
+}
+
+/// The first moment, in milliseconds, at which something is due as things stand. `None` where a
+/// tick takes its moment and does nothing else.
+pub fn next_due(state: &State) -> Option<u128>
+    ensures some { is_some result ≡ not ((state.now.live == 0) || is_some state.now.closed) }
+    ensures none { result ≡ None → (g : Settings) (now : ℕ) →
+        to_tick g (facts_of state.now) now ≡ Answer.Quiet }
+    ensures before { (g : Settings) → IfSome result (λ t. (now : ℕ) →
+        max state.now.timer.moment now < t →
+        to_tick g (facts_of state.now) now ≡ Answer.Quiet) }
+    ensures from { IfSome result (λ t. (now : ℕ) → t ≤ now →
+        due_at state.now.timer now ≢ Due.Nothing) }
+{
+    if is_idle(state) {
+        return None;
+    }
+    Some(state.timer.next_due())
 }

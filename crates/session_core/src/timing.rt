@@ -14,15 +14,16 @@ use rs_wire::{Amount, Settings, Side};
 use session_model::LAST_MOMENT;
 use tape::{Answer, Event};
 
-/// The moment of a tick, in milliseconds: one below the moment before it counts as that, and one above
-/// 2^62 as 2^62.
+/// The moment of a tick, in milliseconds: one below the moment before it counts as that, and one
+/// above 2^62 as 2^62.
 pub fn later(before: u64, now: u64) -> u64
     ensures { result ≡ moment_with before (Event.Tick now) }
 {
     before.max(now.min(LAST_MOMENT))
 }
 
-// Milliseconds between two KEEPALIVEs: as the SETUP says that a server accepted, and as a client is set.
+// Milliseconds between two KEEPALIVEs: as the SETUP says that a server accepted, and as a client is
+// set.
 fn interval(settings: &Settings, setup: &Option<Setup>) -> Amount
     requires { IsStream settings.now.keepalive_ms }
     ensures { result ≡ interval_by settings.now setup.now }
@@ -64,8 +65,8 @@ fn tick(timer: &mut Timer, now: u64, answer: &Answer)
     }
 }
 
-/// Passes the time of an event and its answer, where `setup` is the SETUP that was accepted then, and
-/// `live` the connection that was live before.
+/// Passes the time of an event and its answer, where `setup` is the SETUP that was accepted then,
+/// and `live` the connection that was live before.
 pub fn pass(
     timer: &mut Timer,
     settings: &Settings,

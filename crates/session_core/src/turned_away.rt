@@ -10,8 +10,8 @@ use interactions::Streams;
 use rs_frame::Request;
 use rs_wire::Kind;
 
-/// The word of why a request opens no stream and is answered by an ERROR: its lease does not cover it, or
-/// as many streams are open as may be. A fire-and-forget is never answered.
+/// The word of why a request opens no stream and is answered by an ERROR: its lease does not cover
+/// it, or as many streams are open as may be. A fire-and-forget is never answered.
 pub fn turned_away_for(streams: &Streams, covered: bool, request: &Request) -> Option<&'static str>
     ensures word { (g : Settings) → g.max_streams ≡ streams.now.limits.max_streams →
         option_copied result ≡ turned_away_for g covered (known_to streams.now) request.now }

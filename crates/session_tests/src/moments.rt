@@ -5,9 +5,11 @@ use super::ends::{
     AT_0, AT_8, BEGUN, NOT_BEGUN, OPENED, RESUME, RESUMING_CLIENT, RESUMING_SERVER, RESUMING_SETUP,
     SETUP, WIDE_CLIENT, WIDE_SERVER,
 };
-use super::play::{Shown, play};
+use super::play::{Limits, Shown, answer, play, session};
 use super::step::{First, Step, Strange};
 use rs_wire::{Cause, Rule};
+use std::alloc::Global;
+use std::process::Abort;
 
 /// A KEEPALIVE that asks for an answer before its position, after its length of 14: stream 0, type 3, R.
 const ASKS: &[u8] = b"\x00\x00\x0e\x00\x00\x00\x00\x0c\x80";
@@ -313,5 +315,64 @@ fn a_keepalive_tells_no_position_above_what_was_made(rt: HostRuntime) {
         ],
         &[],
         OPENED.after(2, 0),
+    );
+}
+
+// Plays the steps on a new session of these limits. After each it shows the next moment at which a
+// tick does more than take its moment.
+fn shows_next(rt: &impl Abort, alloc: Global, limits: Limits, steps: &[(Step, Option<u128>)]) {
+    let mut session = session(rt, alloc, limits);
+    let mut sent = Vec::new(alloc);
+    for (number, (step, next)) in steps.iter().enumerate() {
+        let _answer = answer(rt, alloc, &mut session, *step, &mut sent);
+        assert_eq!(rt; session.next_due(), *next, "at step {number}, counted from 0");
+    }
+}
+
+#[test]
+fn the_next_moment_is_that_of_a_keepalive_or_of_a_dead_peer(rt: HostRuntime) {
+    shows_next(
+        &rt,
+        rt.alloc(),
+        WIDE_CLIENT,
+        &[
+            (Step::Tick(5), None),
+            (Step::Open, Some(20_005)),
+            (Step::Tick(20_004), Some(20_005)),
+            (Step::Tick(20_005), Some(40_005)),
+            (Step::Odd(1, Strange::Keepalive(false, 0, 0)), Some(40_005)),
+            (Step::Tick(109_000), Some(110_005)),
+            (Step::Tick(110_004), Some(110_005)),
+            (Step::Tick(110_005), None),
+        ],
+    );
+    shows_next(
+        &rt,
+        rt.alloc(),
+        WIDE_SERVER,
+        &[
+            (Step::Opened(First::Brisk, false), Some(30)),
+            (Step::Tick(20), Some(30)),
+            (Step::Odd(1, Strange::Keepalive(true, 0, 0)), Some(50)),
+            (Step::Close, None),
+        ],
+    );
+}
+
+#[test]
+fn the_next_moment_is_past_where_a_keepalive_waits_for_resume_ok(rt: HostRuntime) {
+    shows_next(
+        &rt,
+        rt.alloc(),
+        RESUMING_CLIENT,
+        &[
+            (Step::Open, Some(20_000)),
+            (Step::Cut(1), None),
+            (Step::Tick(30_000), None),
+            (Step::Open, Some(50_000)),
+            (Step::Tick(60_000), Some(50_000)),
+            (Step::Odd(2, Strange::ResumeOk(0)), Some(50_000)),
+            (Step::Tick(60_000), Some(80_000)),
+        ],
     );
 }

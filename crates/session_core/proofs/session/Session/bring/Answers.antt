@@ -10,8 +10,8 @@ comes_alone-requires-clause-room g c =
     let short : length c.self.inside.history < 2 ^ 63 = omega (arith, c.self.invariant.count_is) in
     room_of c.self.inside.settings c.self.inside.state c.self.inside.history _ _ c.self.invariant short
 
-pub hear-requires-clause-alone : goal.hear-requires-clause-alone
-hear-requires-clause-alone g c =
+pub note_whole-requires-clause-alone : goal.note_whole-requires-clause-alone
+note_whole-requires-clause-alone g c =
     let e = c.args.event in
     let settings = c.self.inside.settings in
     let alone : IsAlone settings (facts settings c.self.inside.history) e =

@@ -13,10 +13,10 @@ use Rattle.session_core.specs.Speaking.{CanSay, arrival_for}
 use Rattle.session_core.proofs.Alone.{after_room}
 use Rattle.session_core.proofs.Saying.{can_say}
 use Rattle.session_core.proofs.Soundness.{means_of, room_of, sound_more}
-use Rattle.session_core.proofs.session.Session.hear.Goals as goal
+use Rattle.session_core.proofs.session.Session.note_whole.Goals as goal
 
-pub hear-requires-clause-room : goal.hear-requires-clause-room
-hear-requires-clause-room g c =
+pub apply_whole-requires-clause-room : goal.apply_whole-requires-clause-room
+apply_whole-requires-clause-room g c =
     let short : length c.self.inside.history < 2 ^ 63 = subst (λ (v : Seen). length v.entries < 2 ^ 63) (sym c.self.view_is) c.requires.not_full in
     let room = room_of c.self.inside.settings c.self.inside.state c.self.inside.history _ _ c.self.invariant short in
     record {
@@ -28,8 +28,8 @@ hear-requires-clause-room g c =
       granted = room.granted;
     }
 
-pub hear-requires-clause-alone : goal.hear-requires-clause-alone
-hear-requires-clause-alone g c =
+pub apply_whole-requires-clause-alone : goal.apply_whole-requires-clause-alone
+apply_whole-requires-clause-alone g c =
     let settings = c.self.inside.settings in
     let s = c.self.inside.state in
     let e = c.args.event in
@@ -37,8 +37,8 @@ hear-requires-clause-alone g c =
     let here : IsAlone settings (facts_of s) e = subst (λ (t : Facts). IsAlone settings t e) (sym c.self.invariant.fits.facts_are) alone in
     subst (λ (v : Streams). IsAlone settings (facts_of (record s { streams = v })) e) (sym c.in_ok-make_room.ensures.same) here
 
-pub hear-requires-clause-says : goal.hear-requires-clause-says
-hear-requires-clause-says g c =
+pub apply_whole-requires-clause-says : goal.apply_whole-requires-clause-says
+apply_whole-requires-clause-says g c =
     let settings = c.self.inside.settings in
     let s = c.self.inside.state in
     let past = c.self.inside.history in
@@ -58,7 +58,7 @@ invariant_of-self-2 g c =
     let e = c.args.event in
     let is : answer.Handled ≡ answer_to settings past e = subst (λ (v : Seen). answer.Handled ≡ answer_to v.settings v.entries e) (sym c.self.view_is) c.requires.is in
     let fair : IsFair settings e = subst (λ (v : Seen). IsFair v.settings e) (sym c.self.view_is) c.requires.fair in
-    let after : IsAfter settings s e answer.Handled c.hear.new.self = after_room settings s c.hear.new.self e answer.Handled c.make_room.new.streams.ready
-    (subst (λ (v : Streams). IsAfter settings (record s { streams = v }) e answer.Handled c.hear.new.self) c.in_ok-make_room.ensures.same c.hear.ensures) in
+    let after : IsAfter settings s e answer.Handled c.apply_whole.new.self = after_room settings s c.apply_whole.new.self e answer.Handled c.make_room.new.streams.ready
+    (subst (λ (v : Streams). IsAfter settings (record s { streams = v }) e answer.Handled c.apply_whole.new.self) c.in_ok-make_room.ensures.same c.apply_whole.ensures) in
     rw (c.note-2.ensures, c.in_ok-note.ensures.told, c.in_ok-note.ensures.count)
-    (sound_more settings s c.hear.new.self past (record { who = c.args.who; event = e; answer = answer.Handled }) _ _ c.self.invariant after is (search rules) fair)
+    (sound_more settings s c.apply_whole.new.self past (record { who = c.args.who; event = e; answer = answer.Handled }) _ _ c.self.invariant after is (search rules) fair)
