@@ -1,6 +1,6 @@
 //! All input is read before anything is written.
 
-use crate::tests::{BACK, CABLE, FRAMES, status_over};
+use crate::ended::{BACK, CABLE, FRAMES, status_over};
 use outside::{MemSink, MemSource, Read, Sink, Source, Wrote};
 use rs_wire::Blob;
 use std::alloc::Global;
