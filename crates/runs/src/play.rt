@@ -3,6 +3,7 @@
 use crate::run::Run;
 use crate::tally::Tally;
 use anyhow::{Context, Result};
+use std::alloc::Global;
 use std::fs;
 use std::io::Print;
 use std::rt::Files;
@@ -23,6 +24,17 @@ const EXAMPLES: [&str; 12] = [
     "stream",
 ];
 
+// The run of this name. Where its text is out of form, its name is printed.
+fn read_run(rt: &impl Print, alloc: Global, name: &str, text: &str) -> Result<Run> {
+    match Run::read(alloc, text) {
+        Ok(run) => Ok(run),
+        Err(error) => {
+            println!(rt; "out of form: {name}")?;
+            Err(error)
+        }
+    }
+}
+
 /// Plays the runs of a file, and answers whether none differs.
 pub fn play_file<R: Files + AllocGlobal + Print>(rt: &R, folder: &str, file: &str) -> Result<bool> {
     let alloc = rt.alloc();
@@ -31,7 +43,7 @@ pub fn play_file<R: Files + AllocGlobal + Print>(rt: &R, folder: &str, file: &st
     let mut tally = Tally::new();
     for part in text.split("\n== ").skip(1) {
         let name = part.lines().next().unwrap_or("");
-        let run = Run::read(alloc, part)?;
+        let run = read_run(rt, alloc, name, part)?;
         tally.add(rt, name, &run.end, &run.play(alloc)?)?;
     }
     Ok(tally.close(rt, file)?)

@@ -11,15 +11,20 @@ use tape::KeptShelf;
 /// How a run ends.
 #[derive(Drop, PartialEq, Eq)]
 pub struct End {
+    /// The exit status.
     pub status: u8,
+    /// All bytes that it wrote.
     pub written: Vec<u8>,
 }
 
 /// What a run is given, and how it is to end.
 #[derive(Drop)]
 pub struct Run {
+    /// The words after the program's name.
     pub words: Vec<Blob>,
+    /// The bytes on its input.
     pub input: Vec<u8>,
+    /// How it is to end.
     pub end: End,
 }
 
