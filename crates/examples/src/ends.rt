@@ -56,12 +56,12 @@ fn show(rt: &impl Print, name: &str, answer: &Answer) -> Result<()> {
 }
 
 // Something happens at an end.
-fn tell(end: &mut End, event: Event) -> Answer
-    requires fair { CanBring end.old.settings event }
-    requires no_draw { IsNoDrawEvent event }
+fn tell(end: &mut End, event: &Event) -> Answer
+    requires fair { CanBring end.old.settings event.now }
+    requires no_draw { IsNoDrawEvent event.now }
     ensures { end.new.settings ≡ end.old.settings }
 {
-    end.step(CALLER, &event)
+    end.step(CALLER, event)
 }
 
 // A caller asks something.
@@ -76,7 +76,7 @@ pub fn open(rt: &impl Print, client: &mut End) -> Result<()>
     requires { client.old.settings.side ≡ Client }
     ensures { client.new.settings ≡ client.old.settings }
 {
-    let answer = tell(client, Event::opening());
+    let answer = tell(client, &Event::opening());
     show(rt, "client", &answer)
 }
 
@@ -87,7 +87,7 @@ pub fn accept(rt: &impl Print, alloc: Global, server: &mut End, first: &[u8]) ->
     ensures { server.new.settings ≡ server.old.settings }
 {
     let first = decode(alloc, first)?;
-    let answer = tell(server, Event::opened_by(first));
+    let answer = tell(server, &Event::opened_by(first));
     show(rt, "server", &answer)
 }
 
@@ -95,7 +95,7 @@ pub fn accept(rt: &impl Print, alloc: Global, server: &mut End, first: &[u8]) ->
 pub fn cut(rt: &impl Print, name: &str, end: &mut End, connection: u64) -> Result<()>
     ensures { end.new.settings ≡ end.old.settings }
 {
-    let answer = tell(end, Event::Cut { conn: connection });
+    let answer = tell(end, &Event::Cut { conn: connection });
     show(rt, name, &answer)
 }
 
@@ -104,7 +104,7 @@ pub fn ask(rt: &impl Print, name: &str, end: &mut End, call: Call) -> Result<()>
     requires { CanBeAsked call }
     ensures { end.new.settings ≡ end.old.settings }
 {
-    let answer = tell(end, asked(call));
+    let answer = tell(end, &asked(call));
     show(rt, name, &answer)
 }
 
@@ -126,7 +126,7 @@ fn come(
     ensures { end.new.settings ≡ end.old.settings }
 {
     let frame = decode(alloc, frame)?;
-    let answer = tell(end, Event::arrived(connection, frame));
+    let answer = tell(end, &Event::arrived(connection, frame));
     show(rt, name, &answer)
 }
 

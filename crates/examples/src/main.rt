@@ -1,11 +1,13 @@
-//! The library in use: three short programs over two ends of a session in one process, a module
-//! each. [`hello`] is the first to read, [`stream`] the second, [`resume`] the third.
+//! The library in use: four short programs, a module each. [`hello`] is the first to read, [`stream`]
+//! the second, [`resume`] the third, over two ends of a session in one process; [`handler`] is a
+//! handler of a program's own.
 //!
-//! `examples hello` runs one of them, and with no word all three run, one after another.
+//! `examples hello` runs one of them, and with no word all four run, one after another.
 #![tactic(auto)]
 
 mod calls;
 mod ends;
+mod handler;
 mod hello;
 mod resume;
 mod stream;
@@ -25,10 +27,16 @@ enum Example {
     Hello,
     Stream,
     Resume,
+    Handler,
 }
 
 /// In the order in which they are run.
-const ALL: [Example; 3] = [Example::Hello, Example::Stream, Example::Resume];
+const ALL: [Example; 4] = [
+    Example::Hello,
+    Example::Stream,
+    Example::Resume,
+    Example::Handler,
+];
 
 impl Example {
     fn named(name: &str) -> Option<Example> {
@@ -36,6 +44,7 @@ impl Example {
             "hello" => Some(Example::Hello),
             "stream" => Some(Example::Stream),
             "resume" => Some(Example::Resume),
+            "handler" => Some(Example::Handler),
             _ => None,
         }
     }
@@ -45,6 +54,7 @@ impl Example {
             Example::Hello => hello::run(rt, alloc),
             Example::Stream => stream::run(rt, alloc),
             Example::Resume => resume::run(rt, alloc),
+            Example::Handler => handler::run(rt, alloc),
         }
     }
 }
@@ -59,7 +69,7 @@ fn main(rt: HostRuntime) -> Result<ExitCode> {
         return Ok(ExitCode::SUCCESS);
     };
     let Some(example) = Example::named(&name) else {
-        eprintln!(rt; "examples: no example {name:?}, only hello, stream and resume")?;
+        eprintln!(rt; "examples: no example {name:?}, only hello, stream, resume and handler")?;
         return Ok(ExitCode::from(USAGE));
     };
     if let Some(word) = words.next() {

@@ -7,7 +7,7 @@ ghost use Rattle.rs_wire.specs.declared.words.Side.TheVariants.{Client, Server};
 use crate::ends::{End, ROOM, accept, ask, cut, end_with, open, receive, send, take_job};
 use anyhow::{Context, Result};
 use rs_chunk::split_frame;
-use rs_wire::{Blob, Call, Checked, Settings, Side, check};
+use rs_wire::{Blob, Call, Checked, OutOfMemory, Settings, Side, check};
 use std::alloc::Global;
 use std::io::Print;
 
@@ -18,16 +18,22 @@ const TOKEN: &[u8] = b"tok1";
 /// first request, and 5 of the second.
 const CROSSED: usize = 94;
 
-// The settings of an end that resumes. The token is the client's: it is in its SETUP.
+// The token of an end. It is the client's, in whose SETUP it stands; a server has none of its own.
+fn token(alloc: Global, side: Side) -> Result<Blob, OutOfMemory> {
+    match side {
+        Side::Client => Blob::from_slice(alloc, TOKEN),
+        Side::Server => Ok(Blob::from_vec(Vec::new(alloc))),
+    }
+}
+
+// The settings of an end that resumes.
 fn resuming(alloc: Global, side: Side) -> Result<Checked>
     ensures side { IfOk result (λ s. s.side ≡ side) }
     ensures no_leases { IfOk result (λ s. s.lease ≡ false) }
 {
     let mut settings = Settings::usual(alloc, side)?;
     settings.resume = true;
-    if side == Side::Client {
-        settings.token = Blob::from_slice(alloc, TOKEN)?;
-    }
+    settings.token = token(alloc, side)?;
     let settings = check(settings).map_err(|(_, fault)| fault)?;
     Ok(settings)
 }

@@ -15,26 +15,3 @@ mod words;
 
 pub use program::run;
 pub use words::start;
-
-#[cfg(test)]
-mod edge_tests;
-#[cfg(test)]
-mod fragment_tests;
-#[cfg(test)]
-mod frames_tests;
-#[cfg(test)]
-mod moments_tests;
-#[cfg(test)]
-mod order_tests;
-#[cfg(test)]
-mod resume_tests;
-#[cfg(test)]
-mod script_tests;
-#[cfg(test)]
-mod settings_tests;
-#[cfg(test)]
-mod stream_tests;
-#[cfg(test)]
-mod tests;
-#[cfg(test)]
-mod words_tests;

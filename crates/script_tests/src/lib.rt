@@ -1,5 +1,5 @@
-//! Texts of scripts of the cable, and what they are read as. They stand above `cable_script`, since a
-//! crate with tests is proved once more with them.
+//! Texts of scripts of the cable and what they are read as, and words of the command line. They stand
+//! above `cable_script` and `command_line`, since a crate with tests is proved once more with them.
 #![tactic(auto)]
 
 #[cfg(test)]

@@ -1,113 +1,111 @@
-//! Times calls through a connection beside steps of a session alone and of one under std's `Mutex`.
+//! Times a call through a connection beside a step of a session that nobody shares.
 //!
-//! Timed, it prints nanoseconds a step: by one thread, by two and by four at once, where the time is
-//! shared out between the steps of all, and from a step to the return of the call that waits for it.
-//! Else it makes a few steps of each kind and prints how many entries the sessions have.
+//! Timed, it prints nanoseconds a step of each kind. Else it makes a few and prints how many entries
+//! the sessions have.
 
+ghost use Rattle.std.specs.Prelude.{◌≡◌};
 ghost use Rattle.rs_wire.specs.Calls.{CanBeAsked};
 
-mod begun;
-mod steps;
-mod times;
-mod waits;
-
-use crate::calls::steps::Work;
-use crate::calls::times::{Crowd, time_calls, time_mutex, time_steps};
-use crate::calls::waits::time_wake;
-use anyhow::Error;
+use crate::sessions::{new_connection, new_session};
+use crate::times::{ROUNDS, Timed, median, nanos_since, now};
+use anyhow::{Result, bail};
+use conn::{Caller, Connection};
+use rs_wire::{Blob, Call, Side};
+use session_core::Session;
 use std::alloc::Global;
 use std::io::Print;
 use std::sync::Wait;
-use std::thread::Threads;
 use std::time::Clock;
-use tape::Blank;
+use tape::{Blank, Event, Tape};
 
-/// How often each kind is timed.
-const ROUNDS: usize = 21;
-
-/// How many steps each thread makes in a round.
+/// How many steps are made in a round.
 const TIMES: u32 = 50_000;
 
-/// How many steps each thread makes where nothing is timed.
+/// How many steps are made where nothing is timed.
 const FEW: u32 = 100;
 
-// The one in the middle.
-fn median(mut times: [u64; ROUNDS]) -> u64 {
-    times.sort_unstable();
-    times[ROUNDS / 2]
+// Asks a session that nobody shares.
+fn ask_often(session: &mut Session<Blank>, call: &Call, times: u32)
+    requires { CanBeAsked call.now }
+{
+    for _ in 0..times {
+        session.ask(0, call);
+    }
 }
 
-// Times a session that nobody shares, and one crowd by the mutex and by the connection, in turn, and
-// prints all three.
-fn compare<R: Threads + Wait + Sync + Clock + Print>(
+// Asks through a connection.
+fn call_often<R: Wait>(
     rt: &R,
-    alloc: Global,
-    work: &Work,
-    crowd: Crowd,
-) -> Result<(), Error>
-    requires { CanBeAsked work.now.call }
+    connection: &Connection<Blank>,
+    caller: Caller<Blank>,
+    call: &Call,
+    times: u32,
+) -> Caller<Blank>
+    requires of { caller.of ≡ connection.now }
+    requires askable { CanBeAsked call.now }
+    ensures { result.of ≡ connection.now }
+{
+    let mut caller = caller;
+    for _ in 0..times {
+        connection.call(rt, &mut caller, call);
+    }
+    caller
+}
+
+// Steps of a client that has opened its connection, and nobody shares.
+fn time_steps<R: Clock>(rt: &R, alloc: Global, call: &Call, times: u32) -> Result<Timed>
+    requires { CanBeAsked call.now }
+{
+    let mut session = new_session(alloc, Side::Client)?;
+    session.step(0, &Event::opening());
+    let start = now(rt);
+    ask_often(&mut session, call, times);
+    Ok(Timed {
+        nanos: nanos_since(rt, start, times),
+        count: session.tape().count(),
+    })
+}
+
+// The same of one that its callers share, by its one caller.
+fn time_calls<R: Wait + Clock>(rt: &R, alloc: Global, call: &Call, times: u32) -> Result<Timed>
+    requires { CanBeAsked call.now }
+{
+    let (connection, mut caller) = new_connection(alloc, Side::Client)?;
+    connection.event(rt, &mut caller, &Event::opening());
+    let start = now(rt);
+    let caller = call_often(rt, &connection, caller, call, times);
+    let nanos = nanos_since(rt, start, times);
+    match connection.close(caller) {
+        Ok(session) => Ok(Timed {
+            nanos,
+            count: session.tape().count(),
+        }),
+        Err(_) => bail!("a caller is missing"),
+    }
+}
+
+// Prints nanoseconds, the median of all rounds of each kind, which are timed in turn.
+fn compare<R: Wait + Clock + Print>(rt: &R, alloc: Global, call: &Call) -> Result<()>
+    requires { CanBeAsked call.now }
 {
     let mut bare = [0; ROUNDS];
-    let mut mutex = [0; ROUNDS];
     let mut calls = [0; ROUNDS];
     for round in 0..ROUNDS {
-        bare[round] = time_steps(rt, alloc, Blank::new(), work)?.nanos;
-        mutex[round] = time_mutex(rt, alloc, Blank::new(), work, crowd)?.nanos;
-        calls[round] = time_calls(rt, alloc, Blank::new(), work, crowd)?.nanos;
+        bare[round] = time_steps(rt, alloc, call, TIMES)?.nanos;
+        calls[round] = time_calls(rt, alloc, call, TIMES)?.nanos;
     }
-    let (bare, mutex, calls) = (median(bare), median(mutex), median(calls));
-    println!(rt;
-        "threads {} bare {bare} mutex {mutex} call {calls}",
-        crowd.count()
-    )?;
-    Ok(())
-}
-
-// Prints nanoseconds, the median of all rounds of each kind.
-fn time_all<R: Threads + Wait + Sync + Clock + Print>(
-    rt: &R,
-    alloc: Global,
-    work: &Work,
-) -> Result<(), Error>
-    requires { CanBeAsked work.now.call }
-{
-    let mut wake = [0; ROUNDS];
-    for round in 0..ROUNDS {
-        wake[round] = time_wake(rt, alloc, Blank::new())?;
-    }
-    compare(rt, alloc, work, Crowd::One)?;
-    compare(rt, alloc, work, Crowd::Two)?;
-    compare(rt, alloc, work, Crowd::Four)?;
-    println!(rt; "wake {}", median(wake))?;
-    Ok(())
-}
-
-// Prints how many entries there are after some steps of each kind.
-fn count_all<R: Threads + Wait + Sync + Clock + Print>(
-    rt: &R,
-    alloc: Global,
-    work: &Work,
-) -> Result<(), Error>
-    requires { CanBeAsked work.now.call }
-{
-    let bare = time_steps(rt, alloc, Blank::new(), work)?.entries;
-    let mutex = time_mutex(rt, alloc, Blank::new(), work, Crowd::Two)?.entries;
-    let two = time_calls(rt, alloc, Blank::new(), work, Crowd::Two)?.entries;
-    let four = time_calls(rt, alloc, Blank::new(), work, Crowd::Four)?.entries;
-    time_wake(rt, alloc, Blank::new())?;
-    println!(rt; "bare {bare} mutex {mutex} two {two} four {four}")?;
+    println!(rt; "bare {} call {}", median(bare), median(calls))?;
     Ok(())
 }
 
 /// Times calls, or else makes a few.
-pub fn run<R: Threads + Wait + Sync + Clock + Print>(
-    rt: &R,
-    alloc: Global,
-    is_timed: bool,
-) -> Result<(), Error> {
+pub fn run<R: Wait + Clock + Print>(rt: &R, alloc: Global, is_timed: bool) -> Result<()> {
+    let call = Call::fire_and_forget(Blob::from_slice(alloc, b"hi")?);
     if is_timed {
-        time_all(rt, alloc, &Work::new(alloc, TIMES)?)
-    } else {
-        count_all(rt, alloc, &Work::new(alloc, FEW)?)
+        return compare(rt, alloc, &call);
     }
+    let bare = time_steps(rt, alloc, &call, FEW)?.count;
+    let calls = time_calls(rt, alloc, &call, FEW)?.count;
+    println!(rt; "bare {bare} call {calls}")?;
+    Ok(())
 }

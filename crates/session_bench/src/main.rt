@@ -1,16 +1,17 @@
-//! Times sessions: the items of a stream, calls through a connection, and what two ends say to one
-//! another through their pumps.
+//! Times turns of a lock, calls through a connection, and what two ends say to one another through
+//! their pumps.
 //!
-//! The first word says what: `stream`, `conn` or `pump`. With a word after it, as `times`, what is
+//! The first word says what: `lock`, `conn` or `pump`. With a word after it, as `times`, what is
 //! printed are nanoseconds; with none it is what a short run leaves, which is always the same. With
 //! no word at all there is a short run of each.
 #![tactic(auto)]
 
 mod asks;
 mod calls;
+mod locks;
 mod pumps;
 mod sessions;
-mod stream;
+mod times;
 
 use anyhow::{Context, Result};
 use std::alloc::Global;
@@ -18,7 +19,6 @@ use std::env;
 use std::io::Print;
 use std::process::ExitCode;
 use std::sync::Wait;
-use std::thread::Threads;
 use std::time::Clock;
 
 /// The status of a run whose first word names nothing to time.
@@ -27,32 +27,27 @@ const USAGE: u8 = 2;
 /// What is timed.
 #[derive(Clone, Copy)]
 enum Bench {
-    Stream,
+    Lock,
     Conn,
     Pump,
 }
 
 /// In the order in which they are run.
-const ALL: [Bench; 3] = [Bench::Stream, Bench::Conn, Bench::Pump];
+const ALL: [Bench; 3] = [Bench::Lock, Bench::Conn, Bench::Pump];
 
 impl Bench {
     fn named(name: &str) -> Option<Bench> {
         match name {
-            "stream" => Some(Bench::Stream),
+            "lock" => Some(Bench::Lock),
             "conn" => Some(Bench::Conn),
             "pump" => Some(Bench::Pump),
             _ => None,
         }
     }
 
-    fn run<R: Threads + Wait + Sync + Clock + Print>(
-        self,
-        rt: &R,
-        alloc: Global,
-        is_timed: bool,
-    ) -> Result<()> {
+    fn run<R: Wait + Clock + Print>(self, rt: &R, alloc: Global, is_timed: bool) -> Result<()> {
         match self {
-            Bench::Stream => stream::run(rt, alloc, is_timed),
+            Bench::Lock => locks::run(rt, alloc, is_timed),
             Bench::Conn => calls::run(rt, alloc, is_timed),
             Bench::Pump => pumps::run(rt, alloc, is_timed),
         }
@@ -69,7 +64,7 @@ fn main(rt: HostRuntime) -> Result<ExitCode> {
         return Ok(ExitCode::SUCCESS);
     };
     let Some(bench) = Bench::named(&name) else {
-        eprintln!(rt; "session_bench: cannot time {name:?}, only stream, conn and pump")?;
+        eprintln!(rt; "session_bench: cannot time {name:?}, only lock, conn and pump")?;
         return Ok(ExitCode::from(USAGE));
     };
     bench.run(&rt, alloc, words.next().is_some())?;

@@ -8,7 +8,7 @@ use conn::{Caller, Connection};
 use rs_wire::{Checked, Settings, Side, check};
 use session_core::Session;
 use std::alloc::Global;
-use tape::Tape;
+use tape::Blank;
 
 // The defaults of a side.
 fn defaults(alloc: Global, side: Side) -> Result<Checked>
@@ -18,28 +18,22 @@ fn defaults(alloc: Global, side: Side) -> Result<Checked>
     Ok(settings)
 }
 
-/// A session at which nothing happened yet.
-pub fn new_session<T: Tape + Drop>(alloc: Global, side: Side, tape: T) -> Result<Session<T>>
-    requires { T.Tape.count tape ≡ 0 }
+/// A session at which nothing happened yet, with a tape that only counts what happens.
+pub fn new_session(alloc: Global, side: Side) -> Result<Session<Blank>>
     ensures settings { IfOk result (λ s. s.settings ≡ usual side) }
     ensures entries { IfOk result (λ s. s.entries ≡ []) }
 {
     let settings = defaults(alloc, side)?;
-    let session = Session::new(alloc, settings, tape).map_err(|(_, error)| error)?;
+    let session = Session::new(alloc, settings, Blank::new()).map_err(|(_, error)| error)?;
     Ok(session)
 }
 
 /// One that its callers share, and the first of them.
-pub fn new_connection<T: Tape + Drop>(
-    alloc: Global,
-    side: Side,
-    tape: T,
-) -> Result<(Connection<T>, Caller<T>)>
-    requires { T.Tape.count tape ≡ 0 }
+pub fn new_connection(alloc: Global, side: Side) -> Result<(Connection<Blank>, Caller<Blank>)>
     ensures of { IfOk result (λ r. r.1.of ≡ r.0) }
     ensures settings { IfOk result (λ r. r.0.settings ≡ usual side) }
 {
-    match Connection::new(alloc, new_session(alloc, side, tape)?) {
+    match Connection::new(alloc, new_session(alloc, side)?) {
         Ok(made) => Ok(made),
         Err((_, error)) => Err(error.into()),
     }

@@ -91,7 +91,7 @@ fn open<R: Wait>(rt: &R, alloc: Global, side: Side, event: &Event) -> Result<End
     requires fair { CanBring (usual side) event.now }
     requires no_draw { IsNoDrawEvent event.now }
 {
-    let (connection, caller) = new_connection(alloc, side, Blank::new())?;
+    let (connection, caller) = new_connection(alloc, side)?;
     begin(rt, alloc, connection, caller, event)
 }
 

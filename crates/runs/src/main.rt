@@ -1,0 +1,51 @@
+//! Plays runs of `rsocket` over memory, read from files, and compares how each ends with what its
+//! text says.
+//!
+//! For each file it prints how many runs there are and how many differ, after the first ten of those
+//! with what they gave. The status is 1 where one differs, or a file is out of form. With a word, as
+//! `runs data`, the files are those of that folder.
+//!
+//! A file `NAME.runs` begins with comments. A run in it is a line of its name, one of the status that
+//! it ends with and its words, its input, a line `--`, and what it writes:
+//!
+//! ```text
+//! == an empty script makes two lines
+//! 0 cable
+//! --
+//! client made 0 0 handled 0 0
+//! server made 0 0 handled 0 0
+//! ```
+//!
+//! A line or a word that begins with `0x` is the bytes of its digits, without a line feed; `0x`
+//! alone is no byte. A line that ends with `\` goes on in the next one.
+#![tactic(auto)]
+
+mod bytes;
+mod play;
+mod run;
+mod tally;
+
+use crate::play::play_file;
+use anyhow::{Context, Result};
+use std::env;
+use std::process::ExitCode;
+
+/// The files of runs.
+const FILES: [&str; 8] = [
+    "words", "script", "settings", "stream", "fragment", "moments", "resume", "frames",
+];
+
+fn main(rt: HostRuntime) -> Result<ExitCode> {
+    let mut words = env::args(&rt).context("the words cannot be read")?;
+    let folder = words.nth(1);
+    let folder = folder.as_deref().unwrap_or(".");
+    let mut right = true;
+    for file in FILES {
+        right = play_file(&rt, folder, file)? && right;
+    }
+    if right {
+        Ok(ExitCode::SUCCESS)
+    } else {
+        Ok(ExitCode::FAILURE)
+    }
+}
