@@ -20,4 +20,4 @@ module _ (T : RattleType) (g : Ghosts T.Denot) (s : IsSend T) where
 
   pub connection_sync : IsSync (connection.the_row T g)
   connection_sync = view_sync (connection_inside.the_row T g) _ _ _ _ (recorded_sync (connection_inside.the_field T g).row _ _ (connection_inside.the_type T g).to_one
-      (struct_sync (shape (connection_inside.the_type T g)) (shared_sync T g s, (plain_sync _ _ _ _ _, (search (bell.the_send, bell.the_sync, crosses, sendable) depth 20, tt)))))
+      (struct_sync (shape (connection_inside.the_type T g)) (shared_sync T g s, (plain_sync _ _ _ _ _, (plain_sync _ _ _ _ _, (search (bell.the_send, bell.the_sync, crosses, sendable) depth 20, tt))))))

@@ -1,10 +1,10 @@
 //! Calls that wait for a turn.
 
-ghost use Rattle.std.specs.Prelude.{◌≡◌, ◌<◌, ◌^◌, None, length};
+ghost use Rattle.std.specs.Prelude.{◌≡◌, ◌↔◌, ◌<◌, ◌^◌, IsTrue, None, Some, length};
 ghost use Rattle.rs_wire.specs.Calls.{CanBeAsked};
 ghost use Rattle.session_model.specs.Frames.{queued};
 ghost use Rattle.session_model.specs.Legal.{CanBring};
-ghost use Rattle.session_model.specs.Life.{carrying, closed, live};
+ghost use Rattle.session_model.specs.Life.{asked_token, carrying, closed, live, setup};
 ghost use Rattle.session_core.specs.Queued.{IsUntouched};
 ghost use Rattle.session_core.specs.Seen.{IsNoDrawEvent};
 ghost use Rattle.tape.specs.declared.event.Event.TheVariants as events;
@@ -14,7 +14,7 @@ ghost use Rattle.conn_shared.specs.Calls.{IsCalled, IsDrawCall};
 use crate::caller::{Caller, give_back, take};
 use crate::connection::Connection;
 use conn_shared::Looked;
-use rs_wire::Call;
+use rs_wire::{Blob, Call};
 use std::sync::Wait;
 use tape::{Answer, Event, Tape};
 
@@ -107,5 +107,21 @@ impl<T: Tape> Connection<T> {
         let (member, looked) = self.shared.look(rt, member);
         give_back(&mut caller.member, member);
         looked
+    }
+
+    /// Whether a SETUP with this token was accepted here (RSocket 1.0, "SETUP Frame"), so that a
+    /// RESUME with it is for this session. No SETUP comes to a client, so a client holds no token.
+    /// It waits for a turn and leaves no entry.
+    pub fn holds<R: Wait>(&self, rt: &R, caller: &mut Caller<T>, token: &Blob) -> bool
+        requires of { caller.old.of ≡ self.now }
+        ensures same { caller.new ≡ record caller.old { front = caller.new.front; note = None } }
+        ensures follows { Follows caller.old.names caller.old.front caller.new.front }
+        ensures holds { IsTrue result ↔
+            (asked_token (setup caller.new.front) ≡ Some token.now) }
+    {
+        let member = take(&mut caller.member);
+        let (member, holds) = self.shared.holds(rt, member, token);
+        give_back(&mut caller.member, member);
+        holds
     }
 }

@@ -20,6 +20,8 @@ pub struct Connection<T: Tape> {
     pub(crate) shared: SharedSession<T>,
     /// How many bytes a frame that comes may have, of the session's settings.
     pub(crate) max_in: u32,
+    /// Whether this end takes part in resumption, of the session's settings.
+    pub(crate) resume: bool,
     /// It rings after each turn that left an entry for which somebody may wait. The link that hears
     /// it owns it, too.
     pub(crate) bell: Arc<Bell>,
@@ -35,7 +37,8 @@ impl<T: Tape> Model for Connection<T> {
     ghost view = { λ c. c.shared };
 
     ghost invariant = { λ c.
-        (c.max_in ≡ c.shared.settings.max_in) × IsIn 64 c.max_in 16777215 };
+        (c.max_in ≡ c.shared.settings.max_in) × IsIn 64 c.max_in 16777215 ×
+        (c.resume ≡ c.shared.settings.resume) };
 }
 
 impl<T: Tape> Connection<T> {
@@ -51,6 +54,7 @@ impl<T: Tape> Connection<T> {
         ensures kept { IfErr result (λ r. r.0 ≡ session) }
     {
         let max_in = session.settings().settings().max_in;
+        let resume = session.settings().settings().resume;
         let Ok(bell) = Arc::new(alloc, Bell::new()) else {
             return Err((session, OutOfMemory));
         };
@@ -59,6 +63,7 @@ impl<T: Tape> Connection<T> {
             Connection {
                 shared,
                 max_in,
+                resume,
                 bell,
             },
             Caller {
@@ -73,6 +78,14 @@ impl<T: Tape> Connection<T> {
         ensures range { (64 ≤ result) × (result ≤ 16777215) }
     {
         self.max_in
+    }
+
+    /// Whether this end takes part in resumption, by its settings. A server's session is resumed
+    /// only where its client asked for that in its SETUP, too (RSocket 1.0, "Resuming Operation").
+    pub fn resumes(&self) -> bool
+        ensures { result ≡ self.now.settings.resume }
+    {
+        self.resume
     }
 
     /// The bell, for a link to hear. It rings after each step, whoever made it, that left an entry

@@ -3,7 +3,7 @@
 ghost use Rattle.std.specs.Prelude.{◌≡◌, ◌<◌, ◌≤◌, ◌+◌, ◌↔◌, ℕ, ◌∷◌, ◌++◌, [], IfErr, IfOk, max};
 ghost use Rattle.conn_lock.specs.Callers.{all_parts, calls, longer, most_numbers, share, times};
 ghost use Rattle.conn_shared.specs.Lines.{who_of};
-ghost use Rattle.conn_shared.specs.Members.{Continues, first_member};
+ghost use Rattle.conn_shared.specs.Members.{Follows, first_member};
 
 use crate::caller::{Caller, give_back, take};
 use crate::connection::Connection;
@@ -61,8 +61,8 @@ impl<T: Tape> Connection<T> {
     }
 
     /// The first caller goes on, with the names and parts of both, the longer front, and the greater
-    /// count of numbers found. Both fronts stand at the beginning of the longer one, and the two
-    /// callers have no name in common.
+    /// count of numbers found. No entry of a caller is missing in the longer front: it goes on from
+    /// the caller's own by entries of others alone. The two callers have no name in common.
     pub fn join(&self, caller: &mut Caller<T>, other: Caller<T>)
         requires first { caller.old.of ≡ self.now }
         requires second { other.of ≡ self.now }
@@ -72,8 +72,9 @@ impl<T: Tape> Connection<T> {
           front = longer caller.old.front other.front;
           found = max caller.old.found other.found;
         } }
-        ensures fronts { Continues caller.old.front caller.new.front
-            × Continues other.front caller.new.front }
+        // From either front the longer one goes on by entries that carry none of its caller's names.
+        ensures own { Follows caller.old.names caller.old.front caller.new.front
+            × Follows other.names other.front caller.new.front }
         ensures apart { (x : ℕ) → 0 < times x caller.old.names → times x other.names ≡ 0 }
         ensures distinct { (x : ℕ) → times x caller.new.names ≤ 1 }
         ensures at_most_all { caller.new.parts ≤ all_parts }
@@ -105,6 +106,7 @@ impl<T: Tape> Connection<T> {
         let Connection {
             shared,
             max_in,
+            resume,
             bell,
         } = self;
         match caller.member {
@@ -115,6 +117,7 @@ impl<T: Tape> Connection<T> {
                     Connection {
                         shared,
                         max_in,
+                        resume,
                         bell,
                     },
                     Caller {

@@ -3,8 +3,6 @@ use Rattle.std.proofs.Common.{◌≡◌, ◌≢◌, ℕ, zero, suc, ◌+◌, ◌
 use Rattle.std.specs.Prelude as std
 use Rattle.std.specs.Prelude.{slice_index}
 use mathlib.Core.Option.{none, some, some-injective, some-ne-none}
-use mathlib.Core.Logic.{dite}
-use native.Mathlib.Decide.{ℕ_discrete}
 use prog.Atomic.{either}
 use lib.ListN.{get_elem?}
 use Rattle.std.proofs.lemmas.Bool.Decides.{nat_tests}
@@ -14,7 +12,7 @@ use Rattle.conn_lock.specs.declared.view.View.{View}
 use Rattle.conn_lock.specs.Callers.{Follows, once, times, calls}
 use Rattle.conn_lock.specs.Rule.{below, IsSound, Kept, first_view, drew, passed, noted}
 use Rattle.conn_lock.proofs.Totals.{total_at, calls_append, calls_other}
-use Rattle.conn_lock.proofs.Changes.{within, follows, moved, stays, kept_place, refreshed, alone, other_turn, own_name, was_drawn, Goes}
+use Rattle.conn_lock.proofs.Changes.{within, follows, moved, refreshed, alone, other_turn, own_name, was_drawn, Goes}
 
 module _ {S E : Type 0} (list_of : S → List E) (IsThere : S → Type 0) (number : E → ℕ) where
   -- the table at the start

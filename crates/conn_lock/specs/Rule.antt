@@ -8,7 +8,6 @@
 -- `number` is the number that an entry carries.
 use Rattle.std.specs.Prelude.{◌≡◌, ◌≢◌, ℕ, ◌+◌, ◌-◌, ◌<◌, ◌≤◌, List, [], ◌∷◌, ◌++◌, length, true, false, cond, nat_lt, max, ◌⊎◌, None, Some}
 use Rattle.std.specs.Prelude as std
-use mathlib.Core.List.{IsPrefix}
 use mathlib.Core.Option.{Option, none, some}
 use lib.ListN.{get_elem?}
 use Rattle.atomic_table.specs.Table.{State, Step, Me, rest}

@@ -1,9 +1,9 @@
 //! Numbers and parts: how a seat is split in two, and how two become one.
 
 ghost use Rattle.std.specs.Prelude.{◌≡◌, ◌<◌, ◌≤◌, ◌+◌, ◌-◌, ◌↔◌, ℕ, List, [], ◌∷◌, ◌++◌, IfErr, IfNone, IfOk, IfSome, None, false, max};
-ghost use mathlib.Core.List.{IsPrefix};
 ghost use Rattle.conn_lock.specs.Callers.{all_parts, calls, Follows, longer, most_numbers, share, times};
 ghost use Rattle.conn_lock.specs.Rule.{left, right};
+ghost use Rattle.conn_lock.specs.Seats.{IsSeated, known};
 
 use crate::lock::{Lock, NAMES};
 use crate::seat::{Seat, Token};
@@ -28,6 +28,18 @@ pub enum SplitFault {
     /// All 4,294,967,295 numbers of the lock were drawn.
     #[error("all 4,294,967,295 numbers of the lock were drawn")]
     NamesGone,
+}
+
+// The seat that has this token, between two turns.
+fn seat_of<S: Stands>(token: Token<S>, number: u32, parts: u64) -> Seat<S>
+    requires { IsSeated number parts token.me }
+    ensures { result ≡ known token.table_id number token.me.0 }
+{
+    Seat {
+        token,
+        number,
+        parts,
+    }
 }
 
 impl<S: Stands> Lock<S> {
@@ -81,37 +93,18 @@ impl<S: Stands> Lock<S> {
             number,
             parts,
         } = seat;
-        match self.draw_number(rt, &mut token) {
-            None => Err((
-                Seat {
-                    token,
-                    number,
-                    parts,
-                },
-                SplitFault::NamesGone,
-            )),
-            Some(drawn) => {
-                let other = self.cut(&mut token, drawn);
-                let given = (parts / SHARE).max(1);
-                Ok((
-                    Seat {
-                        token,
-                        number,
-                        parts: parts - given,
-                    },
-                    Seat {
-                        token: other,
-                        number: drawn,
-                        parts: given,
-                    },
-                ))
-            }
-        }
+        let Some(drawn) = self.draw_number(rt, &mut token) else {
+            return Err((seat_of(token, number, parts), SplitFault::NamesGone));
+        };
+        let other = self.cut(&mut token, drawn);
+        let given = (parts / SHARE).max(1);
+        let seat = seat_of(token, number, parts - given);
+        Ok((seat, seat_of(other, drawn, given)))
     }
 
     /// The first seat goes on, with the names and parts of both, the longer front, and the greater
-    /// count of numbers found. Both fronts are prefixes of the longer one, and the two seats have no
-    /// name in common.
+    /// count of numbers found. No entry of a seat is missing in the longer front: it goes on from
+    /// the seat's own by entries of others alone. The two seats have no name in common.
     pub fn join(&self, seat: Seat<S>, other: Seat<S>) -> Seat<S>
         requires first { seat.lock ≡ self.now }
         requires second { other.lock ≡ self.now }
@@ -121,8 +114,7 @@ impl<S: Stands> Lock<S> {
           front = longer seat.front other.front;
           found = max seat.found other.found;
         } }
-        ensures fronts { IsPrefix seat.front result.front × IsPrefix other.front result.front }
-        // The entries of a seat's names are those in its front.
+        // From either front the longer one goes on by entries that carry none of its seat's names.
         ensures own { Follows S.number seat.names seat.front result.front
             × Follows S.number other.names other.front result.front }
         ensures apart { (x : ℕ) → 0 < times x seat.names → times x other.names ≡ 0 }

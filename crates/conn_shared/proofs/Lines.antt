@@ -1,17 +1,16 @@
 -- The lines under the lock, and the entries in them.
 use Rattle.std.proofs.lemmas.Bool.Decides.{nat_tests}
-use Rattle.std.proofs.Common.{◌≡◌, ◌≤◌, ◌<◌, ℕ, suc, Bool, true, false, cond, List, [], ◌∷◌, ◌++◌, length, nat_lt, refl, sym, ap, ◌∙◌, arith, append-nil, append_assoc}
+use Rattle.std.proofs.Common.{◌≡◌, ◌≤◌, ◌<◌, ℕ, suc, Bool, true, false, cond, List, [], ◌∷◌, ◌++◌, length, nat_lt, refl, sym, ap, ◌∙◌, subst, arith, append-nil, append_assoc}
 use Rattle.std.proofs.lemmas.List.{length-append}
 use Rattle.rs_wire.specs.declared.settings.Settings.{Settings}
 use Rattle.tape.specs.declared.entry.Entry.{Entry}
-use mathlib.Core.List.{IsPrefix}
 use Rattle.session_core.specs.Seen.{Seen}
 use Rattle.conn_lock.specs.Callers.{Adds, IsOthers, calls, longer}
 use Rattle.conn_lock.specs.Callers as lock
 use Rattle.conn_lock.proofs.Totals.{calls_append}
 use Rattle.conn_shared.specs.declared.line.Line.{Line}
 use Rattle.conn_shared.specs.declared.line.Line.TheVariants as line
-use Rattle.conn_shared.specs.Members.{Follows, Gains, Continues}
+use Rattle.conn_shared.specs.Members.{Follows, Gains}
 use Rattle.conn_shared.specs.Lines.{entries_in, lines_of, lines_with, noted, number_of, settings_in, who_of}
 
 pub entries-append : (ls ms : List Line) → entries_in (ls ++ ms) ≡ entries_in ms ++ entries_in ls
@@ -44,6 +43,14 @@ calls-few n (line.Noted e ∷ ls) = let h = calls-few n ls in let sum = calls_ap
 others_in : (names : List ℕ) (ls : List Line) → IsOthers number_of names ls → IsOthers who_of names (entries_in ls)
 others_in names ls others = λ x named. let few = calls-few x ls in let none = others x named in omega arith
 
+-- lines of others add entries of others
+pub follows_in : (g : Settings) (names : List ℕ) (past : List Entry) (ls : List Line) → lock.Follows number_of names (lines_with g past) ls → Follows names past (entries_in ls)
+follows_in g names past ls follows = (
+  entries_in follows.0,
+  ap entries_in follows.1 ∙ (entries-append (noted past) follows.0 ∙ ap (λ es. entries_in follows.0 ++ es) (entries-noted past)),
+  others_in names follows.0 follows.2,
+)
+
 -- a session that is found after lines of a session
 pub record WentOn (g : Settings) (names : List ℕ) (past : List Entry) (s : Seen) : Type 0 where
   pub settings : s.settings ≡ g
@@ -52,15 +59,8 @@ pub record WentOn (g : Settings) (names : List ℕ) (past : List Entry) (s : See
 pub went_on : (g : Settings) (names : List ℕ) (past : List Entry) (s : Seen) → lock.Follows number_of names (lines_with g past) (lines_of s) → WentOn g names past s
 went_on g names past s follows = record {
   settings = ap settings_in follows.1;
-  follows = (
-    entries_in follows.0,
-    sym (entries-noted s.entries) ∙ (ap entries_in follows.1 ∙ (entries-append (noted past) follows.0 ∙ ap (λ es. entries_in follows.0 ++ es) (entries-noted past))),
-    others_in names follows.0 follows.2,
-  );
+  follows = subst (Follows names past) (entries-noted s.entries) (follows_in g names past (lines_of s) follows);
 }
-
-pub goes_on : (g : Settings) (past : List Entry) (ls : List Line) → IsPrefix (lines_with g past) ls → Continues past (entries_in ls)
-goes_on g past ls p = (entries_in p.0, sym (ap entries_in p.1) ∙ (entries-append (noted past) p.0 ∙ ap (λ es. entries_in p.0 ++ es) (entries-noted past)))
 
 pub same_entries : (g : Settings) (past : List Entry) (s : Seen) → lines_of s ≡ lines_with g past → s.entries ≡ past
 same_entries g past s is = sym (entries-noted s.entries) ∙ (ap entries_in is ∙ entries-noted past)

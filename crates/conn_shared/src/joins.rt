@@ -2,7 +2,7 @@
 
 ghost use Rattle.std.specs.Prelude.{◌≡◌, ◌<◌, ◌≤◌, ◌+◌, ◌-◌, ◌↔◌, ℕ, [], ◌∷◌, ◌++◌, IfErr, IfOk, max};
 ghost use Rattle.conn_lock.specs.Callers.{all_parts, calls, longer, most_numbers, share, times};
-ghost use Rattle.conn_shared.specs.Members.{Continues, IsMember, first_member};
+ghost use Rattle.conn_shared.specs.Members.{Follows, IsMember, first_member};
 ghost use Rattle.conn_shared.specs.Lines.{entries_in, settings_in, who_of};
 
 use crate::member::Member;
@@ -95,8 +95,8 @@ impl<T: Tape> SharedSession<T> {
         ensures member { IsMember result }
         ensures front { entries_in result.front
             ≡ longer (entries_in seat.front) (entries_in other.front) }
-        ensures fronts { Continues (entries_in seat.front) (entries_in result.front)
-            × Continues (entries_in other.front) (entries_in result.front) }
+        ensures own { Follows seat.names (entries_in seat.front) (entries_in result.front)
+            × Follows other.names (entries_in other.front) (entries_in result.front) }
         ensures apart { (x : ℕ) → 0 < times x seat.names → times x other.names ≡ 0 }
         ensures distinct { (x : ℕ) → times x result.names ≤ 1 }
         ensures at_most_all { result.parts ≤ all_parts }
@@ -105,8 +105,8 @@ impl<T: Tape> SharedSession<T> {
     }
 
     /// The first member goes on, with the names and parts of both, the longer front, and the greater
-    /// count of numbers found. Both fronts stand at the beginning of the longer one, and the two
-    /// members have no name in common.
+    /// count of numbers found. No entry of a member is missing in the longer front: it goes on from
+    /// the member's own by entries of others alone. The two members have no name in common.
     pub fn join(&self, member: Member<T>, other: Member<T>) -> Member<T>
         requires first { member.of ≡ self.now }
         requires second { other.of ≡ self.now }
@@ -116,8 +116,9 @@ impl<T: Tape> SharedSession<T> {
           front = longer member.front other.front;
           found = max member.found other.found;
         } }
-        ensures fronts { Continues member.front result.front
-            × Continues other.front result.front }
+        // From either front the longer one goes on by entries that carry none of its member's names.
+        ensures own { Follows member.names member.front result.front
+            × Follows other.names other.front result.front }
         ensures apart { (x : ℕ) → 0 < times x member.names → times x other.names ≡ 0 }
         ensures distinct { (x : ℕ) → times x result.names ≤ 1 }
         ensures at_most_all { result.parts ≤ all_parts }

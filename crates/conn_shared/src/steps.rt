@@ -1,10 +1,10 @@
 //! Steps that wait for a turn.
 
-ghost use Rattle.std.specs.Prelude.{◌≡◌, ◌<◌, ◌^◌, IfSome, None, length};
+ghost use Rattle.std.specs.Prelude.{◌≡◌, ◌↔◌, ◌<◌, ◌^◌, IfSome, IsTrue, None, Some, length};
 ghost use Rattle.rs_wire.specs.Calls.{CanBeAsked};
 ghost use Rattle.session_model.specs.Frames.{queued};
 ghost use Rattle.session_model.specs.Legal.{CanBring};
-ghost use Rattle.session_model.specs.Life.{carrying, closed, live};
+ghost use Rattle.session_model.specs.Life.{asked_token, carrying, closed, live, setup};
 ghost use Rattle.session_core.specs.Queued.{IsUntouched};
 ghost use Rattle.session_core.specs.Seen.{IsNoDrawEvent};
 ghost use Rattle.tape.specs.declared.event.Event.TheVariants as events;
@@ -14,7 +14,7 @@ ghost use Rattle.conn_shared.specs.Calls.{IsCalled, IsDrawCall};
 use crate::looked::Looked;
 use crate::member::Member;
 use crate::shared::SharedSession;
-use rs_wire::{Call, OutOfMemory};
+use rs_wire::{Blob, Call, OutOfMemory};
 use std::sync::Wait;
 use tape::{Answer, Event, Tape};
 
@@ -142,5 +142,20 @@ impl<T: Tape> SharedSession<T> {
         let turn = self.enter(rt, member.into_seat());
         let (seat, looked) = self.look_in(turn);
         (Member { seat }, looked)
+    }
+
+    /// Whether a SETUP with this token was accepted here (RSocket 1.0, "SETUP Frame"), so that a
+    /// RESUME with it is for this session. No SETUP comes to a client, so a client holds no token.
+    /// It waits for a turn and leaves no entry.
+    pub fn holds<R: Wait>(&self, rt: &R, member: Member<T>, token: &Blob) -> (Member<T>, bool)
+        requires of { member.of ≡ self.now }
+        ensures same { result.0 ≡ record member { front = result.0.front; note = None } }
+        ensures follows { Follows member.names member.front result.0.front }
+        ensures holds { IsTrue result.1 ↔
+            (asked_token (setup result.0.front) ≡ Some token.now) }
+    {
+        let turn = self.enter(rt, member.into_seat());
+        let (seat, holds) = self.hold_in(turn, token);
+        (Member { seat }, holds)
     }
 }

@@ -1,9 +1,9 @@
 //! The session under the lock.
 
-ghost use Rattle.std.specs.Prelude.{◌≡◌, ◌<◌, ◌^◌, IfErr, IfOk, IfSome, None, length};
+ghost use Rattle.std.specs.Prelude.{◌≡◌, ◌↔◌, ◌<◌, ◌^◌, IfErr, IfOk, IfSome, IsTrue, None, Some, length};
 ghost use Rattle.rs_wire.specs.Calls.{CanBeAsked};
 ghost use Rattle.session_model.specs.Frames.{queued};
-ghost use Rattle.session_model.specs.Life.{carrying, closed, live};
+ghost use Rattle.session_model.specs.Life.{asked_token, carrying, closed, live, setup};
 ghost use Rattle.session_model.specs.Legal.{CanBring, Fair, Legal};
 ghost use Rattle.session_core.specs.Queued.{IsUntouched};
 ghost use Rattle.session_core.specs.Seen.{IsNoDrawEvent};
@@ -14,7 +14,7 @@ ghost use Rattle.tape.specs.declared.event.Event.TheVariants as events;
 use crate::line::Line;
 use crate::looked::Looked;
 use conn_lock::Stands;
-use rs_wire::Call;
+use rs_wire::{Blob, Call};
 use session_core::Session;
 use std::alloc::Global;
 use std::marker::Model;
@@ -148,6 +148,19 @@ impl<T: Tape> Stored<T> {
             queued: self.session.queued(),
             carrying: self.session.carrying(),
             cause: self.session.cause().copied(),
+        }
+    }
+
+    /// Whether a SETUP with this token was accepted here.
+    pub(crate) fn holds(&self, token: &Blob) -> bool
+        ensures holds { IsTrue result ↔ (asked_token (setup self.now.entries) ≡ Some token.now) }
+        ensures legal { Legal self.now.settings self.now.entries }
+        ensures fair { Fair self.now.settings self.now.entries }
+    {
+        self.session.legal();
+        match self.session.setup() {
+            Some(setup) => setup.resume.as_ref() == Some(token),
+            None => false,
         }
     }
 }

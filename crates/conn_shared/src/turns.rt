@@ -1,9 +1,9 @@
 //! Turns at the lock, with the session that is found there.
 
-ghost use Rattle.std.specs.Prelude.{◌≡◌, ◌<◌, ◌^◌, ◌⊎◌, ◌+◌, ◌-◌, IfErr, IfOk, IfSome, None, Some, length};
+ghost use Rattle.std.specs.Prelude.{◌≡◌, ◌<◌, ◌^◌, ◌⊎◌, ◌+◌, ◌-◌, ◌↔◌, IfErr, IfOk, IfSome, IsTrue, None, Some, length};
 ghost use Rattle.rs_wire.specs.Calls.{CanBeAsked};
 ghost use Rattle.session_model.specs.Frames.{queued};
-ghost use Rattle.session_model.specs.Life.{carrying, closed, live};
+ghost use Rattle.session_model.specs.Life.{asked_token, carrying, closed, live, setup};
 ghost use Rattle.session_model.specs.Legal.{CanBring, Fair, Legal};
 ghost use Rattle.session_core.specs.Queued.{IsUntouched};
 ghost use Rattle.session_core.specs.Seen.{IsNoDrawEvent};
@@ -16,7 +16,7 @@ use crate::looked::Looked;
 use crate::shared::SharedSession;
 use crate::stored::Stored;
 use conn_lock::{Seat, Turn};
-use rs_wire::Call;
+use rs_wire::{Blob, Call};
 use std::sync::Wait;
 use tape::{Answer, Event, Tape};
 
@@ -203,5 +203,24 @@ impl<T: Tape> SharedSession<T> {
         let mut turn = turn;
         let looked = turn.value().look();
         (self.leave(turn), looked)
+    }
+
+    /// A turn in which the session is asked whether it accepted a SETUP with this token.
+    pub(crate) fn hold_in(&self, turn: Turn<Stored<T>>, token: &Blob) -> (Seat<Stored<T>>, bool)
+        requires of { turn.seat.lock ≡ self.now.lock }
+        requires settings { turn.value.settings ≡ self.now.settings }
+        requires was { turn.seat.front ≡
+            lines_with self.now.settings (entries_in turn.seat.front) }
+        requires front { entries_in turn.seat.front ≡ turn.value.entries }
+        ensures same { result.0 ≡ record turn.seat { front = result.0.front } }
+        ensures settings { settings_in result.0.front ≡ self.now.settings }
+        ensures member { IsMember result.0 }
+        ensures front { entries_in result.0.front ≡ turn.value.entries }
+        ensures holds { IsTrue result.1 ↔
+            (asked_token (setup turn.value.entries) ≡ Some token.now) }
+    {
+        let mut turn = turn;
+        let holds = turn.value().holds(token);
+        (self.leave(turn), holds)
     }
 }

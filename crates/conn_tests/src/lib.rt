@@ -1,8 +1,9 @@
-//! Trials of `conn`: callers of one connection, in several threads.
+//! Trials of `bell`, `conn_lock` and `conn`: callers of one lock or connection, in one thread and in
+//! several.
 //!
-//! They are in a crate of their own, so that `conn` is not proved again for them. That a caller's
-//! calls are its entries in one legal list is proved; the trials show that the calls that wait come
-//! back, and that nothing is lost between two ends.
+//! They are in a crate of their own, so that those three are not proved again for them. That a
+//! caller's calls are its entries in one legal list is proved; the trials show that waits end, that
+//! calls come back, and that nothing is lost between two ends.
 #![tactic(auto)]
 
 #[cfg(test)]

@@ -1,7 +1,13 @@
-//! Trials of a session that threads share. They are written for any tape, since a proof is dearer
-//! the more types a function knows.
+//! Trials of what threads share: a bell, a lock, and a session. Those of a session are written for
+//! any tape, since a proof is dearer the more types a function knows.
 
+mod bells;
+mod calls;
 mod ends;
+mod joins;
+mod locks;
+mod ringing;
 mod streams;
 mod threads;
+mod tokens;
 mod ways;

@@ -1,10 +1,12 @@
 //! Connections to try, and what is done at one end of them.
 
 ghost use Rattle.std.specs.Prelude.{◌≡◌, ◌<◌, ◌^◌, [], length};
-ghost use Rattle.rs_wire.specs.declared.words.Side.TheVariants.{Client};
+ghost use Rattle.rs_wire.specs.declared.words.Side.TheVariants.{Client, Server};
 ghost use Rattle.rs_wire.specs.Calls.{CanBeAsked};
 ghost use Rattle.rs_wire.specs.Settings.{usual};
 ghost use Rattle.rs_frame.specs.Spelling.{IsSpellable};
+ghost use Rattle.session_model.specs.Legal.{CanBring};
+ghost use Rattle.session_core.specs.Seen.{IsNoDrawEvent};
 
 use conn::{Caller, Connection};
 use rs_frame::{Frame, decode};
@@ -25,18 +27,41 @@ fn usual_settings<R: Abort>(rt: &R, alloc: Global, side: Side) -> Checked
     }
 }
 
-fn session<R: Abort, T: Tape + Drop>(rt: &R, alloc: Global, side: Side, tape: T) -> Session<T>
+fn session<R: Abort, T: Tape + Drop>(
+    rt: &R,
+    alloc: Global,
+    settings: Checked,
+    tape: T,
+) -> Session<T>
     requires empty { T.count tape ≡ 0 }
-    ensures settings { result.settings ≡ usual side }
+    ensures settings { result.settings ≡ settings }
     ensures entries { result.entries ≡ [] }
 {
-    match Session::new(alloc, usual_settings(rt, alloc, side), tape) {
+    match Session::new(alloc, settings, tape) {
         Ok(session) => session,
         Err(_) => panic!(rt; "there is memory"),
     }
 }
 
-/// A connection round a session of which nothing happened yet, and its first caller.
+/// A connection round a session with these settings, of which nothing happened yet, and its first
+/// caller.
+pub fn connected_as<R: Abort, T: Tape + Drop>(
+    rt: &R,
+    alloc: Global,
+    settings: Checked,
+    tape: T,
+) -> (Connection<T>, Caller<T>)
+    requires empty { T.count tape ≡ 0 }
+    ensures of { result.1.of ≡ result.0 }
+    ensures settings { result.0.settings ≡ settings }
+{
+    match Connection::new(alloc, session(rt, alloc, settings, tape)) {
+        Ok(made) => made,
+        Err(_) => panic!(rt; "there is memory"),
+    }
+}
+
+/// The same with the usual settings.
 pub fn connected<R: Abort, T: Tape + Drop>(
     rt: &R,
     alloc: Global,
@@ -47,10 +72,7 @@ pub fn connected<R: Abort, T: Tape + Drop>(
     ensures of { result.1.of ≡ result.0 }
     ensures settings { result.0.settings ≡ usual side }
 {
-    match Connection::new(alloc, session(rt, alloc, side, tape)) {
-        Ok(made) => made,
-        Err(_) => panic!(rt; "there is memory"),
-    }
+    connected_as(rt, alloc, usual_settings(rt, alloc, side), tape)
 }
 
 /// One more caller.
@@ -96,36 +118,64 @@ pub fn frame<R: Abort>(rt: &R, alloc: Global, bytes: &[u8]) -> Frame
     }
 }
 
-/// Whether the answer is that the first connection is opened.
-pub fn is_opened(answer: &Answer) -> bool {
-    matches!(answer, Answer::Opened(1))
+/// Stops the test where an answer is another than the wanted one.
+pub fn compare<R: Abort>(rt: &R, answer: &Answer, wanted: &Answer) {
+    assert_eq!(rt; *answer, *wanted);
 }
 
-/// Whether the answer is that the call is done.
-pub fn is_done(answer: &Answer) -> bool {
-    matches!(answer, Answer::Done)
+/// Brings an event, to which the answer is the wanted one.
+pub fn bring<R: Abort + Wait, T: Tape>(
+    rt: &R,
+    connection: &Connection<T>,
+    caller: &mut Caller<T>,
+    event: &Event,
+    wanted: &Answer,
+)
+    requires of { caller.old.of ≡ connection.now }
+    requires fair { CanBring connection.now.settings event.now }
+    requires no_draw { IsNoDrawEvent event.now }
+    ensures of { caller.new.of ≡ connection.now }
+{
+    compare(rt, &connection.event(rt, caller, event), wanted);
 }
 
 /// Opens a client.
 pub fn open<R: Abort + Wait, T: Tape>(rt: &R, client: &Connection<T>, caller: &mut Caller<T>)
     requires of { caller.old.of ≡ client.now }
-    requires settings { client.now.settings ≡ usual Client }
+    requires side { client.now.settings.side ≡ Client }
     ensures of { caller.new.of ≡ client.now }
 {
-    let event = Event::opening();
-    assert!(rt; is_opened(&client.event(rt, caller, &event)));
+    bring(rt, client, caller, &Event::opening(), &Answer::Opened(1));
 }
 
-/// Asks for what is done at once.
+/// Opens a server by the SETUP that the bytes spell.
+pub fn open_server<R: Abort + Wait, T: Tape>(
+    rt: &R,
+    alloc: Global,
+    server: &Connection<T>,
+    caller: &mut Caller<T>,
+    setup: &[u8],
+)
+    requires of { caller.old.of ≡ server.now }
+    requires side { server.now.settings.side ≡ Server }
+    requires short { length setup.now < 2 ^ 24 }
+    ensures of { caller.new.of ≡ server.now }
+{
+    let event = Event::opened_by(frame(rt, alloc, setup));
+    bring(rt, server, caller, &event, &Answer::Opened(1));
+}
+
+/// Asks, to which the answer is the wanted one.
 pub fn ask<R: Abort + Wait, T: Tape>(
     rt: &R,
     connection: &Connection<T>,
     caller: &mut Caller<T>,
     call: &Call,
+    wanted: &Answer,
 )
     requires of { caller.old.of ≡ connection.now }
     requires askable { CanBeAsked call.now }
     ensures of { caller.new.of ≡ connection.now }
 {
-    assert!(rt; is_done(&connection.call(rt, caller, call)));
+    compare(rt, &connection.call(rt, caller, call), wanted);
 }

@@ -5,10 +5,8 @@ ghost use Rattle.std.specs.Prelude.{◌≡◌};
 ghost use Rattle.rs_wire.specs.declared.words.Side.TheVariants.{Client, Server};
 ghost use Rattle.rs_wire.specs.Calls.{CanBeAsked};
 ghost use Rattle.rs_wire.specs.Settings.{usual};
-ghost use Rattle.session_model.specs.Legal.{CanBring};
-ghost use Rattle.session_core.specs.Seen.{IsNoDrawEvent};
 
-use super::ends::{ask, blob, connected, frame, is_done, is_opened, one_more, open};
+use super::ends::{ask, blob, connected, one_more, open, open_server};
 use super::ways::carry;
 use conn::{Caller, Connection};
 use rs_chunk::Reader;
@@ -18,7 +16,7 @@ use std::process::Abort;
 use std::sync::Wait;
 use std::sync::atomic::{AtomicU32, Ordering};
 use std::thread::{self, Threads, join};
-use tape::{Answer, Blank, Event, Tape};
+use tape::{Answer, Blank, Tape};
 
 /// How many items cross.
 const ITEMS: u32 = 10_000;
@@ -62,30 +60,6 @@ fn begin<R: Abort + Wait, T: Tape>(
     assert!(rt; is_started(&client.call(rt, asker, &call)));
 }
 
-// The opening of a server by this frame.
-fn opening<R: Abort>(rt: &R, alloc: Global, first: &[u8; FIRST]) -> Event
-    ensures fair { CanBring (usual Server) result }
-    ensures no_draw { IsNoDrawEvent result }
-{
-    Event::opened_by(frame(rt, alloc, &first[3..]))
-}
-
-// Opens a server by what its client draws first.
-fn open_server<R: Abort + Wait, T: Tape>(
-    rt: &R,
-    alloc: Global,
-    server: &Connection<T>,
-    caller: &mut Caller<T>,
-    first: &[u8; FIRST],
-)
-    requires of { caller.old.of ≡ server.now }
-    requires settings { server.now.settings ≡ usual Server }
-    ensures of { caller.new.of ≡ server.now }
-{
-    let event = opening(rt, alloc, first);
-    assert!(rt; is_opened(&server.event(rt, caller, &event)));
-}
-
 // What a client draws first.
 fn draw_first<R: Abort + Wait, T: Tape>(
     rt: &R,
@@ -123,7 +97,8 @@ fn grant_all<R: Abort + Wait, T: Tape>(
     let n = Amount::of(GRANTED).expect(rt, "an amount");
     for round in 1..ITEMS / GRANTED {
         wait_until(rt, taken, GRANTED * round);
-        ask(rt, client, &mut granter, &Call::Grant { stream: 1, n });
+        let call = Call::Grant { stream: 1, n };
+        ask(rt, client, &mut granter, &call, &Answer::Done);
     }
 }
 
@@ -178,8 +153,9 @@ fn has_no_credit(answer: &Answer) -> bool {
 
 // Whether an item is sent. Where it is not, there is no credit for it yet: no other refusal passes.
 fn is_sent<R: Abort>(rt: &R, answer: &Answer) -> bool {
-    assert!(rt; is_done(answer) || has_no_credit(answer));
-    is_done(answer)
+    let is_done = matches!(answer, Answer::Done);
+    assert!(rt; is_done || has_no_credit(answer));
+    is_done
 }
 
 // Sends an item, as soon as it is granted.
@@ -354,7 +330,7 @@ fn cross_all<R: Abort + Threads + Wait + Sync, T: Tape + Drop + Send>(
     let (server, mut answerer) = connected(rt, alloc, Side::Server, far);
     open(rt, &client, &mut asker);
     let first = draw_first(rt, &client, &mut asker);
-    open_server(rt, alloc, &server, &mut answerer, &first);
+    open_server(rt, alloc, &server, &mut answerer, &first[3..]);
     begin(rt, alloc, &client, &mut asker);
     cross(rt, alloc, &client, asker, &server, answerer);
 }

@@ -135,7 +135,7 @@ fn wake<R: Abort + Wait, T: Tape>(rt: &R, connection: &Connection<T>, closer: Ca
     requires of { closer.of ≡ connection.now }
 {
     let mut closer = closer;
-    ask(rt, connection, &mut closer, &Call::Close);
+    ask(rt, connection, &mut closer, &Call::Close, &Answer::Done);
 }
 
 // One caller waits in this thread, and the other closes in a thread that is started for it, so that

@@ -1,4 +1,4 @@
-use Rattle.std.proofs.Common.{rules, IsSome, ◌+◌, ◌∙◌, refl, ap, sym}
+use Rattle.std.proofs.Common.{rules, IsSome, ◌+◌, ◌∙◌, refl, ap}
 use Rattle.conn_lock.specs.Rule.{slot_list}
 use Rattle.conn_lock.proofs.TurnSteps.{notes, draws}
 use Rattle.conn_lock.proofs.lock.Lock.try_win.Goals as goal

@@ -1,9 +1,8 @@
 use Rattle.std.proofs.Common.{◌∙◌, ap, subst}
-use mathlib.Core.List.{IsPrefix}
 use Rattle.session_model.specs.Legal.{Fair, Legal}
-use Rattle.conn_lock.specs.Callers.{longer}
-use Rattle.conn_shared.specs.Lines.{entries_in, settings_in}
-use Rattle.conn_shared.proofs.Lines.{entries-noted, goes_on, longer_fronts}
+use Rattle.conn_lock.specs.Callers.{Follows, longer}
+use Rattle.conn_shared.specs.Lines.{entries_in, number_of, settings_in}
+use Rattle.conn_shared.proofs.Lines.{entries-noted, follows_in, longer_fronts}
 use Rattle.conn_shared.proofs.Seated.{fair_by, legal_by, of_longer, seated}
 use Rattle.conn_shared.proofs.shared.SharedSession.join_seats.Goals as goal
 
@@ -34,9 +33,11 @@ returns-clause-member g c =
     (of_longer (Legal h) xs ys (legal_by h c.args.seat s.0 a) (legal_by h c.args.other s.1 b))
     (of_longer (Fair h) xs ys (fair_by h c.args.seat s.0 a) (fair_by h c.args.other s.1 b))
 
-pub returns-clause-fronts : goal.returns-clause-fronts
-returns-clause-fronts g c =
+pub returns-clause-own : goal.returns-clause-own
+returns-clause-own g c =
+    let a = c.args.seat in
+    let b = c.args.other in
     let whole = c.join.result.front in (
-      goes_on _ _ whole (subst (λ f. IsPrefix f whole) c.requires.members.0.lined c.join.ensures.fronts.0),
-      goes_on _ _ whole (subst (λ f. IsPrefix f whole) c.requires.members.1.lined c.join.ensures.fronts.1),
+      follows_in _ a.names _ whole (subst (λ f. Follows number_of a.names f whole) c.requires.members.0.lined c.join.ensures.own.0),
+      follows_in _ b.names _ whole (subst (λ f. Follows number_of b.names f whole) c.requires.members.1.lined c.join.ensures.own.1),
     )
