@@ -1,10 +1,12 @@
 use Rattle.std.proofs.Common.{rules, ◌≡◌, ◌∙◌, ◌≤◌, ◌+◌, ap, subst, arith}
 use Rattle.conn_shared.specs.Members.{Knowledge}
 use Rattle.pump.specs.declared.turned.Turned.TheVariants as turned
-use Rattle.pump.specs.Turns.{GoesOn, IsPumped, has, is_early, lulls_in}
+use Rattle.pump.specs.Turns.{GoesOn, IsPumped, has, is_early}
+use Rattle.pump.specs.Runs.{Leads, lulls_in, placed}
 use Rattle.pump.proofs.Adding.{goes_both, goes_continues, on_both}
 use Rattle.pump.proofs.Going.{turn_goes}
 use Rattle.pump.proofs.Outcomes.{lulled_more, none_fell_both, ran_for, read_wider}
+use Rattle.pump.proofs.Running.{and_another, has_ended, none_yet}
 use Rattle.pump.proofs.inner.Inner.run.Goals as goal
 
 pub loop-preserved : goal.loop-preserved
@@ -52,7 +54,7 @@ returns-then-is_last-clause-cause g c =
     let was = c.loop.caller in
     let moments = g.K.Clock.moments c.args.clock.now in
     ran_for c.args.connection.now.settings moments c.args.lulls me was c.turn-turned.new.caller.front (g.L.Link.shown c.args.link.now) (g.L.Link.shown c.loop.link) (g.L.Link.shown c.turn-turned.new.link) (has c.turn-turned.new.self) c.turn-turned.result
-    (search rules) (goes_continues (IsPumped moments c.args.self.now.conn) me was.front i.2) i.5 c.turn-turned.ensures.cause
+    (ap (λ (x : Knowledge). x.number) i.0) (search rules) (goes_continues (IsPumped moments c.args.self.now.conn) me was.front i.2) i.5 c.turn-turned.ensures.cause
 
 pub returns-then-is_last-clause-read : goal.returns-then-is_last-clause-read
 returns-then-is_last-clause-read g c late =
