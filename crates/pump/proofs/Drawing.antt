@@ -1,6 +1,7 @@
 -- A draw, and what is kept over it.
 use Rattle.std.proofs.lemmas.Bool.Decides.{nat_tests}
-use Rattle.std.proofs.Common.{◌≡◌, ◌<◌, ◌≤◌, ◌+◌, ◌∙◌, ◌==◌, ◌&&◌, arith, min, not, ℕ, Bool, true, false, true≢false, List, [], ◌∷◌, drop, take, length, Option, Some, None, refl, sym, ap, subst}
+use Rattle.std.proofs.lemmas.List.{length-take-le, take-append-le}
+use Rattle.std.proofs.Common.{◌≡◌, ◌<◌, ◌≤◌, ◌+◌, ◌∙◌, ◌==◌, ◌&&◌, arith, min, not, ℕ, Bool, true, false, true≢false, List, [], ◌∷◌, ◌++◌, drop, take, length, Option, Some, None, refl, sym, ap, subst}
 use Rattle.rs_wire.specs.declared.settings.Settings.{Settings}
 use Rattle.rs_frame.specs.Framed.{framed_all}
 use Rattle.outside.specs.Links.{Shown}
@@ -15,6 +16,7 @@ use Rattle.session_model.specs.Frames.{drawn, due, queued}
 use Rattle.session_model.specs.Life.{is_live, live}
 use Rattle.session_model.specs.Means.{Means}
 use Rattle.session_core.specs.Seen.{IsOrOutOfMemory}
+use Rattle.session_core.specs.Queued.{IfDrawn}
 use Rattle.conn_shared.specs.Calls.{IsCalled}
 use Rattle.conn_shared.specs.Members.{Knowledge}
 use Rattle.link_model.specs.Carrying.{Between, Keeps}
@@ -23,7 +25,7 @@ use Rattle.link_model.proofs.Kept.{keeps_draw}
 use Rattle.link_model.proofs.Same.{drawable}
 use Rattle.pump.specs.declared.bringing.Brought.{Brought}
 use Rattle.pump.specs.declared.numbers.TheConstants.{PIECE}
-use Rattle.pump.specs.Turns.{DrawsWhere, HasBrought, HasDrawn, HasDrawnSo, IsKept, Names, brought_by, drawn_by, goes_on_after, goes_on_from, is_empty, is_ended, leaves_by}
+use Rattle.pump.specs.Turns.{DrawsWhere, HasBrought, HasDrawn, HasDrawnInto, HasDrawnSo, IsKept, Names, brought_by, drawn_by, goes_on_after, goes_on_from, is_empty, is_ended, leaves_by}
 use Rattle.pump.proofs.Adding.{IsOn}
 use Rattle.pump.proofs.Events.{leaves_is, means_of}
 use Rattle.pump.proofs.Keeping.{kept_entry, kept_no_entry}
@@ -155,3 +157,27 @@ was_empty g me c room true None (x ∷ old) left new d none = absurd (true≢fal
 was_empty g me c room false None (x ∷ old) left new d none = absurd (true≢false (ap is_empty (sym none ∙ d.0)))
 was_empty g me c room true (Some a) (x ∷ old) left new d none = absurd d
 was_empty g me c room false (Some a) (x ∷ old) left new d none = absurd d
+
+-- ---- a draw into a buffer
+
+count_within : (g : Settings) (past : List Entry) (c room : ℕ) (a : Answer) → IsOrOutOfMemory a (answer_to g past (event.Draw c room)) → count_drawn a ≤ room
+count_within g past c room (answer.Drawn n) is = (means_of g past (event.Draw c room) (answer.Drawn n) is).within
+count_within g past c room _ is = omega arith
+
+first_of : (a : Answer) (xs ys : List ℕ) → IfDrawn a (λ n. take n xs ≡ take n ys) → take (count_drawn a) xs ≡ take (count_drawn a) ys
+first_of (answer.Drawn n) xs ys h = h
+first_of _ xs ys h = refl
+
+pub drawn_into : (g : Settings) (me : Knowledge) (c room : ℕ) (a : Answer) (old new left : List ℕ) (front : List Entry) → HasDrawnInto g me c room a old new front → left ≡ take (count_drawn a) new → HasDrawn g me c room a left front
+drawn_into g me c room a old new left front d is =
+    let call = d.call in
+    let few : count_drawn a ≤ room = count_within g call.before c room a call.step.answered in
+    let within : count_drawn a ≤ length d.piece = subst (λ n. count_drawn a ≤ n) (sym d.few) few in
+    let left_is : left ≡ take (count_drawn a) d.piece = is ∙ (ap (λ xs. take (count_drawn a) xs) d.all ∙ take-append-le (count_drawn a) d.piece (drop room old) within) in
+    let count : length left ≡ count_drawn a = ap length left_is ∙ length-take-le (count_drawn a) d.piece within in
+    record {
+      called = record { before = call.before; follows = call.follows; step = call.step };
+      bytes = left_is ∙ first_of a d.piece (drop (drawn call.before c) (framed_all (due g call.before c))) call.bytes;
+      count = count;
+      within = subst (λ n. n ≤ room) (sym count) few;
+    }

@@ -1,5 +1,5 @@
 -- What a turn of a pump adds to what its caller has seen, what it keeps, and what its result says. Entries stand newest first.
-use Rattle.std.specs.Prelude.{◌≡◌, ◌<◌, ◌≤◌, ◌^◌, ◌+◌, ◌-◌, ◌⊎◌, ◌&&◌, ◌==◌, ℕ, Bool, true, false, List, [], ◌∷◌, ◌++◌, length, not, Option, Some, None, is_some}
+use Rattle.std.specs.Prelude.{◌≡◌, ◌<◌, ◌≤◌, ◌^◌, ◌+◌, ◌-◌, ◌⊎◌, ◌&&◌, ◌==◌, ℕ, Bool, true, false, List, [], ◌∷◌, ◌++◌, drop, length, not, Option, Some, None, is_some}
 use Rattle.std.specs.List.{AllByRecursion}
 use Rattle.rs_wire.specs.declared.fault.Cause.{Cause}
 use Rattle.rs_wire.specs.declared.settings.Settings.{Settings}
@@ -15,7 +15,7 @@ use Rattle.session_model.specs.Frames.{queued}
 use Rattle.session_model.specs.Life.{closed, live}
 use Rattle.conn_lock.specs.Callers.{times}
 use Rattle.conn_shared.specs.declared.looked.Looked.{Looked}
-use Rattle.conn_shared.specs.Calls.{IsCalled}
+use Rattle.conn_shared.specs.Calls.{IsCalled, IsDrawCall}
 use Rattle.conn_shared.specs.Members.{Continues, Follows, Knowledge}
 use Rattle.link_model.specs.Carrying.{Between, IsAlone, Keeps, is_of}
 use Rattle.link_model.specs.Giving.{count_drawn, next_drawn}
@@ -204,6 +204,14 @@ pub record HasDrawn (g : Settings) (me : Knowledge) (c room : ℕ) (a : Answer) 
   pub called : IsCalled g me (event.Draw c room) a new
   pub bytes : left ≡ next_drawn g called.before c a
   pub count : length left ≡ count_drawn a
+  pub within : length left ≤ room
+
+-- a draw into the first bytes of a buffer, this many
+pub record HasDrawnInto (g : Settings) (me : Knowledge) (c room : ℕ) (a : Answer) (old new : List ℕ) (front : List Entry) : Type 0 where
+  pub piece : List ℕ
+  pub all : new ≡ piece ++ drop room old
+  pub few : length piece ≡ room
+  pub call : IsDrawCall g me c room a piece front
 
 -- a draw whose answer came to this
 abbrev pub HasDrawnSo : Settings → Knowledge → ℕ → ℕ → Brought → List ℕ → List Entry → Type 0
@@ -386,7 +394,6 @@ pub record HadOnlyFrames (g : Settings) (me : Knowledge) (b : Between) (new : Li
 pub record IsTurned (g : Settings) (moments : Option (List ℕ)) (me : Knowledge) (new : List Entry) (s t : Shown) (b : Between) (r : Turned) : Type 0 where
   pub left : List ℕ
   pub turn : IsTurn g moments me b.conn b.left left new
-  pub few : length left ≤ PIECE
   -- where the pump goes on something has moved, unless nothing but a frame was there
   pub progress : is_last r ≡ false → HasMoved s t ⊎ HadOnlyFrames g (record me { front = turn.begins.ticked; note = None }) b turn.begun
   -- where a frame waited nothing is taken

@@ -1,6 +1,6 @@
 //! How a turn of a pump begins.
 
-ghost use Rattle.std.specs.Prelude.{◌≡◌, ◌<◌, ◌≤◌, length};
+ghost use Rattle.std.specs.Prelude.{◌≡◌, ◌<◌, ◌≤◌};
 ghost use Rattle.outside.specs.Links.{Shown};
 ghost use Rattle.pump.specs.Turns.{BeginsSo, BroughtFor, DrawsSo, IsKept, IsPumped, Names, has, is_empty};
 ghost use Rattle.pump.specs.declared.numbers.TheConstants as pieces;
@@ -33,7 +33,6 @@ impl Inner {
             → IsKept caller.new s (has self.new) }
         ensures drew { DrawsSo (is_empty self.old.outgoing) connection.now.settings caller.old
             self.old.conn room self.old.outgoing self.new.outgoing caller.new.front result }
-        ensures few { length self.new.outgoing ≤ pieces.PIECE }
         ensures cause { BroughtFor (Names self.old.conn) connection.now.settings
             caller.old caller.new.front result }
         ensures rest { self.new ≡ record self.old { outgoing = self.new.outgoing } }
@@ -61,7 +60,6 @@ impl Inner {
             → IsKept caller.new s (has self.new) }
         ensures begins { BeginsSo connection.now.settings (K.moments clock.now) caller.old
             self.old.conn self.old.outgoing self.new.outgoing caller.new.front result }
-        ensures few { length self.new.outgoing ≤ pieces.PIECE }
         ensures cause { BroughtFor (IsPumped (K.moments clock.now) self.old.conn)
             connection.now.settings caller.old caller.new.front result }
         ensures rest { self.new ≡ record self.old { outgoing = self.new.outgoing } }

@@ -136,7 +136,8 @@ impl Pump {
         if self.inner.bad {
             return Ok(());
         }
-        self.inner.incoming.append(piece)
+        self.inner.incoming.append(piece)?;
+        Ok(())
     }
 
     /// Brings all whole frames that were handed over, up to what stops it. It waits for turns at

@@ -28,8 +28,8 @@ returns-clause-cause g c =
     brought_for (Names c.args.self.now.conn) c.args.connection.now.settings c.args.caller.now (event.Draw c.args.self.now.conn c.args.room) c.draw.result c.draw.new.caller.front (names_draw c.args.self.now.conn c.args.room)
     (brought_draw c.args.connection.now.settings c.args.caller.now c.args.self.now.conn c.args.room c.draw.result c.draw.new.self c.draw.new.caller.front c.draw.ensures.drew)
 
-pub returns-then-ne-clause-drew : goal.returns-then-ne-clause-drew
-returns-then-ne-clause-drew g c =
+pub returns-then-len-ne0-clause-drew : goal.returns-then-len-ne0-clause-drew
+returns-then-len-ne0-clause-drew g c =
     let some : is_empty c.args.self.now.outgoing ≡ false = is_some_by c.args.self.now.outgoing (λ zero. (let n : c.len.result ≡ 0 = c.len.ensures.count ∙ zero in grind (arith, nat_tests, n, c.if-len-ne0.true))) in
     record {
       drew = None;

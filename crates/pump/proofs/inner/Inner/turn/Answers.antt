@@ -38,7 +38,6 @@ returns-in-Some-clause-turned g c =
     record {
       left = c.begin-begun.new.self.outgoing;
       turn = record { begun = d.front; begins = c.begin-begun.ensures.begins.begins; arrivals = goes_none (Arrives c.args.self.now.conn) (record me { front = d.front; note = None }); ended = λ none. refl };
-      few = c.begin-begun.ensures.few;
       progress = λ goes_on. absurd (true≢false (sym last ∙ goes_on));
       waited = λ waits. refl;
       ticked = λ late. absurd (true≢false (sym early ∙ late));
@@ -113,7 +112,6 @@ returns-clause-turned g c =
         ended = λ ends. absurd (true≢false (sym went ∙ ends));
         arrivals = goes_both P start h n.front on_h (goes_both P start d h.front on_d (goes_none P start) heard) (goes_follows P h n.front c.look-looked.ensures.follows);
       };
-      few = c.begin-begun.ensures.few;
       waited = λ waits. c.take_some-took.ensures.waited (waits_on p c.give_some-gave.new.self incoming bad waits) ∙ c.give_some-gave.ensures.taken;
       ticked = λ late. went_ticked start_b.begins.answer start_b.begins.drew went;
       drawn = λ late. went;
