@@ -129,9 +129,11 @@ found_none g me c ticked drew old left new d on none = elim (goes_on_after ticke
     on_draw : (drew : Option Answer) → goes_on_after ticked ≡ true → goes_on_from ticked drew ≡ true → not (is_ended (drawn_by drew)) ≡ true
     on_draw None is h = refl
     on_draw (Some a) is h = sym (ap (λ v. v && goes_on_after a) is) ∙ h
+
     ended_from : (drew : Option Answer) → goes_on_after ticked ≡ false → goes_on_from ticked drew ≡ false
     ended_from None is = is
     ended_from (Some a) is = ap (λ v. v && goes_on_after a) is
+
     by_draw : (drew : Option Answer) (due : Bool) → is_empty old ≡ due → DrawsWhere due g me c PIECE drew old left new → not (is_ended (drawn_by drew)) ≡ true → IsCalled g me (event.Draw c PIECE) answer.NotYet new
     by_draw (Some a) true is d go = drew_none g me c PIECE a new (omega arith) d.called go (sym d.count ∙ ap length none)
     by_draw None false is d go = absurd (true≢false (sym (ap is_empty (sym d.0 ∙ none)) ∙ is))

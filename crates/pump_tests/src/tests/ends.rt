@@ -121,8 +121,14 @@ impl End {
     /// Turns until this lull.
     pub fn run<R: Wait>(&mut self, rt: &R, lulls: u64) -> Turned {
         let (connection, clock) = (&self.connection, &self.clock);
-        self.pump
-            .run(rt, connection, &mut self.caller, &mut self.link, clock, lulls)
+        self.pump.run(
+            rt,
+            connection,
+            &mut self.caller,
+            &mut self.link,
+            clock,
+            lulls,
+        )
     }
 
     /// Draws for a pump whose bytes are carried by other means than a link.

@@ -14,10 +14,12 @@ const OUT_ROOM: u64 = 16_778_239;
 /// Two requests of these lengths fill the queue, with the 71 bytes of SETUP and a header of 9 bytes
 /// each.
 const FIRST: usize = 16_000_000;
+
 const SECOND: usize = 778_150;
 
 /// How many bytes one turn draws, and the request that fills the queue again.
 const PIECE: usize = 16_384;
+
 const AGAIN: usize = PIECE - 9;
 
 /// A CANCEL of stream 2, which breaks no rule, nine times over (RSocket 1.0, "CANCEL Frame").

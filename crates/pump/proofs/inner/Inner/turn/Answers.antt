@@ -117,8 +117,8 @@ returns-clause-turned g c =
       drawn = λ late. went;
       dry = λ late none. idle_by st ticked p.conn PIECE d.front (none_due none);
       still = λ lull. (let sums = subst (SumsUp c.give_some-gave.result c.take_some-took.result c.hear_all-heard.result c.look-looked.result c.len-left.result) lull c.sum_up.ensures.sum in (
-          subst (λ es. Follows me.names es n.front) (c.hear_all-heard.ensures.quiet sums.2) (subst (λ ns. Follows ns h.front n.front) names c.look-looked.ensures.follows),
-          subst (λ k. (left ≡ []) ⊎ Rose s.counts.stalls k) (sym c.take_some-took.ensures.stalls) (stall_of s m left c.give_some-gave.result c.take_some-took.result (c.sum_up.ensures.fine (ap is_last lull)) c.give_some-gave.ensures.gave c.give_some-gave.ensures.nothing sums.0),
+        subst (λ es. Follows me.names es n.front) (c.hear_all-heard.ensures.quiet sums.2) (subst (λ ns. Follows ns h.front n.front) names c.look-looked.ensures.follows),
+        subst (λ k. (left ≡ []) ⊎ Rose s.counts.stalls k) (sym c.take_some-took.ensures.stalls) (stall_of s m left c.give_some-gave.result c.take_some-took.result (c.sum_up.ensures.fine (ap is_last lull)) c.give_some-gave.ensures.gave c.give_some-gave.ensures.nothing sums.0),
       ));
       progress = λ goes_on. only s t st ticked d.front p left (was_empty st ticked p.conn PIECE (goes_on_after start_b.begins.answer) start_b.begins.drew p.outgoing left d.front start_b.begins.draw) none_due (progress s m t (has p) left c.give_some-gave.result c.take_some-took.result (c.sum_up.ensures.fine goes_on)
           c.give_some-gave.ensures.gave c.take_some-took.ensures.took c.take_some-took.ensures.given c.give_some-gave.ensures.taken c.give_some-gave.ensures.counted c.take_some-took.ensures.counted c.give_some-gave.ensures.nothing
@@ -127,10 +127,12 @@ returns-clause-turned g c =
   where
     waits_on : (p q : Inner) → q.incoming ≡ p.incoming → q.bad ≡ p.bad → HasWaiting (has p) → HasWaiting (has q)
     waits_on p q same bad h = (bad ∙ h.0, subst (λ (i : Comes). IsWaiting (all_of i) i.max_in) (sym same) h.1)
+
     only : (s t : Shown) (st : Settings) (ticked : Knowledge) (begun : List Entry) (p : Inner) (left : List ℕ) → (left ≡ [] → p.outgoing ≡ []) → (left ≡ [] → IsCalled st ticked (event.Draw p.conn PIECE) answer.NotYet begun)
         → HasMoved s t ⊎ (HasWaiting (has p) × (left ≡ [])) → HasMoved s t ⊎ HadOnlyFrames st ticked (has p) begun
     only s t st ticked begun p left empty draw (inl moved) = inl moved
     only s t st ticked begun p left empty draw (inr (waits, none)) = inr (record { waiting = waits; empty = empty none; draw = draw none })
+
     waits : (p q : Inner) (gave : Gave) → q.incoming ≡ p.incoming → q.bad ≡ p.bad → (gave ≡ gaves.Failed → ⊥) → (gave ≡ gaves.Failed) ⊎ HasWaiting (has q) → HasWaiting (has p)
     waits p q gave same bad failed (inl is) = absurd (failed is)
     waits p q gave same bad failed (inr h) = (sym bad ∙ h.0, subst (λ (i : Comes). IsWaiting (all_of i) i.max_in) same h.1)

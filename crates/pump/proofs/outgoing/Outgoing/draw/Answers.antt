@@ -18,5 +18,5 @@ returns-clause-drew g c =
       c.draw_first-answer.result,
       search rules,
       drawn_into c.args.connection.now.settings c.args.caller.now c.args.conn c.args.room c.draw_first-answer.result _ c.draw_first-answer.new.buffer _ c.draw_first-answer.new.caller.front d
-      (ap (λ xs. take (c.count_drawn.result - 0) xs) whole ∙ ap (λ k. take k c.draw_first-answer.new.buffer) n),
+          (ap (λ xs. take (c.count_drawn.result - 0) xs) whole ∙ ap (λ k. take k c.draw_first-answer.new.buffer) n),
     )
