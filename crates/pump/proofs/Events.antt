@@ -1,5 +1,5 @@
 -- What one event comes to, and why.
-use Rattle.std.proofs.Common.{◌≡◌, ◌≤◌, ◌^◌, ◌∙◌, inl, inr, ℕ, Bool, true, false, cond, List, ◌∷◌, length, Option, refl, sym, ap, subst, arith, true≢false}
+use Rattle.std.proofs.Common.{◌≡◌, ◌≤◌, ◌^◌, ◌∙◌, inl, inr, ℕ, Bool, true, false, cond, List, [], ◌∷◌, length, Option, refl, sym, ap, subst, arith, true≢false}
 use Rattle.std.proofs.lemmas.List.{length-append}
 use Rattle.std.proofs.lemmas.Bool.Decides.{nat_tests}
 use Rattle.rs_wire.specs.declared.settings.Settings.{Settings}
@@ -21,7 +21,7 @@ use Rattle.link_model.specs.Carrying.{Between}
 use Rattle.link_model.specs.Reading.{IsInFront}
 use Rattle.pump.specs.declared.bringing.Brought.{Brought}
 use Rattle.pump.specs.declared.bringing.Brought.TheVariants as brings
-use Rattle.pump.specs.Turns.{Arrives, BroughtFor, HasArrived, HasBrought, IfBusy, IfDone, IsPumped, Names, Ticks, WasAnswered, after_some, brought_by, leaves_by}
+use Rattle.pump.specs.Turns.{Arrives, BroughtFor, HasArrived, HasBrought, IfBusy, IfDone, IsPumped, Names, Ticks, WasNoted, after_some, brought_by, leaves_by}
 use Rattle.pump.proofs.Adding.{called_continues, continues_both, continues_same}
 
 pub leaves_is : (a : Answer) → leaves a ≡ leaves_by (brought_by a)
@@ -35,44 +35,48 @@ leaves_is _ = refl
 
 -- ---- causes
 
-was_answered : (P : Event → Type 0) (g : Settings) (me : Knowledge) (e : Event) (a : Answer) (new : List Entry) → P e → (c : IsCalled g me e a new) → a ≡ answer_to g c.before e → WasAnswered P g me.front new a
-was_answered P g me e a new p c is = record {
-  event = e;
+was_noted : (P : Event → Type 0) (g : Settings) (me : Knowledge) (e : Event) (a : Answer) (new : List Entry) → P e → (c : IsCalled g me e a new) → a ≡ answer_to g c.before e → Continues (entry_of me.number e a ∷ c.before) new → WasNoted P g me new a
+was_noted P g me e a new p c is until = record {
+  entry = entry_of me.number e a;
   before = c.before;
   is = p;
+  answered = refl;
+  own = refl;
+  right = is;
   since = (c.follows.0, c.follows.1);
-  until = called_continues g me e a new c;
-  answered = is;
+  until = until;
 }
 
 pub longer_still : (d e : List Entry) → Continues d e → 2 ^ 63 ≤ length d → 2 ^ 63 ≤ length e
 longer_still d e k le = subst (λ t. 2 ^ 63 ≤ length t) (sym k.1) (omega (arith, length-append k.0 d, le))
 
-pub brought_for : (P : Event → Type 0) (g : Settings) (me : Knowledge) (e : Event) (b : Brought) (new : List Entry) → P e → HasBrought g me e b new → BroughtFor P g me.front new b
-brought_for P g me e b new p h = subst (BroughtFor P g me.front new) (sym h.is) (by_answer h.answer h.called)
+pub brought_for : (P : Event → Type 0) (g : Settings) (me : Knowledge) (e : Event) (b : Brought) (new : List Entry) → P e → HasBrought g me e b new → BroughtFor P g me new b
+brought_for P g me e b new p h = subst (BroughtFor P g me new) (sym h.is) (by_answer h.answer h.called)
   where
-    by_answer : (a : Answer) → (c : IsCalled g me e a new) → BroughtFor P g me.front new (brought_by a)
-    by_answer (answer.Stale n) c = was_answered P g me e (answer.Stale n) new p c c.step.answered
-    by_answer (answer.Dead n) c = was_answered P g me e (answer.Dead n) new p c c.step.answered
+    by_answer : (a : Answer) → (c : IsCalled g me e a new) → BroughtFor P g me new (brought_by a)
+    by_answer (answer.Stale n) c = was_noted P g me e (answer.Stale n) new p c c.step.answered ([], c.step.after)
+    by_answer (answer.Dead n) c = was_noted P g me e (answer.Dead n) new p c c.step.answered ([], c.step.after)
     by_answer answer.TapeFull c = longer_still c.before new (called_continues g me e answer.TapeFull new c) (c.step.full.0 refl)
     by_answer _ c = tt
 
 -- the cause over a longer stretch, of which less is said
-pub was_wider : (P Q : Event → Type 0) (g : Settings) (a b d e : List Entry) (x : Answer) → ((v : Event) → P v → Q v) → Continues a b → Continues d e → WasAnswered P g b d x → WasAnswered Q g a e x
-was_wider P Q g a b d e x f h k w = record {
-  event = w.event;
+pub was_wider : (P Q : Event → Type 0) (g : Settings) (was me : Knowledge) (d e : List Entry) (x : Answer) → ((v : Event) → P v → Q v) → me.number ≡ was.number → Continues was.front me.front → Continues d e → WasNoted P g me d x → WasNoted Q g was e x
+was_wider P Q g was me d e x f number h k w = record {
+  entry = w.entry;
   before = w.before;
-  is = f w.event w.is;
-  since = continues_both a b w.before h w.since;
-  until = continues_both w.before d e w.until k;
+  is = f w.entry.event w.is;
   answered = w.answered;
+  own = w.own ∙ number;
+  right = w.right;
+  since = continues_both was.front me.front w.before h w.since;
+  until = continues_both (w.entry ∷ w.before) d e w.until k;
 }
 
-pub brought_wider : (P Q : Event → Type 0) (g : Settings) (a b d e : List Entry) (x : Brought) → ((v : Event) → P v → Q v) → Continues a b → Continues d e → BroughtFor P g b d x → BroughtFor Q g a e x
-brought_wider P Q g a b d e (brings.Displaced n) f h k w = was_wider P Q g a b d e (answer.Stale n) f h k w
-brought_wider P Q g a b d e (brings.Dead n) f h k w = was_wider P Q g a b d e (answer.Dead n) f h k w
-brought_wider P Q g a b d e brings.TapeFull f h k w = longer_still d e k w
-brought_wider P Q g a b d e _ f h k w = tt
+pub brought_wider : (P Q : Event → Type 0) (g : Settings) (was me : Knowledge) (d e : List Entry) (x : Brought) → ((v : Event) → P v → Q v) → me.number ≡ was.number → Continues was.front me.front → Continues d e → BroughtFor P g me d x → BroughtFor Q g was e x
+brought_wider P Q g was me d e (brings.Displaced n) f number h k w = was_wider P Q g was me d e (answer.Stale n) f number h k w
+brought_wider P Q g was me d e (brings.Dead n) f number h k w = was_wider P Q g was me d e (answer.Dead n) f number h k w
+brought_wider P Q g was me d e brings.TapeFull f number h k w = longer_still d e k w
+brought_wider P Q g was me d e _ f number h k w = tt
 
 -- ---- what came
 
@@ -95,13 +99,22 @@ pub front_no_draw : (c : ℕ) (bytes : List ℕ) (most : ℕ) (e : Event) → Is
 front_no_draw c bytes most (event.Draw conn room) h = h
 front_no_draw c bytes most _ h = tt
 
-means_of : (g : Settings) (past : List Entry) (e : Event) (a : Answer) → a ≡ answer_to g past e → Means g (facts g past) e a
+pub means_of : (g : Settings) (past : List Entry) (e : Event) (a : Answer) → a ≡ answer_to g past e → Means g (facts g past) e a
 unfolding facts
 means_of g past e a is = subst (Means g (facts g past) e) (sym is) (meaning g (facts g past) e)
 
 -- a tick alone finds the peer dead
-pub dead_ticks : (moments : Option (List ℕ)) (c : ℕ) (g : Settings) (old new : List Entry) (n : ℕ) → WasAnswered (IsPumped moments c) g old new (answer.Dead n) → WasAnswered (Ticks moments) g old new (answer.Dead n)
-dead_ticks moments c g old new n w = record { event = w.event; before = w.before; is = ticks w.event w.is (means_of g w.before w.event (answer.Dead n) w.answered); since = w.since; until = w.until; answered = w.answered }
+pub dead_ticks : (moments : Option (List ℕ)) (c : ℕ) (g : Settings) (me : Knowledge) (new : List Entry) (n : ℕ) → WasNoted (IsPumped moments c) g me new (answer.Dead n) → WasNoted (Ticks moments) g me new (answer.Dead n)
+dead_ticks moments c g me new n w = record {
+  entry = w.entry;
+  before = w.before;
+  is = ticks w.entry.event w.is (means_of g w.before w.entry.event (answer.Dead n) w.right);
+  answered = w.answered;
+  own = w.own;
+  right = w.right;
+  since = w.since;
+  until = w.until;
+}
   where
     ticks : (e : Event) → IsPumped moments c e → Means g (facts g w.before) e (answer.Dead n) → Ticks moments e
     ticks e (inl h) m = h
@@ -114,8 +127,17 @@ dead_ticks moments c g old new n w = record { event = w.event; before = w.before
     ticks (event.Asked call) (inr h) m = absurd m
 
 -- a tick finds no other connection live
-pub stale_names : (moments : Option (List ℕ)) (c : ℕ) (g : Settings) (old new : List Entry) (n : ℕ) → WasAnswered (IsPumped moments c) g old new (answer.Stale n) → WasAnswered (Names c) g old new (answer.Stale n)
-stale_names moments c g old new n w = record { event = w.event; before = w.before; is = names w.event w.is (means_of g w.before w.event (answer.Stale n) w.answered); since = w.since; until = w.until; answered = w.answered }
+pub stale_names : (moments : Option (List ℕ)) (c : ℕ) (g : Settings) (me : Knowledge) (new : List Entry) (n : ℕ) → WasNoted (IsPumped moments c) g me new (answer.Stale n) → WasNoted (Names c) g me new (answer.Stale n)
+stale_names moments c g me new n w = record {
+  entry = w.entry;
+  before = w.before;
+  is = names w.entry.event w.is (means_of g w.before w.entry.event (answer.Stale n) w.right);
+  answered = w.answered;
+  own = w.own;
+  right = w.right;
+  since = w.since;
+  until = w.until;
+}
   where
     names : (e : Event) → IsPumped moments c e → Means g (facts g w.before) e (answer.Stale n) → Names c e
     names e (inr h) m = h
@@ -193,7 +215,7 @@ busy_none g past x _ h = tt
 
 -- ---- after several
 
-pub for_after : (P : Event → Type 0) (g : Settings) (a b : List Entry) (noted : Bool) (x : Brought) → BroughtFor P g a b x → BroughtFor P g a b (after_some noted x)
+pub for_after : (P : Event → Type 0) (g : Settings) (a : Knowledge) (b : List Entry) (noted : Bool) (x : Brought) → BroughtFor P g a b x → BroughtFor P g a b (after_some noted x)
 for_after P g a b true brings.Nothing h = tt
 for_after P g a b true (brings.Displaced n) h = h
 for_after P g a b true (brings.Dead n) h = h

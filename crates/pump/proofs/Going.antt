@@ -1,8 +1,9 @@
 -- What holds of all turns.
 use Rattle.std.specs.List.{AllByRecursion}
-use Rattle.std.proofs.Common.{◌≡◌, ◌<◌, ◌∙◌, inl, inr, ℕ, Bool, true, false, true≢false, List, [], ◌∷◌, ◌++◌, Option, None, ◌&&◌, refl, sym, subst}
+use Rattle.std.proofs.Common.{◌≡◌, ◌<◌, ◌∙◌, inl, inr, ℕ, Bool, true, false, true≢false, List, [], ◌∷◌, ◌++◌, Option, Some, None, ◌&&◌, refl, sym, subst}
 use Rattle.rs_wire.specs.declared.settings.Settings.{Settings}
 use Rattle.outside.specs.Links.{Shown}
+use Rattle.tape.specs.declared.answer.Answer.{Answer}
 use Rattle.tape.specs.declared.event.Event.TheVariants as event
 use Rattle.tape.specs.declared.entry.Entry.{Entry}
 use Rattle.conn_lock.specs.Callers.{times}
@@ -33,15 +34,17 @@ kept_goes was now s p on goes k = kept_now was now s p on (λ named alone.
     let a : IsAlone p.conn was.number (goes.more ++ was.front) = subst (IsAlone p.conn was.number) goes.on alone in
     subst (λ es. Keeps was.of.settings es s p) (sym goes.on) (keeps_goes was.of.settings was.number was.names was.front goes.more s p named goes.own a (k (record { named = named; alone = alone_before p.conn was.number was.front goes.more a }))))
 
-draws_go : (moments : Option (List ℕ)) (drawn : Bool) (g : Settings) (me : Knowledge) (c : ℕ) (old left : List ℕ) (new : List Entry) → DrawsWhere drawn g me c old left new → GoesOn (IsPumped moments c) me new
-draws_go moments true g me c old left new d = goes_called (IsPumped moments c) g me (event.Draw c PIECE) d.0 new (inr (names_draw c)) d.1.called
-draws_go moments false g me c old left new d = subst (GoesOn (IsPumped moments c) me) (sym d.1) (goes_none (IsPumped moments c) me)
+draws_go : (moments : Option (List ℕ)) (due : Bool) (g : Settings) (me : Knowledge) (c room : ℕ) (drew : Option Answer) (old left : List ℕ) (new : List Entry) → DrawsWhere due g me c room drew old left new → GoesOn (IsPumped moments c) me new
+draws_go moments true g me c room (Some a) old left new d = goes_called (IsPumped moments c) g me (event.Draw c room) a new (inr (names_draw c room)) d.called
+draws_go moments false g me c room None old left new d = subst (GoesOn (IsPumped moments c) me) (sym d.1) (goes_none (IsPumped moments c) me)
+draws_go moments true g me c room None old left new d = absurd d
+draws_go moments false g me c room (Some a) old left new d = absurd d
 
 pub begins_goes : (g : Settings) (moments : Option (List ℕ)) (me : Knowledge) (c : ℕ) (old left : List ℕ) (new : List Entry) → Begins g moments me c old left new → GoesOn (IsPumped moments c) me new
 begins_goes g moments me c old left new b =
     let P = IsPumped moments c in
     let ticked : Knowledge = record me { front = b.ticked; note = None } in
-    goes_both P me ticked new refl (goes_called P g me (event.Tick b.now) b.answer b.ticked (inl b.moment) b.tick) (draws_go moments (goes_on_after b.answer && is_empty old) g ticked c old left new b.draw)
+    goes_both P me ticked new refl (goes_called P g me (event.Tick b.now) b.answer b.ticked (inl b.moment) b.tick) (draws_go moments (goes_on_after b.answer && is_empty old) g ticked c PIECE b.drew old left new b.draw)
 
 pub begun_on : (g : Settings) (moments : Option (List ℕ)) (me : Knowledge) (c : ℕ) (old left : List ℕ) (new : List Entry) → Begins g moments me c old left new → Continues me.front new
 begun_on g moments me c old left new b = goes_continues (IsPumped moments c) me new (begins_goes g moments me c old left new b)

@@ -99,6 +99,9 @@ kept_steps g was now e b s p q is limit on some conn steps h k =
 pub fed_still : (me : Knowledge) (s : Shown) (p : Inner) (j : Comes) → all_of j ≡ all_of p.incoming → j.max_in ≡ p.incoming.max_in → IsKept me s (has p) → IsKept me s (has (record p { incoming = j }))
 fed_still me s p j all most k = subst (λ m. IsKept me s (record (has p) { rest = all_of j; max_in = m })) (sym most) (subst (λ r. IsKept me s (record (has p) { rest = r })) (sym all) k)
 
+pub fed_keeps : (g : Settings) (past : List Entry) (s : Shown) (p : Inner) (j : Comes) → all_of j ≡ all_of p.incoming → j.max_in ≡ p.incoming.max_in → Keeps g past s (has p) → Keeps g past s (has (record p { incoming = j }))
+fed_keeps g past s p j all most k = subst (λ m. Keeps g past s (record (has p) { rest = all_of j; max_in = m })) (sym most) (subst (λ r. Keeps g past s (record (has p) { rest = r })) (sym all) k)
+
 -- bytes of the link moved, whatever the entries
 pub kept_moved : (me : Knowledge) (s t : Shown) (p q : Between) → q.conn ≡ p.conn → ((g : Settings) (past : List Entry) → Keeps g past s p → Keeps g past t q) → IsKept me s p → IsKept me t q
 kept_moved me s t p q conn f k own = f me.of.settings me.front (k (record { named = own.named; alone = subst (λ c. IsAlone c me.number me.front) conn own.alone }))

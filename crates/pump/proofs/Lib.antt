@@ -7,3 +7,4 @@ pub mod Outcomes
 pub mod Progress
 pub mod Going
 pub mod ReadOut
+pub mod Running

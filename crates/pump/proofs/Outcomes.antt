@@ -1,6 +1,7 @@
 -- Why a turn came out as it did, from what its parts said.
 use Rattle.std.proofs.Common.{◌≡◌, ◌∙◌, ◌≤◌, ◌<◌, ◌+◌, ◌⊎◌, inl, inr, ℕ, true, false, List, [], length, Option, Some, None, refl, sym, ap, subst, arith, append-nil, true≢false}
 use Rattle.std.specs.Io.KnownBytes.{append_known}
+use Rattle.rs_wire.specs.declared.fault.Cause.{Cause}
 use Rattle.rs_wire.specs.declared.settings.Settings.{Settings}
 use Rattle.outside.specs.Causes.{Rose}
 use Rattle.outside.specs.Links.{Counts, NoneFell, Shown}
@@ -20,7 +21,9 @@ use Rattle.pump.specs.declared.incoming.Took.TheVariants as tooks
 use Rattle.pump.specs.declared.turned.Turned.{Turned}
 use Rattle.pump.specs.declared.turned.Turned.TheVariants as turned
 use Rattle.pump.specs.Moves.{HasGave, HasTook, IsGrown, given_in, taken_in}
-use Rattle.pump.specs.Turns.{BroughtFor, HasArrived, HasLulled, IfBusy, IfDone, IsEmptied, IsPumped, IsReadOut, Names, RanFor, SomeMoved, SumsUp, Ticks, TurnedFor, WasBusy, ended_by, is_early, is_fine, is_last, lulls_in}
+use Rattle.pump.specs.Turns.{BroughtFor, HasArrived, IfBusy, IfDone, IsEmptied, IsPumped, IsReadOut, Names, RulesOut, RulesOutOf, SomeMoved, SumsUp, Ticks, TurnedFor, WasBusy, ended_by, is_done, is_ended, is_early, is_fine, is_last, is_over}
+use Rattle.pump.specs.Runs.{HasLulled, RanFor, lulls_in}
+use Rattle.pump.specs.declared.numbers.TheConstants.{PIECE}
 use Rattle.pump.proofs.Adding.{continues_both, continues_same}
 use Rattle.pump.proofs.Events.{arrived_wider, dead_ticks, longer_still, stale_names, was_wider}
 use Rattle.pump.proofs.Drawing.{none_left}
@@ -36,13 +39,13 @@ grown_none old new is = ([], refl, is ∙ sym (nothing_more old))
 
 pub gave_grown : (s m : Shown) (gave : Gave) → HasGave s m gave → IsGrown (given_in gave) s.given m.given
 gave_grown s m gaves.Nothing h = grown_none s.given m.given (ap (λ (x : Shown). x.given) h)
-gave_grown s m (gaves.Count n) h = h.1
+gave_grown s m (gaves.Count n) h = h.2
 gave_grown s m gaves.Stalled h = grown_none s.given m.given h.0
 gave_grown s m gaves.Failed h = grown_none s.given m.given h.0
 
 pub took_grown : (m t : Shown) (gave : Gave) (took : Took) → is_fine gave took ≡ true → HasTook m t took → IsGrown (taken_in took) m.taken t.taken
 took_grown m t gave tooks.Nothing fine h = grown_none m.taken t.taken (ap (λ (x : Shown). x.taken) h)
-took_grown m t gave (tooks.Count n) fine h = h.1
+took_grown m t gave (tooks.Count n) fine h = h.2
 took_grown m t gave tooks.Lull fine h = grown_none m.taken t.taken h.0
 took_grown m t gave tooks.End fine h = grown_none m.taken t.taken h.0
 took_grown m t gave tooks.Failed fine h = grown_none m.taken t.taken h.0
@@ -78,9 +81,26 @@ ended_early brings.Nothing r is = absurd (let e : None ≡ Some r = is in cc)
 ended_early brings.Noted r is = absurd (let e : None ≡ Some r = is in cc)
 ended_early (brings.Busy q) r is = absurd (let e : None ≡ Some r = is in cc)
 
-pub began_for : (g : Settings) (moments : Option (List ℕ)) (me : Knowledge) (new : List Entry) (s t : Shown) (b : Between) (x : Brought) (r : Turned) → ended_by x ≡ Some r → BroughtFor (IsPumped moments b.conn) g me.front new x → TurnedFor g moments me new s t b r
-began_for g moments me new s t b (brings.Displaced n) r is w = let e : turned.Displaced n ≡ r = cc in subst (TurnedFor g moments me new s t b) e (stale_names moments b.conn g me.front new n w)
-began_for g moments me new s t b (brings.Dead n) r is w = let e : turned.Dead n ≡ r = cc in subst (TurnedFor g moments me new s t b) e (dead_ticks moments b.conn g me.front new n w)
+pub none_ended : (b : Brought) → ended_by b ≡ None → is_ended b ≡ false
+none_ended (brings.Displaced n) is = absurd (let e : Some (turned.Displaced n) ≡ None = is in cc)
+none_ended (brings.Dead n) is = absurd (let e : Some (turned.Dead n) ≡ None = is in cc)
+none_ended brings.TapeFull is = absurd (let e : Some turned.TapeFull ≡ None = is in cc)
+none_ended brings.OutOfMemory is = absurd (let e : Some turned.OutOfMemory ≡ None = is in cc)
+none_ended _ is = refl
+
+-- what ends a turn at once rules out nothing
+pub ruled_out : (g : Settings) (new : List Entry) (b : Between) (x : Brought) (r : Turned) → ended_by x ≡ Some r → RulesOut g new b r
+ruled_out g new b (brings.Displaced n) r is = let e : turned.Displaced n ≡ r = cc in subst (RulesOut g new b) e tt
+ruled_out g new b (brings.Dead n) r is = let e : turned.Dead n ≡ r = cc in subst (RulesOut g new b) e tt
+ruled_out g new b brings.TapeFull r is = let e : turned.TapeFull ≡ r = cc in subst (RulesOut g new b) e tt
+ruled_out g new b brings.OutOfMemory r is = let e : turned.OutOfMemory ≡ r = cc in subst (RulesOut g new b) e tt
+ruled_out g new b brings.Nothing r is = absurd (let e : None ≡ Some r = is in cc)
+ruled_out g new b brings.Noted r is = absurd (let e : None ≡ Some r = is in cc)
+ruled_out g new b (brings.Busy q) r is = absurd (let e : None ≡ Some r = is in cc)
+
+pub began_for : (g : Settings) (moments : Option (List ℕ)) (me : Knowledge) (new : List Entry) (s t : Shown) (b : Between) (x : Brought) (r : Turned) → ended_by x ≡ Some r → BroughtFor (IsPumped moments b.conn) g me new x → TurnedFor g moments me new s t b r
+began_for g moments me new s t b (brings.Displaced n) r is w = let e : turned.Displaced n ≡ r = cc in subst (TurnedFor g moments me new s t b) e (stale_names moments b.conn g me new n w)
+began_for g moments me new s t b (brings.Dead n) r is w = let e : turned.Dead n ≡ r = cc in subst (TurnedFor g moments me new s t b) e (dead_ticks moments b.conn g me new n w)
 began_for g moments me new s t b brings.TapeFull r is w = let e : turned.TapeFull ≡ r = cc in subst (TurnedFor g moments me new s t b) e w
 began_for g moments me new s t b brings.OutOfMemory r is w = let e : turned.OutOfMemory ≡ r = cc in subst (TurnedFor g moments me new s t b) e tt
 began_for g moments me new s t b brings.Nothing r is w = absurd (let e : None ≡ Some r = is in cc)
@@ -95,7 +115,7 @@ pub record Parts (g : Settings) (moments : Option (List ℕ)) (me mid last : Kno
   pub before : Continues me.front mid.front
   pub between : Continues mid.front last.front
   pub follows : Follows me.names last.front new
-  pub cause : BroughtFor (Names b.conn) g mid.front last.front heard
+  pub cause : BroughtFor (Names b.conn) g mid last.front heard
   pub busy : IfBusy g last.front b heard
   pub arrived : heard ≡ brings.Noted → HasArrived b.conn mid last.front
   pub gave_is : HasGave s m gave
@@ -130,6 +150,21 @@ no_gift s m (gaves.Count n) h zero = absurd (omega (arith, h.0, zero))
 no_gift s m gaves.Stalled h zero = h.0
 no_gift s m gaves.Failed h zero = h.0
 
+few_given : (s m : Shown) (gave : Gave) → HasGave s m gave → given_in gave ≤ PIECE
+few_given s m (gaves.Count n) h = h.1
+few_given s m _ h = omega arith
+
+few_taken : (m t : Shown) (took : Took) → HasTook m t took → taken_in took ≤ PIECE
+few_taken m t (tooks.Count n) h = h.1
+few_taken m t _ h = omega arith
+
+-- nothing was given: where bytes were left the link stalled
+pub stall_of : (s m : Shown) (left : List ℕ) (gave : Gave) (took : Took) → is_fine gave took ≡ true → HasGave s m gave → (gave ≡ gaves.Nothing → left ≡ []) → given_in gave ≡ 0 → (left ≡ []) ⊎ Rose s.counts.stalls m.counts.stalls
+stall_of s m left gaves.Nothing took fine h nothing zero = inl (nothing refl)
+stall_of s m left (gaves.Count n) took fine h nothing zero = absurd (omega (arith, h.0, zero))
+stall_of s m left gaves.Stalled took fine h nothing zero = inr h.1
+stall_of s m left gaves.Failed took fine h nothing zero = absurd (not_failed took fine)
+
 -- nothing was taken: where a take was made it lulled
 lull_of : (m t : Shown) (gave : Gave) (took : Took) → is_fine gave took ≡ true → HasTook m t took → taken_in took ≡ 0 → (took ≡ tooks.Nothing → ⊥) → Rose m.counts.lulls t.counts.lulls × (t.taken ≡ m.taken)
 lull_of m t gave tooks.Nothing fine h zero some = absurd (some refl)
@@ -158,6 +193,8 @@ turned_for g moments me mid last new s m t b gave took heard looked left (turned
   subst (λ k. IsGrown k s.given t.given) (sym o.0) (subst (λ z. IsGrown (given_in gave) s.given z) (sym p.given_still) (gave_grown s m gave p.gave_is)),
   subst (λ k. IsGrown k s.taken t.taken) (sym o.1) (subst (λ z. IsGrown (taken_in took) z t.taken) p.taken_still (took_grown m t gave took (fine refl) p.took_is)),
   some_moved x y heard (HasArrived b.conn me new) (λ noted. arrived_wider b.conn me mid last.front new p.number p.before (last_on g moments me mid last new s m t b gave took heard looked left p) (p.arrived noted)) o.2,
+  subst (λ k. k ≤ PIECE) (sym o.0) (few_given s m gave p.gave_is),
+  subst (λ k. k ≤ PIECE) (sym o.1) (few_taken m t took p.took_is),
 )
 turned_for g moments me mid last new s m t b gave took heard looked left (turned.Busy q) p o fine = was_busy g moments me mid last new s m t b gave took heard looked left q p o
 turned_for g moments me mid last new s m t b gave took heard looked left (turned.Over cause) p o fine = (
@@ -166,7 +203,7 @@ turned_for g moments me mid last new s m t b gave took heard looked left (turned
   none_left b.left (sym p.left_is ∙ o.2),
 )
 turned_for g moments me mid last new s m t b gave took heard looked left (turned.Displaced n) p o fine =
-    was_wider (Names b.conn) (Names b.conn) g me.front mid.front last.front new (answer.Stale n) (λ v h. h) p.before (last_on g moments me mid last new s m t b gave took heard looked left p) (subst (BroughtFor (Names b.conn) g mid.front last.front) o p.cause)
+    was_wider (Names b.conn) (Names b.conn) g me mid last.front new (answer.Stale n) (λ v h. h) p.number p.before (last_on g moments me mid last new s m t b gave took heard looked left p) (subst (BroughtFor (Names b.conn) g mid last.front) o p.cause)
 turned_for g moments me mid last new s m t b gave took heard looked left turned.Lull p o fine =
     let lull = lull_of m t gave took (fine refl) p.took_is o.1 (λ nothing. p.some nothing (failed_not gave took (fine refl)) o.2) in (
       rose_from s.counts.lulls m.counts.lulls t.counts.lulls p.give_counted.lulls lull.0,
@@ -181,10 +218,26 @@ turned_for g moments me mid last new s m t b gave took heard looked left turned.
     let still : t ≡ m = subst (HasTook m t) (p.failed o) p.took_is in
     subst (λ (x : Shown). Rose s.counts.faults x.counts.faults) (sym still) (subst (HasGave s m) o p.gave_is).1
 turned_for g moments me mid last new s m t b gave took heard looked left (turned.Dead n) p o fine =
-    dead_ticks moments b.conn g me.front new n (was_wider (Names b.conn) (IsPumped moments b.conn) g me.front mid.front last.front new (answer.Dead n) (λ v h. inr h) p.before (last_on g moments me mid last new s m t b gave took heard looked left p) (subst (BroughtFor (Names b.conn) g mid.front last.front) o p.cause))
+    dead_ticks moments b.conn g me new n (was_wider (Names b.conn) (IsPumped moments b.conn) g me mid last.front new (answer.Dead n) (λ v h. inr h) p.number p.before (last_on g moments me mid last new s m t b gave took heard looked left p) (subst (BroughtFor (Names b.conn) g mid last.front) o p.cause))
 turned_for g moments me mid last new s m t b gave took heard looked left turned.TapeFull p o fine =
-    longer_still last.front new (last_on g moments me mid last new s m t b gave took heard looked left p) (subst (BroughtFor (Names b.conn) g mid.front last.front) o p.cause)
+    longer_still last.front new (last_on g moments me mid last new s m t b gave took heard looked left p) (subst (BroughtFor (Names b.conn) g mid last.front) o p.cause)
 turned_for g moments me mid last new s m t b gave took heard looked left turned.OutOfMemory p o fine = tt
+
+-- ---- what a result rules out
+
+over_as : (c d : Option Cause) (q r x y : ℕ) → c ≡ d → q ≡ r → x ≡ y → is_over c q x ≡ false → is_over d r y ≡ false
+over_as c d q r x y cause waits left h = subst (λ k. is_over k r y ≡ false) cause (subst (λ k. is_over c k y ≡ false) waits (subst (λ k. is_over c q k ≡ false) left h))
+
+done_of : (heard : Brought) (P : Type 0) → is_done heard ≡ true → IfDone heard P → P
+done_of brings.Nothing P is p = p
+done_of brings.Noted P is p = p
+done_of _ P is p = absurd (true≢false (sym is))
+
+pub rules_out : (g : Settings) (new : List Entry) (b : Between) (heard : Brought) (looked : Looked) (left : ℕ) (r : Turned) → looked.cause ≡ closed g new → looked.queued ≡ queued g new → left ≡ length b.left → IfDone heard (IsEmptied b) → RulesOutOf looked left heard r → RulesOut g new b r
+rules_out g new b heard looked left (turned.Moved x y) cause waits is done h = (over_as _ _ _ _ _ _ cause waits is h.0, done_of heard (IsEmptied b) h.1 done)
+rules_out g new b heard looked left (turned.Busy q) cause waits is done h = over_as _ _ _ _ _ _ cause waits is h
+rules_out g new b heard looked left turned.Lull cause waits is done h = (over_as _ _ _ _ _ _ cause waits is h.0, done_of heard (IsEmptied b) h.1 done)
+rules_out g new b heard looked left _ cause waits is done h = tt
 
 -- all that stood in front was brought, or found no room
 pub read_out : (g : Settings) (me : Knowledge) (last new : List Entry) (b : Between) (heard : Brought) → Continues me.front last → Follows me.names last new → IfBusy g last b heard → IfDone heard (IsEmptied b) → ended_by heard ≡ None → IsReadOut g me b new
@@ -207,17 +260,17 @@ still s m t met more f (inl h) le = inl (omega (arith, h, f.lulls, le))
 still s m t met more f (inr h) le = inr (omega (arith, h, f.lulls))
 
 -- what ends turns for good ends a run
-pub ran_for : (g : Settings) (moments : Option (List ℕ)) (lulls : ℕ) (was me : Knowledge) (new : List Entry) (s m t : Shown) (b : Between) (r : Turned) → is_last r ≡ true → Continues was.front me.front → NoneFell s.counts m.counts → TurnedFor g moments me new m t b r → RanFor g moments lulls was new s t b r
-ran_for g moments lulls was me new s m t b (turned.Moved x y) last c f h = absurd (true≢false (sym last))
-ran_for g moments lulls was me new s m t b (turned.Busy q) last c f h = absurd (true≢false (sym last))
-ran_for g moments lulls was me new s m t b turned.Lull last c f h = absurd (true≢false (sym last))
-ran_for g moments lulls was me new s m t b (turned.Over cause) last c f h = h
-ran_for g moments lulls was me new s m t b (turned.Displaced n) last c f h = was_wider (Names b.conn) (Names b.conn) g was.front me.front new new (answer.Stale n) (λ v k. k) c (continues_same new) h
-ran_for g moments lulls was me new s m t b turned.End last c f h = rose_from s.counts.ends m.counts.ends t.counts.ends f.ends h
-ran_for g moments lulls was me new s m t b turned.LinkFault last c f h = rose_from s.counts.faults m.counts.faults t.counts.faults f.faults h
-ran_for g moments lulls was me new s m t b (turned.Dead n) last c f h = was_wider (Ticks moments) (Ticks moments) g was.front me.front new new (answer.Dead n) (λ v k. k) c (continues_same new) h
-ran_for g moments lulls was me new s m t b turned.TapeFull last c f h = h
-ran_for g moments lulls was me new s m t b turned.OutOfMemory last c f h = tt
+pub ran_for : (g : Settings) (moments : Option (List ℕ)) (lulls : ℕ) (was me : Knowledge) (new : List Entry) (s m t : Shown) (b : Between) (r : Turned) → me.number ≡ was.number → is_last r ≡ true → Continues was.front me.front → NoneFell s.counts m.counts → TurnedFor g moments me new m t b r → RanFor g moments lulls was new s t b r
+ran_for g moments lulls was me new s m t b (turned.Moved x y) number last c f h = absurd (true≢false (sym last))
+ran_for g moments lulls was me new s m t b (turned.Busy q) number last c f h = absurd (true≢false (sym last))
+ran_for g moments lulls was me new s m t b turned.Lull number last c f h = absurd (true≢false (sym last))
+ran_for g moments lulls was me new s m t b (turned.Over cause) number last c f h = h
+ran_for g moments lulls was me new s m t b (turned.Displaced n) number last c f h = was_wider (Names b.conn) (Names b.conn) g was me new new (answer.Stale n) (λ v k. k) number c (continues_same new) h
+ran_for g moments lulls was me new s m t b turned.End number last c f h = rose_from s.counts.ends m.counts.ends t.counts.ends f.ends h
+ran_for g moments lulls was me new s m t b turned.LinkFault number last c f h = rose_from s.counts.faults m.counts.faults t.counts.faults f.faults h
+ran_for g moments lulls was me new s m t b (turned.Dead n) number last c f h = was_wider (Ticks moments) (Ticks moments) g was me new new (answer.Dead n) (λ v k. k) number c (continues_same new) h
+ran_for g moments lulls was me new s m t b turned.TapeFull number last c f h = h
+ran_for g moments lulls was me new s m t b turned.OutOfMemory number last c f h = tt
 
 -- one turn more
 pub lulled_more : (g : Settings) (moments : Option (List ℕ)) (me : Knowledge) (new : List Entry) (s m t : Shown) (b : Between) (r : Turned) (met more : ℕ) → NoneFell m.counts t.counts → HasLulled s.counts.lulls met m.counts.lulls → TurnedFor g moments me new m t b r → more ≤ met + lulls_in r → HasLulled s.counts.lulls more t.counts.lulls

@@ -1,8 +1,11 @@
 -- What stood in front has come.
-use Rattle.std.proofs.Common.{◌≡◌, ◌∙◌, ℕ, true, false, true≢false, List, [], ◌∷◌, ◌++◌, sym, ap, subst, append-nil}
+use Rattle.std.proofs.Common.{◌≡◌, ◌∙◌, ℕ, true, false, true≢false, List, [], ◌∷◌, ◌++◌, refl, sym, ap, subst, append-nil}
 use Rattle.rs_frame.specs.declared.frame.Frame.{Frame}
 use Rattle.rs_frame.specs.Spelling.{Spells}
 use Rattle.rs_chunk.specs.Stream.{IsCut, IsWhole, after_frame, first_frame}
+use Rattle.outside.specs.Links.{Counts, counts_after_take}
+use Rattle.outside.specs.declared.link.Taken.{Taken}
+use Rattle.outside.specs.declared.link.Taken.TheVariants as takes
 use Rattle.tape.specs.Told.{entry_of}
 use Rattle.tape.specs.declared.event.Event.{Event}
 use Rattle.tape.specs.declared.event.Event.TheVariants as event
@@ -64,3 +67,10 @@ part_all i none h = subst (λ t. IsPart t i.max_in) (sym (whole_rest i none)) h
 
 pub front_all : (c : ℕ) (i : Comes) (e : Event) → i.waits ≡ [] → IsInFront c i.bytes i.max_in e → IsInFront c (all_of i) i.max_in e
 front_all c i e none h = subst (λ t. IsInFront c t i.max_in e) (sym (whole_rest i none)) h
+
+-- a take changes no count of stalls
+pub stalls_still : (r : Taken) (c : Counts) → (counts_after_take r c).stalls ≡ c.stalls
+stalls_still (takes.Took n) c = refl
+stalls_still takes.Lull c = refl
+stalls_still takes.End c = refl
+stalls_still takes.Failed c = refl

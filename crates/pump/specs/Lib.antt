@@ -1,2 +1,4 @@
 pub mod Moves
 pub mod Turns
+pub mod Runs
+pub mod Halves

@@ -28,7 +28,7 @@ pub record GivesFirst (old new : Option (List ℕ)) (before after : List ℕ) : 
 -- what giving did to the link, and why it gave no more
 abbrev pub HasGave : Shown → Shown → Gave → Type 0
 HasGave old new gaves.Nothing = new ≡ old
-HasGave old new (gaves.Count n) = (0 < n) × IsGrown n old.given new.given
+HasGave old new (gaves.Count n) = (0 < n) × (n ≤ PIECE) × IsGrown n old.given new.given
 HasGave old new gaves.Stalled = (new.given ≡ old.given) × Rose old.counts.stalls new.counts.stalls
 HasGave old new gaves.Failed = (new.given ≡ old.given) × Rose old.counts.faults new.counts.faults
 
@@ -71,7 +71,7 @@ IsCaused old new takes.Failed = Rose old.counts.faults new.counts.faults
 -- what taking did to the link, and why it took no more
 abbrev pub HasTook : Shown → Shown → Took → Type 0
 HasTook old new tooks.Nothing = new ≡ old
-HasTook old new (tooks.Count n) = (0 < n) × IsGrown n old.taken new.taken
+HasTook old new (tooks.Count n) = (0 < n) × (n ≤ PIECE) × IsGrown n old.taken new.taken
 HasTook old new tooks.Lull = (new.taken ≡ old.taken) × Rose old.counts.lulls new.counts.lulls
 HasTook old new tooks.End = (new.taken ≡ old.taken) × Rose old.counts.ends new.counts.ends
 HasTook old new tooks.Failed = (new.taken ≡ old.taken) × Rose old.counts.faults new.counts.faults

@@ -1,6 +1,7 @@
 -- What a turn of a pump adds to what its caller has seen, what it keeps, and what its result says. Entries stand newest first.
-use Rattle.std.specs.Prelude.{◌≡◌, ◌<◌, ◌≤◌, ◌^◌, ◌+◌, ◌-◌, ◌⊎◌, ◌&&◌, ℕ, Bool, true, false, List, [], ◌∷◌, ◌++◌, length, not, Option, Some, None, is_some}
+use Rattle.std.specs.Prelude.{◌≡◌, ◌<◌, ◌≤◌, ◌^◌, ◌+◌, ◌-◌, ◌⊎◌, ◌&&◌, ◌==◌, ℕ, Bool, true, false, List, [], ◌∷◌, ◌++◌, drop, length, not, Option, Some, None, is_some}
 use Rattle.std.specs.List.{AllByRecursion}
+use Rattle.rs_wire.specs.declared.fault.Cause.{Cause}
 use Rattle.rs_wire.specs.declared.settings.Settings.{Settings}
 use Rattle.outside.specs.Causes.{IsMoment, Rose}
 use Rattle.outside.specs.Links.{Shown}
@@ -11,13 +12,13 @@ use Rattle.tape.specs.declared.answer.Answer.TheVariants as answer
 use Rattle.tape.specs.declared.entry.Entry.{Entry}
 use Rattle.session_model.specs.Answers.{answer_to}
 use Rattle.session_model.specs.Frames.{queued}
-use Rattle.session_model.specs.Life.{closed}
+use Rattle.session_model.specs.Life.{closed, live}
 use Rattle.conn_lock.specs.Callers.{times}
 use Rattle.conn_shared.specs.declared.looked.Looked.{Looked}
-use Rattle.conn_shared.specs.Calls.{IsCalled}
+use Rattle.conn_shared.specs.Calls.{IsCalled, IsDrawCall}
 use Rattle.conn_shared.specs.Members.{Continues, Follows, Knowledge}
 use Rattle.link_model.specs.Carrying.{Between, IsAlone, Keeps, is_of}
-use Rattle.link_model.specs.Giving.{next_drawn}
+use Rattle.link_model.specs.Giving.{count_drawn, next_drawn}
 use Rattle.link_model.specs.Reading.{IsInFront, IsPart, IsWaiting}
 use Rattle.pump.specs.declared.inner.Inner.{Inner}
 use Rattle.pump.specs.declared.bringing.Brought.{Brought}
@@ -87,14 +88,17 @@ is_bad _ = false
 abbrev pub IsPumped : Option (List ℕ) → ℕ → Event → Type 0
 IsPumped moments c e = Ticks moments e ⊎ Names c e
 
--- an event was so answered after the front was `old`
-pub record WasAnswered (P : Event → Type 0) (g : Settings) (old new : List Entry) (a : Answer) : Type 0 where
-  pub event : Event
+-- Such an event of this caller was so answered since its front was `me.front`: its entry stands in the front `new`.
+pub record WasNoted (P : Event → Type 0) (g : Settings) (me : Knowledge) (new : List Entry) (a : Answer) : Type 0 where
+  pub entry : Entry
   pub before : List Entry
-  pub is : P event
-  pub since : Continues old before
-  pub until : Continues before new
-  pub answered : a ≡ answer_to g before event
+  pub is : P entry.event
+  pub answered : entry.answer ≡ a
+  pub own : entry.who ≡ me.number
+  -- it is the right answer after the entries before it
+  pub right : a ≡ answer_to g before entry.event
+  pub since : Continues me.front before
+  pub until : Continues (entry ∷ before) new
 
 -- something came on connection c: an entry of this caller says so
 pub record HasArrived (c : ℕ) (me : Knowledge) (new : List Entry) : Type 0 where
@@ -154,12 +158,12 @@ pub record IsBusy (g : Settings) (past : List Entry) (b : Between) (q : ℕ) : T
   pub front : IsInFront b.conn b.rest b.max_in event
   pub answered : answer.OutBusy q ≡ answer_to g past event
 
--- why bringing such events came to this
-abbrev pub BroughtFor : (Event → Type 0) → Settings → List Entry → List Entry → Brought → Type 0
-BroughtFor P g old new (brings.Displaced n) = WasAnswered P g old new (answer.Stale n)
-BroughtFor P g old new (brings.Dead last) = WasAnswered P g old new (answer.Dead last)
-BroughtFor P g old new brings.TapeFull = 2 ^ 63 ≤ length new
-BroughtFor P g old new _ = Unit {0}
+-- why bringing such events of this caller came to this
+abbrev pub BroughtFor : (Event → Type 0) → Settings → Knowledge → List Entry → Brought → Type 0
+BroughtFor P g me new (brings.Displaced n) = WasNoted P g me new (answer.Stale n)
+BroughtFor P g me new (brings.Dead last) = WasNoted P g me new (answer.Dead last)
+BroughtFor P g me new brings.TapeFull = 2 ^ 63 ≤ length new
+BroughtFor P g me new _ = Unit {0}
 
 -- where it came to Busy, what stands in front is the reason
 abbrev pub IfBusy : Settings → List Entry → Between → Brought → Type 0
@@ -170,7 +174,12 @@ IfBusy g past b _ = Unit {0}
 abbrev pub IsEmptied : Between → Type 0
 IsEmptied b = (b.bad ≡ true) ⊎ IsPart b.rest b.max_in
 
--- where all that stood in front was brought
+-- all that stood in front was brought
+abbrev pub is_done : Brought → Bool
+is_done brings.Nothing = true
+is_done brings.Noted = true
+is_done _ = false
+
 abbrev pub IfDone : Brought → Type 0 → Type 0
 IfDone brings.Nothing P = P
 IfDone brings.Noted P = P
@@ -190,19 +199,45 @@ is_empty (b ∷ bytes) = false
 abbrev pub goes_on_after : Answer → Bool
 goes_on_after a = not (is_ended (brought_by a))
 
--- a draw of a piece, and the bytes that are left after it to be given
-pub record HasDrawn (g : Settings) (me : Knowledge) (c : ℕ) (a : Answer) (left : List ℕ) (new : List Entry) : Type 0 where
-  pub called : IsCalled g me (event.Draw c PIECE) a new
+-- a draw of at most this many bytes, and the bytes that are left after it to be given
+pub record HasDrawn (g : Settings) (me : Knowledge) (c room : ℕ) (a : Answer) (left : List ℕ) (new : List Entry) : Type 0 where
+  pub called : IsCalled g me (event.Draw c room) a new
   pub bytes : left ≡ next_drawn g called.before c a
+  pub count : length left ≡ count_drawn a
+  pub within : length left ≤ room
+
+-- a draw into the first bytes of a buffer, this many
+pub record HasDrawnInto (g : Settings) (me : Knowledge) (c room : ℕ) (a : Answer) (old new : List ℕ) (front : List Entry) : Type 0 where
+  pub piece : List ℕ
+  pub all : new ≡ piece ++ drop room old
+  pub few : length piece ≡ room
+  pub call : IsDrawCall g me c room a piece front
 
 -- a draw whose answer came to this
-abbrev pub HasDrawnSo : Settings → Knowledge → ℕ → Brought → List ℕ → List Entry → Type 0
-HasDrawnSo g me c b left new = (a : Answer) × (b ≡ brought_by a) × HasDrawn g me c a left new
+abbrev pub HasDrawnSo : Settings → Knowledge → ℕ → ℕ → Brought → List ℕ → List Entry → Type 0
+HasDrawnSo g me c room b left new = (a : Answer) × (b ≡ brought_by a) × HasDrawn g me c room a left new
 
--- a draw, where one is due; else all is as it was
-abbrev pub DrawsWhere : Bool → Settings → Knowledge → ℕ → List ℕ → List ℕ → List Entry → Type 0
-DrawsWhere true g me c old left new = (a : Answer) × HasDrawn g me c a left new
-DrawsWhere false g me c old left new = (left ≡ old) × (new ≡ me.front)
+-- a draw with this answer, where one is due; else all is as it was
+abbrev pub DrawsWhere : Bool → Settings → Knowledge → ℕ → ℕ → Option Answer → List ℕ → List ℕ → List Entry → Type 0
+DrawsWhere true g me c room (Some a) old left new = HasDrawn g me c room a left new
+DrawsWhere false g me c room None old left new = (left ≡ old) × (new ≡ me.front)
+DrawsWhere _ g me c room _ old left new = ⊥
+
+-- what it comes to
+abbrev pub drawn_by : Option Answer → Brought
+drawn_by None = brings.Nothing
+drawn_by (Some a) = brought_by a
+
+-- one draw of at most this many bytes, where it is due, came to this
+pub record DrawsSo (due : Bool) (g : Settings) (me : Knowledge) (c room : ℕ) (old left : List ℕ) (new : List Entry) (b : Brought) : Type 0 where
+  pub drew : Option Answer
+  pub draw : DrawsWhere due g me c room drew old left new
+  pub came_to : b ≡ drawn_by drew
+
+-- the answers to the tick, and to the draw where one was due, let the turn go on
+abbrev pub goes_on_from : Answer → Option Answer → Bool
+goes_on_from ticked None = goes_on_after ticked
+goes_on_from ticked (Some drew) = goes_on_after ticked && goes_on_after drew
 
 -- How a turn begins: a tick with a moment of the clock, and then, where that lets it go on and no drawn byte is left, a draw.
 pub record Begins (g : Settings) (moments : Option (List ℕ)) (me : Knowledge) (c : ℕ) (old left : List ℕ) (new : List Entry) : Type 0 where
@@ -211,13 +246,20 @@ pub record Begins (g : Settings) (moments : Option (List ℕ)) (me : Knowledge) 
   pub answer : Answer
   pub ticked : List Entry
   pub tick : IsCalled g me (event.Tick now) answer ticked
-  pub draw : DrawsWhere (goes_on_after answer && is_empty old) g (record me { front = ticked; note = None }) c old left new
+  pub drew : Option Answer
+  pub draw : DrawsWhere (goes_on_after answer && is_empty old) g (record me { front = ticked; note = None }) c PIECE drew old left new
 
--- A whole turn: it begins so, and then adds what came, and no more ticks or draws.
+-- it began so, and came to this
+pub record BeginsSo (g : Settings) (moments : Option (List ℕ)) (me : Knowledge) (c : ℕ) (old left : List ℕ) (new : List Entry) (b : Brought) : Type 0 where
+  pub begins : Begins g moments me c old left new
+  pub came_to : goes_on_from begins.answer begins.drew ≡ not (is_ended b)
+
+-- A whole turn: it begins so, and then adds what came, and no more ticks or draws; nothing comes where the tick or the draw ends it.
 pub record IsTurn (g : Settings) (moments : Option (List ℕ)) (me : Knowledge) (c : ℕ) (old left : List ℕ) (new : List Entry) : Type 0 where
   pub begun : List Entry
   pub begins : Begins g moments me c old left begun
   pub arrivals : GoesOn (Arrives c) (record me { front = begun; note = None }) new
+  pub ended : goes_on_from begins.answer begins.drew ≡ false → new ≡ begun
 
 -- ---- what a turn came to
 
@@ -276,8 +318,13 @@ BreaksFor gave took (Some turned.LinkFault) = (took ≡ tooks.Failed) ⊎ (gave 
 BreaksFor gave took (Some turned.OutOfMemory) = took ≡ tooks.OutOfMemory
 BreaksFor gave took (Some _) = ⊥
 
+-- the session is closed, nothing is queued, and no drawn byte is left
+abbrev pub is_over : Option Cause → ℕ → ℕ → Bool
+is_over None queued left = false
+is_over (Some cause) queued left = (queued == 0) && (left == 0)
+
 abbrev pub OverFor : Looked → ℕ → Option Turned → Type 0
-OverFor looked left None = Unit {0}
+OverFor looked left None = is_over looked.cause looked.queued left ≡ false
 OverFor looked left (Some (turned.Over cause)) = (looked.cause ≡ Some cause) × (looked.queued ≡ 0) × (left ≡ 0)
 OverFor looked left (Some _) = ⊥
 
@@ -292,19 +339,34 @@ pub record WasBusy (g : Settings) (me : Knowledge) (b : Between) (new : List Ent
 abbrev pub TurnedFor : Settings → Option (List ℕ) → Knowledge → List Entry → Shown → Shown → Between → Turned → Type 0
 TurnedFor g moments me new s t b (turned.Moved given taken) =
     IsGrown given s.given t.given × IsGrown taken s.taken t.taken × ((0 < given) ⊎ (0 < taken) ⊎ HasArrived b.conn me new)
+    × (given ≤ PIECE) × (taken ≤ PIECE)
 TurnedFor g moments me new s t b (turned.Busy q) = WasBusy g me b new q
 TurnedFor g moments me new s t b (turned.Over cause) = (closed g new ≡ Some cause) × (queued g new ≡ 0) × (b.left ≡ [])
-TurnedFor g moments me new s t b (turned.Displaced n) = WasAnswered (Names b.conn) g me.front new (answer.Stale n)
+TurnedFor g moments me new s t b (turned.Displaced n) = WasNoted (Names b.conn) g me new (answer.Stale n)
 TurnedFor g moments me new s t b turned.Lull = Rose s.counts.lulls t.counts.lulls × (t.given ≡ s.given) × (t.taken ≡ s.taken)
 TurnedFor g moments me new s t b turned.End = Rose s.counts.ends t.counts.ends
 TurnedFor g moments me new s t b turned.LinkFault = Rose s.counts.faults t.counts.faults
-TurnedFor g moments me new s t b (turned.Dead last) = WasAnswered (Ticks moments) g me.front new (answer.Dead last)
+TurnedFor g moments me new s t b (turned.Dead last) = WasNoted (Ticks moments) g me new (answer.Dead last)
 TurnedFor g moments me new s t b turned.TapeFull = 2 ^ 63 ≤ length new
 TurnedFor g moments me new s t b turned.OutOfMemory = Unit {0}
 
 -- all that stands in front was brought, or it found no room
 abbrev pub IsReadOut : Settings → Knowledge → Between → List Entry → Type 0
 IsReadOut g me b new = IsEmptied b ⊎ ((q : ℕ) × WasBusy g me b new q)
+
+-- What a result that lets the pump go on rules out: that the session is over, and, but of Busy, that something stands in front that can come.
+abbrev pub RulesOut : Settings → List Entry → Between → Turned → Type 0
+RulesOut g new b (turned.Moved given taken) = (is_over (closed g new) (queued g new) (length b.left) ≡ false) × IsEmptied b
+RulesOut g new b (turned.Busy q) = is_over (closed g new) (queued g new) (length b.left) ≡ false
+RulesOut g new b turned.Lull = (is_over (closed g new) (queued g new) (length b.left) ≡ false) × IsEmptied b
+RulesOut g new b _ = Unit {0}
+
+-- the same, of the parts of a turn
+abbrev pub RulesOutOf : Looked → ℕ → Brought → Turned → Type 0
+RulesOutOf looked left heard (turned.Moved given taken) = (is_over looked.cause looked.queued left ≡ false) × (is_done heard ≡ true)
+RulesOutOf looked left heard (turned.Busy q) = is_over looked.cause looked.queued left ≡ false
+RulesOutOf looked left heard turned.Lull = (is_over looked.cause looked.queued left ≡ false) × (is_done heard ≡ true)
+RulesOutOf looked left heard _ = Unit {0}
 
 -- ---- progress
 
@@ -322,29 +384,24 @@ abbrev pub HasMoved : Shown → Shown → Type 0
 HasMoved s t = is_some s.given ≡ true → is_some s.taken ≡ true
     → (moved s < moved t) ⊎ (t.counts.lulls ≡ 2 ^ 64 - 1) ⊎ (t.counts.stalls ≡ 2 ^ 64 - 1)
 
--- nothing was to be given, and a frame waited
-abbrev pub HadOnlyFrames : Between → List ℕ → Type 0
-HadOnlyFrames b left = HasWaiting b × (left ≡ [])
+-- a frame waited, no drawn byte was left, and a draw found nothing queued
+pub record HadOnlyFrames (g : Settings) (me : Knowledge) (b : Between) (new : List Entry) : Type 0 where
+  pub waiting : HasWaiting b
+  pub empty : b.left ≡ []
+  pub draw : IsCalled g me (event.Draw b.conn PIECE) answer.NotYet new
 
--- A whole turn of a pump between the two, with the bytes left after its draw; where the pump goes on, something has moved, unless nothing but a frame was there.
+-- A whole turn of a pump between the two, with the bytes left after its draw.
 pub record IsTurned (g : Settings) (moments : Option (List ℕ)) (me : Knowledge) (new : List Entry) (s t : Shown) (b : Between) (r : Turned) : Type 0 where
   pub left : List ℕ
   pub turn : IsTurn g moments me b.conn b.left left new
-  pub progress : is_last r ≡ false → HasMoved s t ⊎ HadOnlyFrames b left
-
--- ---- runs
-
-abbrev pub lulls_in : Turned → ℕ
-lulls_in turned.Lull = 1
-lulls_in _ = 0
-
--- the count of lulls rose by so many, or stands where a u64 ends
-abbrev pub HasLulled : ℕ → ℕ → ℕ → Type 0
-HasLulled old n new = (old + n ≤ new) ⊎ (2 ^ 64 - 1 ≤ new)
-
--- why turns came to an end so, where this many lulls end them
-abbrev pub RanFor : Settings → Option (List ℕ) → ℕ → Knowledge → List Entry → Shown → Shown → Between → Turned → Type 0
-RanFor g moments lulls me new s t b turned.Lull = HasLulled s.counts.lulls lulls t.counts.lulls
-RanFor g moments lulls me new s t b (turned.Moved given taken) = ⊥
-RanFor g moments lulls me new s t b (turned.Busy q) = ⊥
-RanFor g moments lulls me new s t b r = TurnedFor g moments me new s t b r
+  -- where the pump goes on something has moved, unless nothing but a frame was there
+  pub progress : is_last r ≡ false → HasMoved s t ⊎ HadOnlyFrames g (record me { front = turn.begins.ticked; note = None }) b turn.begun
+  -- where a frame waited nothing is taken
+  pub waited : HasWaiting b → t.taken ≡ s.taken
+  -- where the turn came to what stands in front, its tick and its draw let it go on ..
+  pub ticked : is_early r ≡ false → goes_on_after turn.begins.answer ≡ true
+  pub drawn : is_early r ≡ false → goes_on_from turn.begins.answer turn.begins.drew ≡ true
+  -- .. and where no byte was left after the draw, the connection was live and nothing was queued
+  pub dry : is_early r ≡ false → left ≡ [] → (live turn.begun ≡ b.conn) × (queued g turn.begun ≡ 0)
+  -- after a lull nothing came, and no byte was left to be given or the link stalled
+  pub still : r ≡ turned.Lull → Follows me.names turn.begun new × ((left ≡ []) ⊎ Rose s.counts.stalls t.counts.stalls)

@@ -12,7 +12,7 @@ use tape::{Answer, Event, Tape};
 
 /// What bringing an event to the session, or several, came to.
 #[derive(Clone, Copy, Debug, PartialEq, Eq)]
-pub(crate) enum Brought {
+pub enum Brought {
     /// Nothing waits.
     Nothing,
     /// An entry was left.

@@ -48,9 +48,12 @@ impl Inner {
         ensures took { HasTook (L.shown link.old) (L.shown link.new) result }
         ensures nothing { result ≡ Took.Nothing →
             (gave ≡ Gave.Failed) ⊎ HasWaiting (has self.old) }
-        ensures still { result ≡ Took.Nothing → self.new ≡ self.old }
+        ensures waited { HasWaiting (has self.old) →
+            (L.shown link.new).taken ≡ (L.shown link.old).taken }
+        ensures still { result ≡ Took.Nothing → has self.new ≡ has self.old }
         ensures failed { gave ≡ Gave.Failed → result ≡ Took.Nothing }
         ensures given { (L.shown link.new).given ≡ (L.shown link.old).given }
+        ensures stalls { (L.shown link.new).counts.stalls ≡ (L.shown link.old).counts.stalls }
         ensures counted { NoneFell (L.shown link.old).counts (L.shown link.new).counts }
         ensures rest { self.new ≡ record self.old { incoming = self.new.incoming } }
         ensures max_in { self.new.incoming.max_in ≡ self.old.incoming.max_in }
@@ -60,6 +63,9 @@ impl Inner {
         }
         if self.bad {
             return took_by(self.incoming.skip(link));
+        }
+        if self.incoming.feed().is_err() {
+            return Took::OutOfMemory;
         }
         if self.incoming.has_next() {
             return Took::Nothing;

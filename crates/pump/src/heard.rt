@@ -1,16 +1,15 @@
 //! What came, on its way from a pump to the session.
 
-ghost use Rattle.std.specs.Prelude.{◌≡◌, ◌≢◌, [], false, None};
+ghost use Rattle.std.specs.Prelude.{◌≡◌, ◌≢◌, [], false};
 ghost use Rattle.outside.specs.Links.{Shown};
 ghost use Rattle.rs_chunk.specs.Stream.{IsWhole};
 ghost use Rattle.tape.specs.declared.event.Event.{Event as Happening};
 ghost use Rattle.link_model.specs.Reading.{IsInFront};
-ghost use Rattle.pump.specs.Turns.{Arrives, Begins, BroughtFor, DrawsWhere, GoesOn, HasArrived, HasWaiting, IfBusy, IfDone, IsEmptied, IsKept, IsPumped, Names, Steps, has, is_bad, is_empty};
+ghost use Rattle.pump.specs.Turns.{Arrives, BroughtFor, GoesOn, HasArrived, HasWaiting, IfBusy, IfDone, IsEmptied, IsKept, Names, Steps, has, is_bad};
 
-use crate::bringing::{Brought, after_some, bring_event, is_bad, is_ended, leaves, tick};
+use crate::bringing::{Brought, after_some, bring_event, is_bad, leaves};
 use crate::inner::Inner;
 use conn::{Caller, Connection};
-use outside::Clock;
 use std::sync::Wait;
 use tape::{Event, Tape};
 
@@ -57,7 +56,7 @@ impl Inner {
             → IsKept caller.new s (has self.new) }
         ensures goes { GoesOn (Arrives self.old.conn) caller.old caller.new.front }
         ensures cause { BroughtFor (Names self.old.conn) connection.now.settings
-            caller.old.front caller.new.front result }
+            caller.old caller.new.front result }
         ensures busy { IfBusy connection.now.settings caller.new.front (has self.new) result }
         ensures arrived { result ≡ Brought.Noted →
             HasArrived self.old.conn caller.old caller.new.front }
@@ -92,12 +91,13 @@ impl Inner {
             → IsKept caller.new s (has self.new) }
         ensures goes { GoesOn (Arrives self.old.conn) caller.old caller.new.front }
         ensures cause { BroughtFor (Names self.old.conn) connection.now.settings
-            caller.old.front caller.new.front result }
+            caller.old caller.new.front result }
         ensures busy { IfBusy connection.now.settings caller.new.front (has self.new) result }
         ensures arrived { result ≡ Brought.Noted →
             HasArrived self.old.conn caller.old caller.new.front }
         ensures emptied { result ≡ Brought.Nothing → IsEmptied (has self.new) }
         ensures some { HasWaiting (has self.old) → result ≢ Brought.Nothing }
+        ensures quiet { result ≡ Brought.Nothing → caller.new.front ≡ caller.old.front }
         ensures conn { self.new.conn ≡ self.old.conn }
         ensures max_in { self.new.incoming.max_in ≡ self.old.incoming.max_in }
         ensures left { self.new.outgoing ≡ self.old.outgoing }
@@ -132,12 +132,13 @@ impl Inner {
             → IsKept caller.new s (has self.new) }
         ensures goes { GoesOn (Arrives self.old.conn) caller.old caller.new.front }
         ensures cause { BroughtFor (Names self.old.conn) connection.now.settings
-            caller.old.front caller.new.front result }
+            caller.old caller.new.front result }
         ensures busy { IfBusy connection.now.settings caller.new.front (has self.new) result }
         ensures arrived { result ≡ Brought.Noted →
             HasArrived self.old.conn caller.old caller.new.front }
         ensures emptied { IfDone result (IsEmptied (has self.new)) }
         ensures some { HasWaiting (has self.old) → result ≢ Brought.Nothing }
+        ensures quiet { result ≡ Brought.Nothing → caller.new.front ≡ caller.old.front }
         ensures conn { self.new.conn ≡ self.old.conn }
         ensures max_in { self.new.incoming.max_in ≡ self.old.incoming.max_in }
         ensures left { self.new.outgoing ≡ self.old.outgoing }
@@ -151,59 +152,5 @@ impl Inner {
             noted = true;
         }
         unreachable!()
-    }
-
-    // Draws, where no drawn byte is left.
-    fn draw_some<T: Tape, R: Wait>(
-        &mut self,
-        rt: &R,
-        connection: &Connection<T>,
-        caller: &mut Caller<T>,
-    ) -> Brought
-        requires of { caller.old.of ≡ connection.now }
-        ensures same { caller.new ≡ record caller.old {
-          front = caller.new.front;
-          note = caller.new.note;
-        } }
-        ensures kept { (s : Shown) → IsKept caller.old s (has self.old)
-            → IsKept caller.new s (has self.new) }
-        ensures draw { DrawsWhere (is_empty self.old.outgoing) connection.now.settings caller.old
-            self.old.conn self.old.outgoing self.new.outgoing caller.new.front }
-        ensures cause { BroughtFor (Names self.old.conn) connection.now.settings
-            caller.old.front caller.new.front result }
-        ensures rest { self.new ≡ record self.old { outgoing = self.new.outgoing } }
-    {
-        if self.outgoing.len() != 0 {
-            return Brought::Nothing;
-        }
-        self.outgoing.draw(rt, connection, caller, self.conn)
-    }
-
-    /// Ticks, and then draws where no drawn byte is left.
-    pub(crate) fn begin<T: Tape, K: Clock, R: Wait>(
-        &mut self,
-        rt: &R,
-        connection: &Connection<T>,
-        caller: &mut Caller<T>,
-        clock: &K,
-    ) -> Brought
-        requires of { caller.old.of ≡ connection.now }
-        ensures same { caller.new ≡ record caller.old {
-          front = caller.new.front;
-          note = caller.new.note;
-        } }
-        ensures kept { (s : Shown) → IsKept caller.old s (has self.old)
-            → IsKept caller.new s (has self.new) }
-        ensures begins { Begins connection.now.settings (K.moments clock.now) caller.old
-            self.old.conn self.old.outgoing self.new.outgoing caller.new.front }
-        ensures cause { BroughtFor (IsPumped (K.moments clock.now) self.old.conn)
-            connection.now.settings caller.old.front caller.new.front result }
-        ensures rest { self.new ≡ record self.old { outgoing = self.new.outgoing } }
-    {
-        let ticked = tick(rt, connection, caller, clock);
-        if is_ended(ticked) {
-            return ticked;
-        }
-        self.draw_some(rt, connection, caller)
     }
 }

@@ -1,6 +1,6 @@
 //! Bytes that a link gave, on their way to the session.
 
-ghost use Rattle.std.specs.Prelude.{◌≡◌, ◌<◌, ◌≤◌, ◌^◌, ◌++◌, ◌∷◌, ℕ, List, [], false, true, IfOk, OnOk};
+ghost use Rattle.std.specs.Prelude.{◌≡◌, ◌<◌, ◌≤◌, ◌^◌, ◌++◌, ◌∷◌, ℕ, List, [], false, true, IfOk, OnErr, OnOk};
 ghost use Rattle.rs_chunk.specs.Stream.{IsCut, IsWhole, after_frame, first_frame};
 ghost use Rattle.outside.specs.Links.{NoneFell};
 ghost use Rattle.link_model.specs.Reading.{IsPart, IsWaiting};
@@ -90,18 +90,29 @@ impl Incoming {
         Ok(())
     }
 
-    /// Takes what comes from the link.
+    /// Hands over bytes that were taken elsewhere. Where there is no memory for them, they are not.
+    pub(crate) fn append(&mut self, piece: &[u8]) -> Result<(), OutOfMemory>
+        ensures ok { OnOk result (all_of self.new ≡ all_of self.old ++ piece.now) }
+        ensures err { OnErr result (all_of self.new ≡ all_of self.old) }
+        ensures max_in { self.new.max_in ≡ self.old.max_in }
+    {
+        self.feed()?;
+        self.reader.feed(piece)
+    }
+
+    /// Takes what comes from the link. The reader has all that was taken before.
     pub(crate) fn take<L: Link>(&mut self, link: &mut L) -> Result<Taken, OutOfMemory>
+        requires fed { self.old.waits ≡ [] }
         ensures taken { TakesMore (L.shown link.old).taken (L.shown link.new).taken
             (all_of self.old) (all_of self.new) }
         ensures count { IfOk result
             (IsCounted (L.shown link.old).taken (L.shown link.new).taken) }
         ensures cause { IfOk result (IsCaused (L.shown link.old) (L.shown link.new)) }
         ensures given { (L.shown link.new).given ≡ (L.shown link.old).given }
+        ensures stalls { (L.shown link.new).counts.stalls ≡ (L.shown link.old).counts.stalls }
         ensures counted { NoneFell (L.shown link.old).counts (L.shown link.new).counts }
         ensures max_in { self.new.max_in ≡ self.old.max_in }
     {
-        self.feed()?;
         let taken = link.take(&mut self.bytes);
         if let Taken::Took(n) = taken {
             self.waits = n;
@@ -116,6 +127,7 @@ impl Incoming {
         ensures count { IsCounted (L.shown link.old).taken (L.shown link.new).taken result }
         ensures cause { IsCaused (L.shown link.old) (L.shown link.new) result }
         ensures given { (L.shown link.new).given ≡ (L.shown link.old).given }
+        ensures stalls { (L.shown link.new).counts.stalls ≡ (L.shown link.old).counts.stalls }
         ensures counted { NoneFell (L.shown link.old).counts (L.shown link.new).counts }
         ensures max_in { self.new.max_in ≡ self.old.max_in }
     {

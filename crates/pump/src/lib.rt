@@ -11,6 +11,7 @@
 //! openings, which are the callers'.
 #![tactic(auto)]
 
+mod begin;
 mod bringing;
 mod exchange;
 mod heard;
@@ -24,6 +25,7 @@ mod run;
 mod turn;
 mod turned;
 
+pub use bringing::Brought;
 pub use laws::pump_laws;
 pub use numbers::PIECE;
 pub use pump::Pump;

@@ -1,9 +1,10 @@
 //! Bytes that were drawn and are on their way to a link.
 
-ghost use Rattle.std.specs.Prelude.{◌≡◌, [], IfOk, None, length};
+ghost use Rattle.std.specs.Prelude.{◌≡◌, ◌<◌, ◌≤◌, [], IfOk, None, length};
 ghost use Rattle.outside.specs.Links.{NoneFell};
 ghost use Rattle.pump.specs.Moves.{GivesFirst, HasGave};
-ghost use Rattle.pump.specs.Turns.{HasDrawnSo};
+ghost use Rattle.pump.specs.Turns.{HasDrawnInto, HasDrawnSo};
+ghost use Rattle.pump.specs.declared.numbers.TheConstants as pieces;
 ghost use Rattle.link_model.specs.Giving.{count_drawn};
 
 use crate::bringing::{Brought, brought_by};
@@ -60,6 +61,26 @@ fn count_drawn(answer: &Answer) -> u32
     }
 }
 
+// Draws into the first `room` bytes of the buffer.
+fn draw_first<T: Tape, R: Wait>(
+    rt: &R,
+    connection: &Connection<T>,
+    caller: &mut Caller<T>,
+    conn: u64,
+    buffer: &mut [u8],
+    room: usize,
+) -> Answer
+    requires of { caller.old.of ≡ connection.now }
+    requires some { 0 < room }
+    requires few { room ≤ pieces.PIECE }
+    requires within { room ≤ length buffer.old }
+    ensures same { caller.new ≡ record caller.old { front = caller.new.front; note = None } }
+    ensures drawn { HasDrawnInto connection.now.settings caller.old conn room result buffer.old
+        buffer.new caller.new.front }
+{
+    connection.draw(rt, caller, conn, &mut buffer[..room])
+}
+
 impl Outgoing {
     pub(crate) fn new(alloc: Global) -> Result<Outgoing, OutOfMemory>
         ensures { IfOk result (λ o. o ≡ []) }
@@ -73,25 +94,43 @@ impl Outgoing {
     }
 
     pub(crate) fn len(&self) -> usize
-        ensures { result ≡ length self.now }
+        ensures count { result ≡ length self.now }
+        ensures few { result ≤ pieces.PIECE }
     {
         self.to - self.from
     }
 
-    /// Draws the next bytes, where none is left.
+    /// The bytes.
+    pub(crate) fn bytes(&self) -> &[u8]
+        ensures { result.now ≡ self.now }
+    {
+        &self.bytes[self.from..self.to]
+    }
+
+    /// Drops the bytes, which were given.
+    pub(crate) fn clear(&mut self)
+        ensures { self.new ≡ [] }
+    {
+        self.from = self.to;
+    }
+
+    /// Draws the next bytes, at most `room`, where none is left.
     pub(crate) fn draw<T: Tape, R: Wait>(
         &mut self,
         rt: &R,
         connection: &Connection<T>,
         caller: &mut Caller<T>,
         conn: u64,
+        room: usize,
     ) -> Brought
         requires of { caller.old.of ≡ connection.now }
+        requires some { 0 < room }
+        requires few { room ≤ pieces.PIECE }
         ensures same { caller.new ≡ record caller.old { front = caller.new.front; note = None } }
-        ensures drew { HasDrawnSo connection.now.settings caller.old conn result self.new
+        ensures drew { HasDrawnSo connection.now.settings caller.old conn room result self.new
             caller.new.front }
     {
-        let answer = connection.draw(rt, caller, conn, &mut self.bytes);
+        let answer = draw_first(rt, connection, caller, conn, &mut self.bytes, room);
         self.from = 0;
         self.to = count_drawn(&answer) as usize;
         brought_by(&answer)

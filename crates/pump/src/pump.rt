@@ -1,10 +1,16 @@
 //! A pump, as its callers see it.
 
-ghost use Rattle.std.specs.Prelude.{◌≡◌, ◌<◌, ◌^◌, [], List, None, false, IfOk, length};
-ghost use Rattle.outside.specs.Links.{NoneFell};
-ghost use Rattle.pump.specs.Turns.{GoesOn, IsKept, IsPumped, IsReadOut, IsTurned, RanFor, TurnedFor, has, is_early};
+ghost use Rattle.std.specs.Prelude.{◌≡◌, ◌<◌, ◌≤◌, ◌^◌, ◌&&◌, [], List, None, false, min, nat_lt, IfOk, OnErr, OnOk, length};
+ghost use Rattle.outside.specs.Links.{NoneFell, Shown};
+ghost use Rattle.conn_shared.specs.Members.{Knowledge};
+ghost use Rattle.pump.specs.Halves.{and_given, and_taken};
+ghost use Rattle.pump.specs.Runs.{IsRun, RanFor, placed};
+ghost use Rattle.pump.specs.Turns.{Arrives, BroughtFor, DrawsSo, GoesOn, IfBusy, IfDone, IsEmptied, IsKept, IsPumped, IsReadOut, IsTurned, Names, RulesOut, TurnedFor, has, is_early, is_empty};
+ghost use Rattle.pump.specs.declared.numbers.TheConstants as pieces;
 
+use crate::bringing::Brought;
 use crate::inner::Inner;
+use crate::numbers::PIECE;
 use crate::turned::Turned;
 use conn::{Caller, Connection};
 use outside::{Clock, Link};
@@ -64,9 +70,101 @@ impl Pump {
 
     /// How many bytes are drawn and not given, at most 16,384.
     pub fn left(&self) -> usize
-        ensures { result ≡ length self.now.left }
+        ensures count { result ≡ length self.now.left }
+        ensures few { result ≤ pieces.PIECE }
     {
         self.inner.outgoing.len()
+    }
+
+    /// The bytes that are drawn and not given, at most 16,384. With [`draw`](Pump::draw) and
+    /// [`gave`](Pump::gave) they are the half of a pump that gives, for whoever carries the bytes
+    /// by other means than a link.
+    pub fn bytes(&self) -> &[u8]
+        ensures { result.now ≡ self.now.left }
+    {
+        self.inner.outgoing.bytes()
+    }
+
+    /// Says that all these bytes were given.
+    pub fn gave(&mut self)
+        ensures kept { (me : Knowledge) (s : Shown) → IsKept me s self.old →
+            IsKept me (and_given s self.old.left) self.new }
+        ensures rest { self.new ≡ record self.old { left = [] } }
+    {
+        self.inner.outgoing.clear();
+    }
+
+    /// Draws at most `most` bytes and at most 16,384, where no drawn byte is left and `most` is
+    /// above 0. It waits for a turn at the connection.
+    pub fn draw<T: Tape, R: Wait>(
+        &mut self,
+        rt: &R,
+        connection: &Connection<T>,
+        caller: &mut Caller<T>,
+        most: usize,
+    ) -> Brought
+        requires of { caller.old.of ≡ connection.now }
+        ensures same { caller.new ≡ record caller.old {
+          front = caller.new.front;
+          note = caller.new.note;
+        } }
+        ensures kept { (s : Shown) → IsKept caller.old s self.old → IsKept caller.new s self.new }
+
+        // One draw, where it is due.
+        ensures drew { DrawsSo (is_empty self.old.left && nat_lt 0 most) connection.now.settings
+            caller.old self.old.conn (min most pieces.PIECE) self.old.left self.new.left
+            caller.new.front result }
+        ensures cause { BroughtFor (Names self.old.conn) connection.now.settings caller.old
+            caller.new.front result }
+        ensures rest { self.new ≡ record self.old { left = self.new.left } }
+    {
+        if most == 0 {
+            return Brought::Nothing;
+        }
+        self.inner
+            .draw_some(rt, connection, caller, most.min(PIECE))
+    }
+
+    /// Hands over bytes that were taken. Once bytes came that are no frame, they are dropped. With
+    /// [`hear`](Pump::hear) it is the half of a pump that takes.
+    pub fn feed(&mut self, piece: &[u8]) -> Result<(), OutOfMemory>
+        ensures kept { OnOk result ((me : Knowledge) (s : Shown) → IsKept me s self.old →
+            IsKept me (and_taken s piece.now) self.new) }
+        ensures same { OnErr result (self.new ≡ self.old) }
+        ensures rest { self.new ≡ record self.old { rest = self.new.rest } }
+    {
+        if self.inner.bad {
+            return Ok(());
+        }
+        self.inner.incoming.append(piece)?;
+        Ok(())
+    }
+
+    /// Brings all whole frames that were handed over, up to what stops it. It waits for turns at
+    /// the connection.
+    pub fn hear<T: Tape, R: Wait>(
+        &mut self,
+        rt: &R,
+        connection: &Connection<T>,
+        caller: &mut Caller<T>,
+    ) -> Brought
+        requires of { caller.old.of ≡ connection.now }
+        requires limit { self.old.max_in ≡ connection.now.settings.max_in }
+        ensures same { caller.new ≡ record caller.old {
+          front = caller.new.front;
+          note = caller.new.note;
+        } }
+        ensures kept { (s : Shown) → IsKept caller.old s self.old → IsKept caller.new s self.new }
+        ensures goes { GoesOn (Arrives self.old.conn) caller.old caller.new.front }
+        ensures cause { BroughtFor (Names self.old.conn) connection.now.settings caller.old
+            caller.new.front result }
+        ensures busy { IfBusy connection.now.settings caller.new.front self.new result }
+        ensures emptied { IfDone result (IsEmptied self.new) }
+        ensures conn { self.new.conn ≡ self.old.conn }
+        ensures max_in { self.new.max_in ≡ self.old.max_in }
+        ensures left { self.new.left ≡ self.old.left }
+    {
+        self.inner.hear_all(rt, connection, caller)
     }
 
     /// One turn. In this order it ticks; draws at most 16,384 bytes where no drawn byte is left;
@@ -97,13 +195,17 @@ impl Pump {
         ensures kept { IsKept caller.old (L.shown link.old) self.old
             → IsKept caller.new (L.shown link.new) self.new }
 
-        // One tick, then one draw where one is due, then what came; and bytes moved or a lull rose.
+        // One tick, then one draw where one is due, then what came; nothing is taken where a frame
+        // waited; and bytes moved or a lull rose.
         ensures turned { IsTurned connection.now.settings (K.moments clock.now) caller.old
             caller.new.front (L.shown link.old) (L.shown link.new) self.old result }
 
         // Each result has its cause.
         ensures cause { TurnedFor connection.now.settings (K.moments clock.now) caller.old
             caller.new.front (L.shown link.old) (L.shown link.new) self.new result }
+
+        // What goes on is not over, and nothing stands in front that can come but after Busy.
+        ensures order { RulesOut connection.now.settings caller.new.front self.new result }
         ensures read { is_early result ≡ false →
             IsReadOut connection.now.settings caller.old self.new caller.new.front }
         ensures counted { NoneFell (L.shown link.old).counts (L.shown link.new).counts }
@@ -113,8 +215,8 @@ impl Pump {
         self.inner.turn(rt, connection, caller, link, clock)
     }
 
-    /// Turns while the pump goes on. It answers the last result, or `Lull` at the first lull with
-    /// which so many were met.
+    /// Turns while the pump goes on. It answers the last result, or `Lull` where that is the lull
+    /// of this number, counted from 1; 0 counts as 1.
     pub fn run<T: Tape, L: Link, K: Clock, R: Wait>(
         &mut self,
         rt: &R,
@@ -134,6 +236,11 @@ impl Pump {
             → IsKept caller.new (L.shown link.new) self.new }
         ensures goes { GoesOn (IsPumped (K.moments clock.now) self.old.conn) caller.old
             caller.new.front }
+
+        // Turns, each of which lets the pump go on, with fewer lulls; and then the last.
+        ensures turns { IsRun connection.now.settings (K.moments clock.now) lulls
+            (placed caller.old (L.shown link.old) self.old)
+            (placed caller.new (L.shown link.new) self.new) result }
         ensures cause { RanFor connection.now.settings (K.moments clock.now) lulls caller.old
             caller.new.front (L.shown link.old) (L.shown link.new) self.new result }
         ensures read { is_early result ≡ false →

@@ -2,7 +2,8 @@
 
 ghost use Rattle.std.specs.Prelude.{◌≡◌, false};
 ghost use Rattle.outside.specs.Links.{NoneFell};
-ghost use Rattle.pump.specs.Turns.{GoesOn, IsKept, IsPumped, IsReadOut, RanFor, has, is_early};
+ghost use Rattle.pump.specs.Turns.{GoesOn, IsKept, IsPumped, IsReadOut, has, is_early};
+ghost use Rattle.pump.specs.Runs.{IsRun, RanFor, placed};
 
 use crate::inner::Inner;
 use crate::turned::{Turned, is_last, lulls_in};
@@ -32,6 +33,9 @@ impl Inner {
             → IsKept caller.new (L.shown link.new) (has self.new) }
         ensures goes { GoesOn (IsPumped (K.moments clock.now) self.old.conn) caller.old
             caller.new.front }
+        ensures turns { IsRun connection.now.settings (K.moments clock.now) lulls
+            (placed caller.old (L.shown link.old) (has self.old))
+            (placed caller.new (L.shown link.new) (has self.new)) result }
         ensures cause { RanFor connection.now.settings (K.moments clock.now) lulls caller.old
             caller.new.front (L.shown link.old) (L.shown link.new) (has self.new) result }
         ensures read { is_early result ≡ false →

@@ -2,7 +2,7 @@
 
 ghost use Rattle.std.specs.Prelude.{◌≡◌, ◌⊎◌, [], false, None};
 ghost use Rattle.outside.specs.Links.{NoneFell};
-ghost use Rattle.pump.specs.Turns.{HasMoved, HasWaiting, IsKept, IsReadOut, IsTurned, TurnedFor, has, is_early};
+ghost use Rattle.pump.specs.Turns.{IsKept, IsReadOut, IsTurned, RulesOut, TurnedFor, has, is_early};
 
 use crate::inner::Inner;
 use crate::turned::{Turned, ended_by, sum_up};
@@ -33,6 +33,7 @@ impl Inner {
             caller.new.front (L.shown link.old) (L.shown link.new) (has self.old) result }
         ensures cause { TurnedFor connection.now.settings (K.moments clock.now) caller.old
             caller.new.front (L.shown link.old) (L.shown link.new) (has self.new) result }
+        ensures order { RulesOut connection.now.settings caller.new.front (has self.new) result }
         ensures read { is_early result ≡ false →
             IsReadOut connection.now.settings caller.old (has self.new) caller.new.front }
         ensures counted { NoneFell (L.shown link.old).counts (L.shown link.new).counts }

@@ -1,7 +1,8 @@
 //! What a turn of a pump comes to.
 
 ghost use Rattle.std.specs.Prelude.{◌≡◌, None, false, true};
-ghost use Rattle.pump.specs.Turns.{BreaksFor, OverFor, SumsUp, ended_by, is_early, is_fine, is_last, lulls_in};
+ghost use Rattle.pump.specs.Turns.{BreaksFor, OverFor, RulesOutOf, SumsUp, ended_by, is_early, is_fine, is_last};
+ghost use Rattle.pump.specs.Runs.{lulls_in};
 ghost use Rattle.pump.specs.Moves.{given_in, taken_in};
 
 use crate::bringing::Brought;
@@ -93,10 +94,11 @@ fn broken_by(gave: Gave, took: Took) -> Option<Turned>
 fn over_by(looked: Looked, left: usize) -> Option<Turned>
     ensures { OverFor looked left result }
 {
-    match looked.cause {
-        Some(cause) if looked.queued == 0 && left == 0 => Some(Turned::Over(cause)),
-        _ => None,
+    let cause = looked.cause?;
+    if looked.queued != 0 || left != 0 {
+        return None;
     }
+    Some(Turned::Over(cause))
 }
 
 /// What the parts of a turn come to, in this order: an end at once, a broken link, a session that
@@ -105,6 +107,7 @@ pub(crate) fn sum_up(gave: Gave, took: Took, heard: Brought, looked: Looked, lef
     ensures sum { SumsUp gave took heard looked left result }
     ensures fine { is_last result ≡ false → is_fine gave took ≡ true }
     ensures heard { is_early result ≡ false → ended_by heard ≡ None }
+    ensures order { RulesOutOf looked left heard result }
 {
     if let Some(turned) = ended_by(heard) {
         return turned;

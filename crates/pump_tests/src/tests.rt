@@ -2,4 +2,6 @@
 
 mod ends;
 mod gives;
+mod halves;
+mod hostile;
 mod results;

@@ -1,26 +1,25 @@
 //! A client with the defaults whose session is begun, so that its SETUP is due on connection 1, and
 //! a pump between it and a link in memory.
 
-ghost use Rattle.std.specs.Prelude.{◌≡◌, ◌<◌};
+ghost use Rattle.std.specs.Prelude.{◌≡◌, ◌<◌, ◌≤◌};
 ghost use Rattle.rs_wire.specs.declared.words.Side.TheVariants.{Client};
-ghost use Rattle.rs_wire.specs.Settings.{usual};
 
 use conn::{Caller, Connection};
 use outside::{After, MemClock, MemLink};
-use pump::{Pump, Turned};
+use pump::{Brought, Pump, Turned};
 use rs_chunk::Reader;
-use rs_wire::{Blob, Checked, Settings, Side, check};
+use rs_wire::{Blob, Call, Checked, Settings, Side, check};
 use session_core::Session;
 use std::alloc::Global;
 use std::process::Abort;
 use std::sync::Wait;
-use tape::{Answer, Blank, Event};
+use tape::{Answer, Entry, Event, Kept, Tape};
 
 /// A client, its pump, and the link and the clock of the pump.
 #[derive(Drop)]
 pub struct End {
-    connection: Connection<Blank>,
-    caller: Caller<Blank>,
+    connection: Connection<Kept>,
+    caller: Caller<Kept>,
     pump: Pump,
     link: MemLink,
     clock: MemClock,
@@ -28,21 +27,24 @@ pub struct End {
     ghost limit: { pump.max_in ≡ connection.settings.max_in },
 }
 
-fn usual_settings<R: Abort>(rt: &R, alloc: Global) -> Checked
-    ensures { result ≡ usual Client }
+// The defaults, but for a queue that is as small as it may be.
+fn settings<R: Abort>(rt: &R, alloc: Global) -> Checked
+    ensures { result.side ≡ Client }
 {
-    let settings = Settings::usual(alloc, Side::Client).expect(rt, "there is memory");
+    let mut settings = Settings::usual(alloc, Side::Client).expect(rt, "there is memory");
+    settings.hold = 0;
+    settings.slack = 0;
     match check(settings) {
         Ok(settings) => settings,
         Err(_) => panic!(rt; "the settings are right"),
     }
 }
 
-fn connected<R: Abort>(rt: &R, alloc: Global) -> (Connection<Blank>, Caller<Blank>)
+fn connected<R: Abort>(rt: &R, alloc: Global) -> (Connection<Kept>, Caller<Kept>)
     ensures of { result.1.of ≡ result.0 }
-    ensures settings { result.0.settings ≡ usual Client }
+    ensures side { result.0.settings.side ≡ Client }
 {
-    let session = match Session::new(alloc, usual_settings(rt, alloc), Blank::new()) {
+    let session = match Session::new(alloc, settings(rt, alloc), Kept::new(alloc)) {
         Ok(session) => session,
         Err(_) => panic!(rt; "there is memory"),
     };
@@ -53,7 +55,7 @@ fn connected<R: Abort>(rt: &R, alloc: Global) -> (Connection<Blank>, Caller<Blan
 }
 
 // A connection whose session is begun, and its caller.
-fn begun<R: Abort + Wait>(rt: &R, alloc: Global) -> (Connection<Blank>, Caller<Blank>)
+fn begun<R: Abort + Wait>(rt: &R, alloc: Global) -> (Connection<Kept>, Caller<Kept>)
     ensures of { result.1.of ≡ result.0 }
 {
     let (connection, mut caller) = connected(rt, alloc);
@@ -116,11 +118,81 @@ impl End {
             .turn(rt, connection, &mut self.caller, &mut self.link, clock)
     }
 
-    /// Turns until the second lull.
-    pub fn run<R: Wait>(&mut self, rt: &R) -> Turned {
+    /// Turns until this lull.
+    pub fn run<R: Wait>(&mut self, rt: &R, lulls: u64) -> Turned {
         let (connection, clock) = (&self.connection, &self.clock);
-        self.pump
-            .run(rt, connection, &mut self.caller, &mut self.link, clock, 2)
+        self.pump.run(
+            rt,
+            connection,
+            &mut self.caller,
+            &mut self.link,
+            clock,
+            lulls,
+        )
+    }
+
+    /// Draws for a pump whose bytes are carried by other means than a link.
+    pub fn draw<R: Wait>(&mut self, rt: &R, most: usize) -> Brought {
+        let connection = &self.connection;
+        self.pump.draw(rt, connection, &mut self.caller, most)
+    }
+
+    /// Brings the frames that were fed.
+    pub fn hear<R: Wait>(&mut self, rt: &R) -> Brought {
+        let connection = &self.connection;
+        self.pump.hear(rt, connection, &mut self.caller)
+    }
+
+    /// Hands over bytes that were taken.
+    pub fn feed<R: Abort>(&mut self, rt: &R, bytes: &[u8]) {
+        self.pump.feed(bytes).expect(rt, "there is memory");
+    }
+
+    /// The bytes drawn and not given, which are given then.
+    pub fn carry<R: Abort>(&mut self, rt: &R, bytes: &mut Vec<u8>) {
+        bytes
+            .extend_from_slice(self.pump.bytes())
+            .expect(rt, "there is memory");
+        self.pump.gave();
+    }
+
+    /// Makes a fire-and-forget request of this many bytes.
+    pub fn ask<R: Abort + Wait>(&mut self, rt: &R, alloc: Global, length: usize) -> Answer
+        requires { length ≤ 16000000 }
+    {
+        let content = vec![in alloc; 0u8; length].expect(rt, "there is memory");
+        let call = Call::fire_and_forget(Blob::from_vec(content));
+        let connection = &self.connection;
+        connection.call(rt, &mut self.caller, &call)
+    }
+
+    // The session, once the connection is closed.
+    fn close<R: Abort>(self, rt: &R) -> Session<Kept> {
+        match self.connection.close(self.caller) {
+            Ok(session) => session,
+            Err(_) => panic!(rt; "all parts are there"),
+        }
+    }
+
+    /// How many entries the session has.
+    pub fn count_entries<R: Abort>(self, rt: &R) -> u64 {
+        self.close(rt).tape().count()
+    }
+
+    /// Compares the entry of this number, from 0, with an event of the one caller and its answer.
+    pub fn compare_entry<R: Abort>(self, rt: &R, index: u64, event: Event, answer: Answer) {
+        let session = self.close(rt);
+        let wanted = Entry {
+            who: 0,
+            event,
+            answer,
+        };
+        assert!(rt; session.tape().entry(index) == Some(&wanted));
+    }
+
+    /// How many bytes were taken from the link.
+    pub fn taken(&self) -> usize {
+        self.link.taken().len()
     }
 
     /// What the link was given.

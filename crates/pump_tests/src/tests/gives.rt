@@ -16,7 +16,7 @@ fn give_all<R: Abort + Wait>(rt: &R, alloc: Global, most: u32) -> End
 {
     let link = link(rt, alloc, &[], After::Lulls, most, 0);
     let mut end = End::new(rt, alloc, 1, link, 0);
-    compare(rt, end.run(rt), Turned::Lull);
+    compare(rt, end.run(rt, 2), Turned::Lull);
     assert!(rt; end.left() == 0);
     end
 }
@@ -59,7 +59,7 @@ const FAILS: [(u64, usize, Turned); 9] = [
 fn fail_at<R: Abort + Wait>(rt: &R, alloc: Global, call: u64, given: usize, wanted: Turned) {
     let link = link(rt, alloc, &[], After::Lulls, PIECE, call);
     let mut end = End::new(rt, alloc, 1, link, 0);
-    compare(rt, end.run(rt), wanted);
+    compare(rt, end.run(rt, 2), wanted);
     assert!(rt; end.given().len() == given);
     assert!(rt; end.left().saturating_add(given) == SETUP_BYTES as usize);
 }

@@ -7,6 +7,7 @@ use rs_wire::{Cause, Rule};
 use std::alloc::Global;
 use std::process::Abort;
 use std::sync::Wait;
+use tape::{Answer, Event};
 
 /// One trial: a session whose SETUP is due, a pump, and what it comes to after some turns.
 #[derive(Clone, Copy)]
@@ -21,6 +22,8 @@ struct Row {
     /// How many turns before the last.
     turns: u32,
     wanted: Turned,
+    /// What one more turn comes to.
+    then: Turned,
     /// How many bytes the link was given.
     given: usize,
 }
@@ -32,6 +35,7 @@ const ROW: Row = Row {
     later: 0,
     turns: 0,
     wanted: Turned::Lull,
+    then: Turned::Lull,
     given: 71,
 };
 
@@ -56,12 +60,14 @@ const ROWS: [Row; 7] = [
     Row {
         after: After::Ends,
         wanted: Turned::End,
+        then: Turned::End,
         ..ROW
     },
     // Another connection is the live one.
     Row {
         conn: 2,
         wanted: Turned::Displaced(1),
+        then: Turned::Displaced(1),
         given: 0,
         ..ROW
     },
@@ -72,6 +78,7 @@ const ROWS: [Row; 7] = [
             given: 71,
             taken: 6,
         },
+        then: Turned::Over(Cause::Broken(Rule::BadFrame(1))),
         ..ROW
     },
     // .. and the session is over once the ERROR that answers it is given: a length of 3 bytes, a
@@ -80,6 +87,7 @@ const ROWS: [Row; 7] = [
         bytes: SHORT,
         turns: 1,
         wanted: Turned::Over(Cause::Broken(Rule::BadFrame(1))),
+        then: Turned::Over(Cause::Broken(Rule::BadFrame(1))),
         given: 93,
         ..ROW
     },
@@ -88,6 +96,7 @@ const ROWS: [Row; 7] = [
         later: 90_000,
         turns: 1,
         wanted: Turned::Dead(0),
+        then: Turned::Displaced(0),
         ..ROW
     },
 ];
@@ -100,11 +109,43 @@ fn turn_of<R: Abort + Wait>(rt: &R, alloc: Global, row: Row) {
     }
     compare(rt, end.turn(rt), row.wanted);
     assert!(rt; end.given().len() == row.given);
+    compare(rt, end.turn(rt), row.then);
 }
 
 #[test]
 fn each_result_has_its_cause(rt: HostRuntime) {
     for row in ROWS {
         turn_of(&rt, rt.alloc(), row);
+    }
+}
+
+// The tick at the later moment has its entry: after the opening, a tick at 0 and a draw it is the
+// fourth.
+fn die<R: Abort + Wait>(rt: &R, alloc: Global) {
+    let link = link(rt, alloc, &[], After::Lulls, MOST, 0);
+    let mut end = End::new(rt, alloc, 1, link, 90_000);
+    end.turn(rt);
+    compare(rt, end.turn(rt), Turned::Dead(0));
+    end.compare_entry(rt, 3, Event::Tick { now: 90_000 }, Answer::Dead(0));
+}
+
+#[test]
+fn a_dead_peer_is_found_by_a_tick_that_has_its_entry(rt: HostRuntime) {
+    die(&rt, rt.alloc());
+}
+
+// The first turn moves what is due, and each further one lulls and leaves the entry of its tick. The
+// opening, the first tick and the draw are three entries more.
+fn run_for<R: Abort + Wait>(rt: &R, alloc: Global, lulls: u64, turns: u64) {
+    let link = link(rt, alloc, &[], After::Lulls, MOST, 0);
+    let mut end = End::new(rt, alloc, 1, link, 0);
+    compare(rt, end.run(rt, lulls), Turned::Lull);
+    assert!(rt; end.count_entries(rt) == 3 + turns);
+}
+
+#[test]
+fn a_run_ends_at_the_lull_of_its_number(rt: HostRuntime) {
+    for (lulls, turns) in [(0, 1), (1, 1), (2, 2), (7, 7)] {
+        run_for(&rt, rt.alloc(), lulls, turns);
     }
 }

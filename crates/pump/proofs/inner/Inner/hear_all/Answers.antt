@@ -22,6 +22,7 @@ loop-preserved g c =
       c.hear-brought.ensures.left ∙ i.5,
       λ noted. arrived_wider c.args.self.now.conn me was now.front now.front (ap (λ (x : Knowledge). x.number) i.0) (goes_continues _ me was.front i.2) (continues_same now.front) came,
       λ none. absurd (true≢false none),
+      λ none. absurd (true≢false none),
     )
 
 pub returns-then-ne-clause-kept : goal.returns-then-ne-clause-kept
@@ -39,9 +40,10 @@ returns-then-ne-clause-cause g c =
     let now = c.hear-brought.new.caller in
     let st = c.args.connection.now.settings in
     let conn = c.args.self.now.conn in
-    let h : BroughtFor (Names conn) st c.loop.caller.front now.front c.hear-brought.result = subst (λ n. BroughtFor (Names n) st c.loop.caller.front now.front c.hear-brought.result) i.3 c.hear-brought.ensures.cause in
-    let w = brought_wider (Names conn) (Names conn) st me.front c.loop.caller.front now.front now.front c.hear-brought.result (λ v k. k) (goes_continues (Arrives conn) me c.loop.caller.front i.2) (continues_same now.front) h in
-    subst (BroughtFor (Names conn) st me.front now.front) (sym c.after_some.ensures) (for_after (Names conn) st me.front now.front c.loop.noted c.hear-brought.result w)
+    let was = c.loop.caller in
+    let h : BroughtFor (Names conn) st was now.front c.hear-brought.result = subst (λ n. BroughtFor (Names n) st was now.front c.hear-brought.result) i.3 c.hear-brought.ensures.cause in
+    let w = brought_wider (Names conn) (Names conn) st me was now.front now.front c.hear-brought.result (λ v k. k) (ap (λ (x : Knowledge). x.number) i.0) (goes_continues (Arrives conn) me c.loop.caller.front i.2) (continues_same now.front) h in
+    subst (BroughtFor (Names conn) st me now.front) (sym c.after_some.ensures) (for_after (Names conn) st me now.front c.loop.noted c.hear-brought.result w)
 
 pub returns-then-ne-clause-busy : goal.returns-then-ne-clause-busy
 returns-then-ne-clause-busy g c =
@@ -68,4 +70,9 @@ pub returns-then-ne-clause-some : goal.returns-then-ne-clause-some
 returns-then-ne-clause-some g c waits is =
     let i = c.loop.invariant in
     let none = nothing_after c.loop.noted c.hear-brought.result (sym c.after_some.ensures ∙ is) in
-    c.hear-brought.ensures.some (i.7 none.0 waits) none.1
+    c.hear-brought.ensures.some (i.8 none.0 waits) none.1
+
+pub returns-then-ne-clause-quiet : goal.returns-then-ne-clause-quiet
+returns-then-ne-clause-quiet g c is =
+    let none = nothing_after c.loop.noted c.hear-brought.result (sym c.after_some.ensures ∙ is) in
+    c.hear-brought.ensures.quiet none.1 ∙ c.loop.invariant.7 none.0

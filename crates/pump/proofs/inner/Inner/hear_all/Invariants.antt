@@ -11,4 +11,5 @@ invariant-loop g l = l.caller ≡ record l.fn.caller { front = l.caller.front; n
     × l.self.incoming.max_in ≡ l.fn.self.incoming.max_in
     × l.self.outgoing ≡ l.fn.self.outgoing
     × (l.noted ≡ true → HasArrived l.fn.self.conn l.fn.caller l.caller.front)
+    × (l.noted ≡ false → l.caller.front ≡ l.fn.caller.front)
     × (l.noted ≡ false → HasWaiting (has l.fn.self) → HasWaiting (has l.self))

@@ -1,4 +1,4 @@
-use Rattle.std.proofs.Common.{◌∙◌, true≢false, sym, subst}
+use Rattle.std.proofs.Common.{◌∙◌, ◌++◌, true≢false, ap, sym, subst}
 use Rattle.link_model.specs.Carrying.{Keeps}
 use Rattle.link_model.proofs.Kept.{keeps_take}
 use Rattle.pump.specs.Moves.{all_of}
@@ -21,5 +21,15 @@ returns-in-Ok-clause-kept g c st past k =
     let new = g.L.Link.shown c.take.new.link in
     let more = c.take.ensures.taken in
     let done : Keeps st past new (record (has p) { rest = all_of j }) =
-    keeps_take st past (g.L.Link.shown c.args.link.now) new (has p) more.piece (all_of j) (λ good. more.behind) more.taken c.take.ensures.given k in
-    subst (λ m. Keeps st past new (record (has p) { rest = all_of j; max_in = m })) (sym c.take.ensures.max_in) done
+    keeps_take st past (g.L.Link.shown c.args.link.now) new (has p) more.piece (all_of j) (λ good. more.behind ∙ ap (λ t. t ++ more.piece) c.feed.ensures.all) more.taken c.take.ensures.given k in
+    subst (λ m. Keeps st past new (record (has p) { rest = all_of j; max_in = m })) (sym (c.take.ensures.max_in ∙ c.feed.ensures.max_in)) done
+
+pub returns-in-Err-clause-kept : goal.returns-in-Err-clause-kept
+returns-in-Err-clause-kept g c st past k =
+    let p = c.args.self.now in
+    let j = c.take.new.self in
+    let new = g.L.Link.shown c.take.new.link in
+    let more = c.take.ensures.taken in
+    let done : Keeps st past new (record (has p) { rest = all_of j }) =
+    keeps_take st past (g.L.Link.shown c.args.link.now) new (has p) more.piece (all_of j) (λ good. more.behind ∙ ap (λ t. t ++ more.piece) c.feed.ensures.all) more.taken c.take.ensures.given k in
+    subst (λ m. Keeps st past new (record (has p) { rest = all_of j; max_in = m })) (sym (c.take.ensures.max_in ∙ c.feed.ensures.max_in)) done

@@ -1,4 +1,11 @@
-use Rattle.std.proofs.Common.{rules, ◌≡◌, ◌∙◌, ◌⊎◌, inl, inr, true≢false, None, sym, subst}
+use Rattle.std.proofs.Common.{rules, ◌≡◌, ◌∙◌, ◌⊎◌, ℕ, inl, inr, true, true≢false, not, List, [], None, refl, ap, sym, subst}
+use Rattle.rs_wire.specs.declared.settings.Settings.{Settings}
+use Rattle.outside.specs.Causes.{Rose}
+use Rattle.outside.specs.Links.{Shown}
+use Rattle.tape.specs.declared.answer.Answer.TheVariants as answer
+use Rattle.tape.specs.declared.entry.Entry.{Entry}
+use Rattle.tape.specs.declared.event.Event.TheVariants as event
+use Rattle.conn_shared.specs.Calls.{IsCalled}
 use Rattle.conn_shared.specs.Members.{Continues, Follows, Knowledge}
 use Rattle.link_model.specs.Reading.{IsWaiting}
 use Rattle.pump.specs.declared.inner.Inner.{Inner}
@@ -6,12 +13,14 @@ use Rattle.pump.specs.declared.bringing.Brought.{Brought}
 use Rattle.pump.specs.declared.bringing.Brought.TheVariants as brings
 use Rattle.pump.specs.declared.outgoing.Gave.{Gave}
 use Rattle.pump.specs.Moves.{Comes, all_of}
-use Rattle.pump.specs.Turns.{Arrives, BroughtFor, GoesOn, HasArrived, HasWaiting, IsPumped, Names, has}
+use Rattle.pump.specs.declared.numbers.TheConstants.{PIECE}
+use Rattle.pump.specs.Turns.{Arrives, BroughtFor, GoesOn, HadOnlyFrames, HasArrived, HasMoved, HasWaiting, IsPumped, Names, SumsUp, goes_on_after, goes_on_from, has, is_last}
 use Rattle.pump.specs.declared.outgoing.Gave.TheVariants as gaves
 use Rattle.pump.proofs.Adding.{IsOn, continues_both, goes_both, goes_continues, goes_follows, goes_none, on_both}
 use Rattle.pump.proofs.Keeping.{kept_follows, kept_moved}
+use Rattle.pump.proofs.Drawing.{found_none, idle_by, was_empty, went_ticked}
 use Rattle.pump.proofs.Going.{begun_on}
-use Rattle.pump.proofs.Outcomes.{began_for, ended_early, ended_last, none_fell, none_fell_both, read_out, turned_for}
+use Rattle.pump.proofs.Outcomes.{began_for, ended_early, ended_last, none_ended, none_fell, none_fell_both, read_out, ruled_out, rules_out, stall_of, turned_for}
 use Rattle.pump.proofs.Progress.{progress}
 use Rattle.pump.proofs.inner.Inner.turn.Goals as goal
 
@@ -24,10 +33,17 @@ pub returns-in-Some-clause-turned : goal.returns-in-Some-clause-turned
 returns-in-Some-clause-turned g c =
     let me = c.args.caller.now in
     let d = c.begin-begun.new.caller in
+    let last = ended_last c.begin-begun.result _ (search rules) in
+    let early = ended_early c.begin-begun.result _ (search rules) in
     record {
       left = c.begin-begun.new.self.outgoing;
-      turn = record { begun = d.front; begins = c.begin-begun.ensures.begins; arrivals = goes_none (Arrives c.args.self.now.conn) (record me { front = d.front; note = None }) };
-      progress = λ goes_on. absurd (true≢false (sym (ended_last c.begin-begun.result _ (search rules)) ∙ goes_on));
+      turn = record { begun = d.front; begins = c.begin-begun.ensures.begins.begins; arrivals = goes_none (Arrives c.args.self.now.conn) (record me { front = d.front; note = None }); ended = λ none. refl };
+      progress = λ goes_on. absurd (true≢false (sym last ∙ goes_on));
+      waited = λ waits. refl;
+      ticked = λ late. absurd (true≢false (sym early ∙ late));
+      drawn = λ late. absurd (true≢false (sym early ∙ late));
+      dry = λ late none. absurd (true≢false (sym early ∙ late));
+      still = λ lull. absurd (true≢false (sym last ∙ ap is_last lull));
     }
 
 pub returns-in-Some-clause-cause : goal.returns-in-Some-clause-cause
@@ -35,13 +51,16 @@ returns-in-Some-clause-cause g c =
     let me = c.args.caller.now in
     let s = g.L.Link.shown c.args.link.now in
     began_for c.args.connection.now.settings (g.K.Clock.moments c.args.clock.now) me c.begin-begun.new.caller.front s s (has c.begin-begun.new.self) c.begin-begun.result _ (search rules)
-    (subst (λ n. BroughtFor (IsPumped (g.K.Clock.moments c.args.clock.now) n) c.args.connection.now.settings me.front c.begin-begun.new.caller.front c.begin-begun.result) (search rules) c.begin-begun.ensures.cause)
+    (subst (λ n. BroughtFor (IsPumped (g.K.Clock.moments c.args.clock.now) n) c.args.connection.now.settings me c.begin-begun.new.caller.front c.begin-begun.result) (search rules) c.begin-begun.ensures.cause)
 
 pub returns-in-Some-clause-read : goal.returns-in-Some-clause-read
 returns-in-Some-clause-read g c late = absurd (true≢false (sym (ended_early c.begin-begun.result _ (search rules)) ∙ late))
 
 pub returns-in-Some-clause-counted : goal.returns-in-Some-clause-counted
 returns-in-Some-clause-counted g c = none_fell _
+
+pub returns-in-Some-clause-order : goal.returns-in-Some-clause-order
+returns-in-Some-clause-order g c = ruled_out c.args.connection.now.settings c.begin-begun.new.caller.front (has c.begin-begun.new.self) c.begin-begun.result _ (search rules)
 
 -- ---- a whole turn
 
@@ -75,21 +94,45 @@ returns-clause-turned g c =
     let conn : c.take_some-took.new.self.conn ≡ p.conn = search rules in
     let incoming : c.give_some-gave.new.self.incoming ≡ p.incoming = search rules in
     let bad : c.give_some-gave.new.self.bad ≡ p.bad = search rules in
+    let st = c.args.connection.now.settings in
     let heard : GoesOn P d h.front = subst (λ n. GoesOn (Arrives n) d h.front) conn c.hear_all-heard.ensures.goes in
     let on_d : IsOn start d = c.begin-begun.ensures.same in
     let on_h : IsOn start h = on_both start d h on_d c.hear_all-heard.ensures.same in
+    let start_b = c.begin-begun.ensures.begins in
+    let went : goes_on_from start_b.begins.answer start_b.begins.drew ≡ true = start_b.came_to ∙ ap not (none_ended c.begin-begun.result (search rules)) in
+    let names : h.names ≡ me.names = search rules in
+    let ticked : Knowledge = record me { front = start_b.begins.ticked; note = None } in
+    let left = c.begin-begun.new.self.outgoing in
+    let none_due : left ≡ [] → IsCalled st ticked (event.Draw p.conn PIECE) answer.NotYet d.front = λ none. found_none st ticked p.conn start_b.begins.answer start_b.begins.drew p.outgoing left d.front start_b.begins.draw went none in
     record {
-      left = c.begin-begun.new.self.outgoing;
+      left = left;
       turn = record {
         begun = d.front;
-        begins = c.begin-begun.ensures.begins;
+        begins = start_b.begins;
+        ended = λ ends. absurd (true≢false (sym went ∙ ends));
         arrivals = goes_both P start h n.front on_h (goes_both P start d h.front on_d (goes_none P start) heard) (goes_follows P h n.front c.look-looked.ensures.follows);
       };
-      progress = λ goes_on. progress s m t (has p) c.begin-begun.new.self.outgoing c.give_some-gave.result c.take_some-took.result (c.sum_up.ensures.fine goes_on)
+      waited = λ waits. c.take_some-took.ensures.waited (waits_on p c.give_some-gave.new.self incoming bad waits) ∙ c.give_some-gave.ensures.taken;
+      ticked = λ late. went_ticked start_b.begins.answer start_b.begins.drew went;
+      drawn = λ late. went;
+      dry = λ late none. idle_by st ticked p.conn PIECE d.front (none_due none);
+      still = λ lull. (let sums = subst (SumsUp c.give_some-gave.result c.take_some-took.result c.hear_all-heard.result c.look-looked.result c.len-left.result) lull c.sum_up.ensures.sum in (
+        subst (λ es. Follows me.names es n.front) (c.hear_all-heard.ensures.quiet sums.2) (subst (λ ns. Follows ns h.front n.front) names c.look-looked.ensures.follows),
+        subst (λ k. (left ≡ []) ⊎ Rose s.counts.stalls k) (sym c.take_some-took.ensures.stalls) (stall_of s m left c.give_some-gave.result c.take_some-took.result (c.sum_up.ensures.fine (ap is_last lull)) c.give_some-gave.ensures.gave c.give_some-gave.ensures.nothing sums.0),
+      ));
+      progress = λ goes_on. only s t st ticked d.front p left (was_empty st ticked p.conn PIECE (goes_on_after start_b.begins.answer) start_b.begins.drew p.outgoing left d.front start_b.begins.draw) none_due (progress s m t (has p) left c.give_some-gave.result c.take_some-took.result (c.sum_up.ensures.fine goes_on)
           c.give_some-gave.ensures.gave c.take_some-took.ensures.took c.take_some-took.ensures.given c.give_some-gave.ensures.taken c.give_some-gave.ensures.counted c.take_some-took.ensures.counted c.give_some-gave.ensures.nothing
-          (λ nothing failed. waits p c.give_some-gave.new.self c.give_some-gave.result incoming bad failed (c.take_some-took.ensures.nothing nothing));
+          (λ nothing failed. waits p c.give_some-gave.new.self c.give_some-gave.result incoming bad failed (c.take_some-took.ensures.nothing nothing)));
     }
   where
+    waits_on : (p q : Inner) → q.incoming ≡ p.incoming → q.bad ≡ p.bad → HasWaiting (has p) → HasWaiting (has q)
+    waits_on p q same bad h = (bad ∙ h.0, subst (λ (i : Comes). IsWaiting (all_of i) i.max_in) (sym same) h.1)
+
+    only : (s t : Shown) (st : Settings) (ticked : Knowledge) (begun : List Entry) (p : Inner) (left : List ℕ) → (left ≡ [] → p.outgoing ≡ []) → (left ≡ [] → IsCalled st ticked (event.Draw p.conn PIECE) answer.NotYet begun)
+        → HasMoved s t ⊎ (HasWaiting (has p) × (left ≡ [])) → HasMoved s t ⊎ HadOnlyFrames st ticked (has p) begun
+    only s t st ticked begun p left empty draw (inl moved) = inl moved
+    only s t st ticked begun p left empty draw (inr (waits, none)) = inr (record { waiting = waits; empty = empty none; draw = draw none })
+
     waits : (p q : Inner) (gave : Gave) → q.incoming ≡ p.incoming → q.bad ≡ p.bad → (gave ≡ gaves.Failed → ⊥) → (gave ≡ gaves.Failed) ⊎ HasWaiting (has q) → HasWaiting (has p)
     waits p q gave same bad failed (inl is) = absurd (failed is)
     waits p q gave same bad failed (inr h) = (sym bad ∙ h.0, subst (λ (i : Comes). IsWaiting (all_of i) i.max_in) same h.1)
@@ -107,7 +150,7 @@ returns-clause-cause g c =
     let m = g.L.Link.shown c.give_some-gave.new.link in
     let t = g.L.Link.shown c.take_some-took.new.link in
     let conn : c.take_some-took.new.self.conn ≡ q.conn = sym c.hear_all-heard.ensures.conn in
-    let begun : Continues me.front d.front = begun_on st moments me c.args.self.now.conn _ _ d.front c.begin-begun.ensures.begins in
+    let begun : Continues me.front d.front = begun_on st moments me c.args.self.now.conn _ _ d.front c.begin-begun.ensures.begins.begins in
     let names : h.names ≡ me.names = search rules in
     turned_for st moments me d h n.front s m t (has q) c.give_some-gave.result c.take_some-took.result c.hear_all-heard.result c.look-looked.result c.len-left.result c.sum_up.result
     (record {
@@ -115,7 +158,7 @@ returns-clause-cause g c =
       before = begun;
       between = goes_continues (Arrives c.take_some-took.new.self.conn) d h.front c.hear_all-heard.ensures.goes;
       follows = subst (λ ns. Follows ns h.front n.front) names c.look-looked.ensures.follows;
-      cause = subst (λ k. BroughtFor (Names k) st d.front h.front c.hear_all-heard.result) conn c.hear_all-heard.ensures.cause;
+      cause = subst (λ k. BroughtFor (Names k) st d h.front c.hear_all-heard.result) conn c.hear_all-heard.ensures.cause;
       busy = c.hear_all-heard.ensures.busy;
       arrived = λ noted. subst (λ k. HasArrived k d h.front) conn (c.hear_all-heard.ensures.arrived noted);
       gave_is = c.give_some-gave.ensures.gave;
@@ -128,12 +171,12 @@ returns-clause-cause g c =
       some = λ nothing failed. some_heard c.give_some-gave.new.self c.take_some-took.new.self c.give_some-gave.result c.hear_all-heard.result (c.take_some-took.ensures.still nothing) failed c.hear_all-heard.ensures.some (c.take_some-took.ensures.nothing nothing);
       closed_is = c.look-looked.ensures.cause;
       waits = c.look-looked.ensures.queued;
-      left_is = c.len-left.ensures;
+      left_is = c.len-left.ensures.count;
     }) c.sum_up.ensures.sum c.sum_up.ensures.fine
   where
-    some_heard : (p q : Inner) (gave : Gave) (heard : Brought) → q ≡ p → (gave ≡ gaves.Failed → ⊥) → (HasWaiting (has q) → heard ≡ brings.Nothing → ⊥) → (gave ≡ gaves.Failed) ⊎ HasWaiting (has p) → heard ≡ brings.Nothing → ⊥
+    some_heard : (p q : Inner) (gave : Gave) (heard : Brought) → has q ≡ has p → (gave ≡ gaves.Failed → ⊥) → (HasWaiting (has q) → heard ≡ brings.Nothing → ⊥) → (gave ≡ gaves.Failed) ⊎ HasWaiting (has p) → heard ≡ brings.Nothing → ⊥
     some_heard p q gave heard same failed some (inl is) nothing = failed is
-    some_heard p q gave heard same failed some (inr h) nothing = some (subst (λ x. HasWaiting (has x)) (sym same) h) nothing
+    some_heard p q gave heard same failed some (inr h) nothing = some (subst HasWaiting (sym same) h) nothing
 
 pub returns-clause-read : goal.returns-clause-read
 returns-clause-read g c late =
@@ -143,7 +186,12 @@ returns-clause-read g c late =
     let n = c.look-looked.new.caller in
     let st = c.args.connection.now.settings in
     let moments = g.K.Clock.moments c.args.clock.now in
-    let begun : Continues me.front d.front = begun_on st moments me c.args.self.now.conn _ _ d.front c.begin-begun.ensures.begins in
+    let begun : Continues me.front d.front = begun_on st moments me c.args.self.now.conn _ _ d.front c.begin-begun.ensures.begins.begins in
     let heard : Continues d.front h.front = goes_continues (Arrives c.take_some-took.new.self.conn) d h.front c.hear_all-heard.ensures.goes in
     let names : h.names ≡ me.names = search rules in
     read_out st me h.front n.front (has c.hear_all-heard.new.self) c.hear_all-heard.result (continues_both me.front d.front h.front begun heard) (subst (λ ns. Follows ns h.front n.front) names c.look-looked.ensures.follows) c.hear_all-heard.ensures.busy c.hear_all-heard.ensures.emptied (c.sum_up.ensures.heard late)
+
+pub returns-clause-order : goal.returns-clause-order
+returns-clause-order g c =
+    rules_out c.args.connection.now.settings c.look-looked.new.caller.front (has c.hear_all-heard.new.self) c.hear_all-heard.result c.look-looked.result c.len-left.result c.sum_up.result
+    c.look-looked.ensures.cause c.look-looked.ensures.queued c.len-left.ensures.count c.hear_all-heard.ensures.emptied c.sum_up.ensures.order

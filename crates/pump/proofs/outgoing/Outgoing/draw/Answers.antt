@@ -1,31 +1,22 @@
-use Rattle.std.proofs.Common.{rules, ◌≡◌, ◌∙◌, ◌-◌, arith, ap, List, ℕ, take, drop, refl}
+use Rattle.std.proofs.Common.{rules, ◌≡◌, ◌∙◌, ◌-◌, ◌≤◌, ◌++◌, arith, ap, List, ℕ, length, take, drop, refl, sym, subst}
 use Rattle.std.specs.Vec.{with_items}
-use Rattle.std.proofs.lemmas.List.{with_items_is}
-use Rattle.rs_frame.specs.Framed.{framed_all}
+use Rattle.std.proofs.lemmas.List.{length-append, length-take-le, take-append-le, with_items_is}
+use Rattle.rs_wire.specs.declared.settings.Settings.{Settings}
+use Rattle.tape.specs.declared.entry.Entry.{Entry}
 use Rattle.tape.specs.declared.answer.Answer.{Answer}
-use Rattle.tape.specs.declared.answer.Answer.TheVariants as answer
-use Rattle.session_model.specs.Frames.{drawn, due}
-use Rattle.session_core.specs.Queued.{IfDrawn}
+use Rattle.conn_shared.specs.Members.{Knowledge}
 use Rattle.link_model.specs.Giving.{count_drawn}
+use Rattle.pump.specs.Turns.{HasDrawn, HasDrawnInto}
+use Rattle.pump.proofs.Drawing.{drawn_into}
 use Rattle.pump.proofs.outgoing.Outgoing.draw.Goals as goal
-
-front_of : (a : Answer) (xs ys : List ℕ) → IfDrawn a (λ n. take n xs ≡ take n ys) → take (count_drawn a) xs ≡ take (count_drawn a) ys
-front_of (answer.Drawn n) xs ys h = h
-front_of _ xs ys h = refl
 
 pub returns-clause-drew : goal.returns-clause-drew
 returns-clause-drew g c =
-    let drew = c.draw-answer.ensures.drawn in
-    let past = drew.before in
-    let n : c.count_drawn.result - 0 ≡ count_drawn c.draw-answer.result = omega (arith, c.count_drawn.ensures) in (
-      c.draw-answer.result,
+    let d = c.draw_first-answer.ensures.drawn in
+    let whole : (with_items c.self.inside.bytes c.draw_first-answer.new.buffer).items ≡ c.draw_first-answer.new.buffer = with_items_is c.self.inside.bytes c.draw_first-answer.new.buffer (search rules) in
+    let n : c.count_drawn.result - 0 ≡ count_drawn c.draw_first-answer.result = omega (arith, c.count_drawn.ensures) in (
+      c.draw_first-answer.result,
       search rules,
-      record {
-        called = record {
-          before = past;
-          follows = search rules;
-          step = search rules;
-        };
-        bytes = ap (λ xs. take (c.count_drawn.result - 0) xs) {x = (with_items c.self.inside.bytes c.draw-answer.new.buffer).items} {y = c.draw-answer.new.buffer} (with_items_is c.self.inside.bytes c.draw-answer.new.buffer (search rules)) ∙ (ap (λ k. take k c.draw-answer.new.buffer) n ∙ front_of c.draw-answer.result c.draw-answer.new.buffer (drop (drawn past c.args.conn) (framed_all (due c.args.connection.now.settings past c.args.conn))) drew.bytes);
-      },
+      drawn_into c.args.connection.now.settings c.args.caller.now c.args.conn c.args.room c.draw_first-answer.result _ c.draw_first-answer.new.buffer _ c.draw_first-answer.new.caller.front d
+          (ap (λ xs. take (c.count_drawn.result - 0) xs) whole ∙ ap (λ k. take k c.draw_first-answer.new.buffer) n),
     )

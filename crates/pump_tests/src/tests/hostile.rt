@@ -1,0 +1,62 @@
+//! A peer that sends on while its frames find no room in the queue.
+
+use super::ends::{End, compare, link};
+use outside::After;
+use pump::Turned;
+use std::alloc::Global;
+use std::process::Abort;
+use std::sync::Wait;
+use tape::Answer;
+
+/// How many bytes may be queued: the greatest frame, and as much again as a request of 1,024 bytes.
+const OUT_ROOM: u64 = 16_778_239;
+
+/// Two requests of these lengths fill the queue, with the 71 bytes of SETUP and a header of 9 bytes
+/// each.
+const FIRST: usize = 16_000_000;
+
+const SECOND: usize = 778_150;
+
+/// How many bytes one turn draws, and the request that fills the queue again.
+const PIECE: usize = 16_384;
+
+const AGAIN: usize = PIECE - 9;
+
+/// A CANCEL of stream 2, which breaks no rule, nine times over (RSocket 1.0, "CANCEL Frame").
+const CANCELS: &[u8] = &[
+    0, 0, 6, 0, 0, 0, 2, 0x24, 0, //
+    0, 0, 6, 0, 0, 0, 2, 0x24, 0, //
+    0, 0, 6, 0, 0, 0, 2, 0x24, 0, //
+];
+
+/// The length of one.
+const CANCEL: usize = 9;
+
+// An end with a full queue, whose first piece is drawn.
+fn full<R: Abort + Wait>(rt: &R, alloc: Global) -> End {
+    let link = link(rt, alloc, CANCELS, After::Lulls, 1, 0);
+    let mut end = End::new(rt, alloc, 1, link, 0);
+    assert!(rt; end.ask(rt, alloc, FIRST) == Answer::Started(1));
+    assert!(rt; end.ask(rt, alloc, SECOND) == Answer::Started(3));
+    end.turn(rt);
+    assert!(rt; end.left() == PIECE - 1);
+    assert!(rt; end.ask(rt, alloc, AGAIN) == Answer::Started(5));
+    end
+}
+
+// The first frame waits, and no byte is taken after it.
+fn flood<R: Abort + Wait>(rt: &R, alloc: Global) {
+    let mut end = full(rt, alloc);
+    for _ in 2..CANCEL {
+        compare(rt, end.turn(rt), Turned::Moved { given: 1, taken: 1 });
+    }
+    for _ in 0..100 {
+        compare(rt, end.turn(rt), Turned::Busy(OUT_ROOM));
+        assert!(rt; end.taken() == CANCEL);
+    }
+}
+
+#[test]
+fn nothing_is_taken_while_a_frame_waits(rt: HostRuntime) {
+    flood(&rt, rt.alloc());
+}
