@@ -19,12 +19,13 @@ use Rattle.session_core.specs.Seen.{IsOrOutOfMemory, entries_after}
 use Rattle.handlers.specs.Listed.{Listed}
 use Rattle.conn_lock.specs.Callers.{IsOthers, once, times}
 use Rattle.conn_shared.specs.Lines.{who_of}
-use Rattle.conn_shared.specs.Members.{Continues, Knowledge}
+use Rattle.conn_shared.specs.Members.{Knowledge}
 use Rattle.conn_shared.specs.Calls.{IsCalled}
-use Rattle.workers.specs.Courses.{GoesOn, IsWorkersCall, accepted, accepted_of, after_call, course, is_done, is_named}
+use Rattle.workers.specs.Causes.{IsRight, WasAnswered}
+use Rattle.workers.specs.Courses.{GoesOn, HasSent, IsWorkersCall, accepted, accepted_of, after_call, bytes_of_all, course, is_done, is_named}
 use Rattle.workers.specs.Serving.{IsServed, Serving}
 use Rattle.workers.proofs.Fronts.{IsOwn}
-use Rattle.workers.specs.Going.{IsRight, MayAnswer, WasAnswered, told}
+use Rattle.workers.specs.Going.{MayAnswer, told}
 
 -- ---- entries of others
 
@@ -35,7 +36,7 @@ not_above : (n : ℕ) → (0 < n → ⊥) → nat_lt 0 n ≡ false
 not_above zero none = refl
 not_above (suc n) none = absurd (none (omega arith))
 
-not_mine : (names : List ℕ) (x : Entry) (others : List Entry) → IsOthers who_of names (x ∷ others) → 0 < times x.who names → ⊥
+pub not_mine : (names : List ℕ) (x : Entry) (others : List Entry) → IsOthers who_of names (x ∷ others) → 0 < times x.who names → ⊥
 not_mine names x others none named = let o = once_same x.who in let n = none x.who named in omega arith
 
 unnamed : (names : List ℕ) (x : Entry) (others : List Entry) → IsOthers who_of names (x ∷ others) → is_named names x.who ≡ false
@@ -123,21 +124,41 @@ goes_call g me asked a new named c = by (leaves a) refl c.step.after
       count = ap length (none ∙ sym (unaccepted asked a is));
     }
 
+-- the replies that a call adds are those that were accepted
+pub sent_call : (g : Settings) (me : Knowledge) (asked : Call) (a : Answer) (new : List Entry) → 0 < times me.number me.names → IsCalled g me (event.Asked asked) a new
+    → HasSent me.names me.front new (bytes_of_all (accepted_of asked a))
+sent_call g me asked a new named c = by (leaves a) refl c.step.after
+  where
+    same : bytes_of_all (accepted_of asked a) ≤ bytes_of_all (accepted_of asked a)
+    same = omega arith
+
+    none : accepted me.names c.follows.0 ≡ []
+    none = accepted_others me.names c.follows.0 c.follows.2
+
+    by : (b : Bool) → leaves a ≡ b → new ≡ (if b then entry_of me.number (event.Asked asked) a ∷ c.before else c.before) → HasSent me.names me.front new (bytes_of_all (accepted_of asked a))
+    by true is after = record {
+      more = entry_of me.number (event.Asked asked) a ∷ c.follows.0;
+      on = after ∙ ap (λ es. entry_of me.number (event.Asked asked) a ∷ es) c.follows.1;
+      sent = subst (λ n. bytes_of_all (accepted_of asked a) ≤ n)
+          (sym (ap bytes_of_all (accepted_own me.names me.number asked a c.follows.0 named ∙ (ap (λ cs. accepted_of asked a ++ cs) none ∙ append-nil (accepted_of asked a))))) same;
+    }
+    by false is after = record {
+      more = c.follows.0;
+      on = after ∙ c.follows.1;
+      sent = subst (λ n. bytes_of_all (accepted_of asked a) ≤ n) (sym (ap bytes_of_all (none ∙ sym (unaccepted asked a is)))) same;
+    }
+
 -- ---- what was answered
 
-pub was_answered : (g : Settings) (me : Knowledge) (asked : Call) (a : Answer) (new : List Entry) → IsCalled g me (event.Asked asked) a new → WasAnswered g me.front new asked a
+pub was_answered : (g : Settings) (me : Knowledge) (asked : Call) (a : Answer) (new : List Entry) → IsCalled g me (event.Asked asked) a new → WasAnswered g me.number me.front new asked a
 unfolding IsRight
 was_answered g me asked a new c = record {
   before = c.before;
   since = (c.follows.0, c.follows.1);
-  up_to = by (leaves a) c.step.after;
+  up_to = ([], c.step.after);
   answered = c.step.answered;
   full = c.step.full;
 }
-  where
-    by : (b : Bool) → new ≡ (if b then entry_of me.number (event.Asked asked) a ∷ c.before else c.before) → Continues c.before new
-    by true after = (entry_of me.number (event.Asked asked) a ∷ [], after)
-    by false after = ([], after)
 
 -- ---- the answers of a worker's calls
 

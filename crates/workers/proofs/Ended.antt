@@ -24,26 +24,20 @@ use Rattle.workers.specs.declared.worked.Progress.TheVariants as progress
 use Rattle.workers.specs.Replies.{item_of, items_of, law_of}
 use Rattle.workers.specs.Courses.{IsReplyOn, after_reply, course}
 use Rattle.workers.specs.Serving.{IsServed, Serving, Stands, jobs_on}
-use Rattle.workers.specs.Going.{HasGone, IsEnded, IsLastStep, IsOver, IsPushed, IsSameJob, IsSettled, IsWholeOf, Keeps, WasAnswered, WentAt, WholeOfProgress, WholeOfStep, found_of, outcome_of, plan_of, progress_of, told}
+use Rattle.workers.specs.Causes.{IsOver, IsPushed, WasAnswered, WasHad, WentAt, WholeOfProgress}
+use Rattle.workers.specs.Going.{HasGone, IsAccepted, IsEnded, IsSameJob, IsSettled, IsWholeOf, Keeps, WholeOfStep, found_of, outcome_of, plan_of, progress_of, told}
 use Rattle.workers.proofs.Fronts.{answered_between}
-use Rattle.workers.proofs.Gone.{IsOn}
+use Rattle.workers.proofs.Gone.{IsOn, accepted_done}
 use Rattle.workers.proofs.Items.{stands_items}
-use Rattle.workers.proofs.Jobs.{alone, jobs-append, jobs_here}
+use Rattle.workers.proofs.Jobs.{left_job}
 use Rattle.workers.proofs.Plans.{after_said}
-use Rattle.workers.proofs.Served.{at_place}
+use Rattle.workers.proofs.Served.{at_place, left_stream, went_stood}
+use Rattle.std.specs.Prelude.{Option}
 use Rattle.workers.proofs.Standing.{whole_last, whole_unsaid}
 
 -- ---- one step
 
-accepted_done : (a : Answer) → outcome_of a ≡ outcome.Accepted → a ≡ answer.Done
-accepted_done answer.Done h = refl
-accepted_done (answer.Refused (refusal.NoCredit granted)) h = absurd (cc)
-accepted_done (answer.Refused (refusal.OutFull queued)) h = absurd (cc)
-accepted_done answer.NotYet h = absurd (cc)
-accepted_done answer.OutOfMemory h = absurd (cc)
-accepted_done _ h = absurd (cc)
-
-pub whole_said : (names : List ℕ) (routes : List Listed) (old new : List Entry) (j : OpenJob) (asked : Call) (last : Bool) (a : Answer) (result : Step) → IsLastStep asked j.made last result → outcome_of a ≡ outcome.Accepted
+pub whole_said : (names : List ℕ) (routes : List Listed) (old new : List Entry) (j : OpenJob) (asked : Call) (last : Bool) (a : Answer) (result : Step) → IsAccepted asked j.made last result → outcome_of a ≡ outcome.Accepted
     → IsReplyOn j.stream asked → ((s : ℕ) → course names s new ≡ told s asked a (course names s old)) → plan_of (law_of routes j.kind j.message) j ≡ plan.Say asked last → WholeOfStep names routes old new j result
 whole_said names routes old new j asked last a (step.Served items) end is on tells plans = λ stands.
     let before = course names j.stream old in
@@ -69,43 +63,47 @@ whole_after was mid now routes i j items on same h k = λ stands.
 
 over_job : (names : List ℕ) (routes : List Listed) (old new : List Entry) (before after : List OpenJob) (j : OpenJob) (items : ℕ) → IsEnded names routes old new j items → Serving names old routes (before ++ j ∷ after)
     → IsOver names routes new (before ++ after) items j.stream
-over_job names routes old new before after j items ends serving =
-    let s = j.stream in
-    let all : jobs_on s (before ++ j ∷ after) ≡ jobs_on s before ++ j ∷ jobs_on s after = jobs-append s before (j ∷ after) ∙ ap (λ js. jobs_on s before ++ js) (jobs_here s j after refl) in
-    let only = alone routes (length old) s (course names s old) (jobs_on s before) (jobs_on s after) j (subst (IsServed routes (length old) s (course names s old)) all (serving s)) in
-    (jobs-append s before after ∙ (ap (λ js. js ++ jobs_on s after) only.0 ∙ only.1), ends only.2)
+over_job names routes old new before after j items ends serving = let left = left_job names routes old before after j serving in (left.0, ends left.1)
 
-pub went_whole : (names : List ℕ) (routes : List Listed) (number : ℕ) (g : Settings) (old new : List Entry) (place : ℕ) (was mid now : List OpenJob) (how : Going) (x : OpenJob) → x ≡ get_or was place x
-    → WentAt names routes number g old new place was mid how → IsSettled place how mid now → WholeOfProgress g names routes old new was now (progress_of x.stream how)
-went_whole names routes number g old new place was mid now (going.Served items) x is w settled = inl (λ serving.
-    let same : x ≡ w.job = at_place w.before w.after place was w.job x w.were w.at is in
-    subst (IsOver names routes new now items) (sym (ap (λ (j : OpenJob). j.stream) same))
-    (subst (λ js. IsOver names routes new js items w.job.stream) (sym (settled w.before w.after w.left w.are w.at))
-    (over_job names routes old new w.before w.after w.job items w.whole (subst (Serving names old routes) w.were serving))))
-went_whole names routes number g old new place was mid now going.Blocked x is w settled = tt
-went_whole names routes number g old new place was mid now going.More x is w settled = tt
-went_whole names routes number g old new place was mid now (going.Stopped a) x is w settled = tt
-went_whole names routes number g old new place was mid now going.OutOfMemory x is w settled = tt
+pub went_whole : (names : List ℕ) (routes : List Listed) (number : ℕ) (g : Settings) (most : Option ℕ) (old new : List Entry) (place : ℕ) (was mid now : List OpenJob) (how : Going) (x : OpenJob) → x ≡ get_or was place x
+    → WentAt names routes number g most old new place was mid how → IsSettled place how mid now → WholeOfProgress g routes names number old new was now (progress_of x.stream how)
+went_whole names routes number g most old new place was mid now (going.Served items) x is w settled = inl (record {
+  job = w.left;
+  stream = left_stream names routes number g most old new place was mid (going.Served items) x is w;
+  had = inl (went_stood names routes number g most old new place was mid (going.Served items) w);
+  over = λ serving.
+      let same : x ≡ w.job = at_place w.before w.after place was w.job x w.were w.at is in
+      subst (IsOver names routes new now items) (sym (ap (λ (j : OpenJob). j.stream) same))
+      (subst (λ js. IsOver names routes new js items w.job.stream) (sym (settled w.before w.after w.left w.are w.at))
+      (over_job names routes old new w.before w.after w.job items w.whole (subst (Serving names old routes) w.were serving)));
+})
+went_whole names routes number g most old new place was mid now going.Blocked x is w settled = tt
+went_whole names routes number g most old new place was mid now going.More x is w settled = tt
+went_whole names routes number g most old new place was mid now (going.Stopped a) x is w settled = tt
+went_whole names routes number g most old new place was mid now going.OutOfMemory x is w settled = tt
 
 -- ---- one after the other
 
-whole_through : (g : Settings) (names : List ℕ) (routes : List Listed) (a b c : List Entry) (was mid now : List OpenJob) (p : Progress) → Continues a b → Keeps names routes a b was mid
-    → WholeOfProgress g names routes b c mid now p → WholeOfProgress g names routes a c was now p
-whole_through g names routes a b c was mid now (progress.Worked (worked.Served s items)) later keeps (inl over) = inl (λ serving. over (keeps serving))
-whole_through g names routes a b c was mid now (progress.Worked (worked.Served s items)) later keeps (inr pushed) =
-    inr (pushed.0, pushed.1, (pushed.2.0, answered_between g a b c c call.TakeJob _ later ([], refl) pushed.2.1))
-whole_through g names routes a b c was mid now (progress.More s) later keeps said = tt
-whole_through g names routes a b c was mid now (progress.Worked (worked.Waiting s)) later keeps said = tt
-whole_through g names routes a b c was mid now (progress.Worked (worked.Stopped r)) later keeps said = tt
-whole_through g names routes a b c was mid now (progress.Worked (worked.NoMore r)) later keeps said = tt
-whole_through g names routes a b c was mid now (progress.Worked worked.Idle) later keeps said = tt
-whole_through g names routes a b c was mid now (progress.Worked worked.OutOfMemory) later keeps said = tt
+whole_through : (g : Settings) (routes : List Listed) (names : List ℕ) (number : ℕ) (a b c : List Entry) (was mid now : List OpenJob) (p : Progress) → Continues a b → Keeps names routes a b was mid
+    → ((x : OpenJob) → WasHad g number b c mid x → WasHad g number a c was x) → WholeOfProgress g routes names number b c mid now p → WholeOfProgress g routes names number a c was now p
+whole_through g routes names number a b c was mid now (progress.Worked (worked.Served s items)) later keeps had (inl k) =
+    inl (record { job = k.job; stream = k.stream; had = had k.job k.had; over = λ serving. k.over (keeps serving) })
+whole_through g routes names number a b c was mid now (progress.Worked (worked.Served s items)) later keeps had (inr pushed) =
+    inr (pushed.0, pushed.1, (pushed.2.0, answered_between g number a b c c call.TakeJob _ later ([], refl) pushed.2.1))
+whole_through g routes names number a b c was mid now (progress.More s) later keeps had said = tt
+whole_through g routes names number a b c was mid now (progress.Worked (worked.Waiting s)) later keeps had said = tt
+whole_through g routes names number a b c was mid now (progress.Worked (worked.Stopped r)) later keeps had said = tt
+whole_through g routes names number a b c was mid now (progress.Worked (worked.NoMore r)) later keeps had said = tt
+whole_through g routes names number a b c was mid now (progress.Worked worked.Idle) later keeps had said = tt
+whole_through g routes names number a b c was mid now (progress.Worked worked.OutOfMemory) later keeps had said = tt
 
 pub whole_since : (g : Settings) (a b c : Knowledge) (routes : List Listed) (was mid now : List OpenJob) (p : Progress) → IsOn a b → Continues a.front b.front → Keeps a.names routes a.front b.front was mid
-    → WholeOfProgress g b.names routes b.front c.front mid now p → WholeOfProgress g a.names routes a.front c.front was now p
-whole_since g a b c routes was mid now p on later keeps said =
-    whole_through g a.names routes a.front b.front c.front was mid now p later keeps
-    (subst (λ names. WholeOfProgress g names routes b.front c.front mid now p) (ap (λ (x : Knowledge). x.names) on) said)
+    → ((x : OpenJob) → WasHad g a.number b.front c.front mid x → WasHad g a.number a.front c.front was x) → WholeOfProgress g routes b.names b.number b.front c.front mid now p
+    → WholeOfProgress g routes a.names a.number a.front c.front was now p
+whole_since g a b c routes was mid now p on later keeps had said =
+    whole_through g routes a.names a.number a.front b.front c.front was mid now p later keeps had
+    (subst (λ n. WholeOfProgress g routes a.names n b.front c.front mid now p) (ap (λ (x : Knowledge). x.number) on)
+    (subst (λ names. WholeOfProgress g routes names b.number b.front c.front mid now p) (ap (λ (x : Knowledge). x.names) on) said))
 
 -- ---- pushed metadata
 
@@ -116,5 +114,5 @@ pushed_answer answer.NotYet h = absurd (cc)
 pushed_answer answer.OutOfMemory h = absurd (cc)
 pushed_answer _ h = absurd (cc)
 
-pub was_pushed : (g : Settings) (old new : List Entry) (a : Answer) → found_of a ≡ found.Pushed → WasAnswered g old new call.TakeJob a → IsPushed g old new
-was_pushed g old new a is was = let p = pushed_answer a is in (p.0, subst (WasAnswered g old new call.TakeJob) p.1 was)
+pub was_pushed : (g : Settings) (number : ℕ) (old new : List Entry) (a : Answer) → found_of a ≡ found.Pushed → WasAnswered g number old new call.TakeJob a → IsPushed g number old new
+was_pushed g number old new a is was = let p = pushed_answer a is in (p.0, subst (WasAnswered g number old new call.TakeJob) p.1 was)

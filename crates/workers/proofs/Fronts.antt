@@ -12,10 +12,12 @@ use Rattle.tape.specs.declared.answer.Answer.{Answer}
 use Rattle.tape.specs.declared.entry.Entry.{Entry}
 use Rattle.conn_lock.specs.Callers.{times}
 use Rattle.conn_shared.specs.Members.{Continues}
-use Rattle.workers.specs.declared.going.Going.{Going}
-use Rattle.workers.specs.declared.going.Going.TheVariants as going
-use Rattle.workers.specs.Courses.{Asks, GoesOn, IsOfJob, IsReplyOn, IsWorkersCall, WorksOn, accepted, accepted_in, accepted_of, is_done, is_named}
-use Rattle.workers.specs.Going.{CauseOf, IsHindered, IsStoppedBy, WasAnswered}
+use Rattle.session_core.specs.Seen.{entries_after}
+use Rattle.std.specs.Prelude.{Option, Some, None, IfSome}
+use Rattle.handlers.specs.Listed.{Listed}
+use Rattle.workers.specs.declared.job.OpenJob.{OpenJob}
+use Rattle.workers.specs.Causes.{IsHindered, IsStoppedBy, IsWaiting, WasAnswered, WasGot, WasTried}
+use Rattle.workers.specs.Courses.{Asks, GoesOn, HasSent, HasSentMost, IsOfJob, IsReplyOn, IsWorkersCall, WorksOn, accepted, accepted_in, accepted_of, bytes_of_all, is_done, is_named}
 
 -- ---- which entries are added
 
@@ -23,7 +25,7 @@ module _ (P : Call → Type 0) (names : List ℕ) (number : ℕ) where
   abbrev pub IsOwn : Entry → Type 0
   IsOwn e = 0 < times e.who names → (e.who ≡ number) × Asks P e.event
 
-all_append : {X : Type 0} (P : X → Type 0) (xs ys : List X) → AllByRecursion P xs → AllByRecursion P ys → AllByRecursion P (xs ++ ys)
+pub all_append : {X : Type 0} (P : X → Type 0) (xs ys : List X) → AllByRecursion P xs → AllByRecursion P ys → AllByRecursion P (xs ++ ys)
 all_append P [] ys h k = k
 all_append P (x ∷ xs) ys h k = (h.0, all_append P xs ys h.1 k)
 
@@ -112,7 +114,7 @@ on_stream s (event.Came conn frame) a h = absurd h
 on_stream s (event.Bad conn rule) a h = absurd h
 on_stream s (event.Tick now) a h = absurd h
 
-named_above : (names : List ℕ) (n : ℕ) → is_named names n ≡ true → 0 < times n names
+pub named_above : (names : List ℕ) (n : ℕ) → is_named names n ≡ true → 0 < times n names
 named_above names n is = grind (arith, nat_tests)
 
 all_on : (s : ℕ) (names : List ℕ) (number : ℕ) (more : List Entry) → AllByRecursion (IsOwn (IsOfJob s) names number) more → AllByRecursion (IsReplyOn s) (accepted names more)
@@ -169,22 +171,61 @@ works_after names number a b c h k = record {
 pub later_both : (a b c : List Entry) → Continues a b → Continues b c → Continues a c
 later_both a b c h k = (k.0 ++ h.0, k.1 ∙ (ap (λ es. k.0 ++ es) h.1 ∙ sym (append_assoc k.0 h.0 a)))
 
-pub answered_between : (g : Settings) (a b c d : List Entry) (asked : Call) (r : Answer) → Continues a b → Continues c d → WasAnswered g b c asked r → WasAnswered g a d asked r
-answered_between g a b c d asked r h k w = record {
+pub answered_between : (g : Settings) (number : ℕ) (a b c d : List Entry) (asked : Call) (r : Answer) → Continues a b → Continues c d → WasAnswered g number b c asked r → WasAnswered g number a d asked r
+answered_between g number a b c d asked r h k w = record {
   before = w.before;
   since = later_both a b w.before h w.since;
-  up_to = later_both w.before c d w.up_to k;
+  up_to = later_both (entries_after number (event.Asked asked) r w.before) c d w.up_to k;
   answered = w.answered;
   full = w.full;
 }
 
-pub hindered_between : (g : Settings) (a b c d : List Entry) (s : ℕ) → Continues a b → Continues c d → IsHindered g b c s → IsHindered g a d s
-hindered_between g a b c d s h k w = record { asked = w.asked; met = w.met; on = w.on; hindered = w.hindered; was = answered_between g a b c d w.asked w.met h k w.was }
+tried_between : (g : Settings) (routes : List Listed) (number : ℕ) (a b c d : List Entry) (j : OpenJob) (asked : Call) (r : Answer) → Continues a b → Continues c d
+    → WasTried g routes number b c j asked r → WasTried g routes number a d j asked r
+tried_between g routes number a b c d j asked r h k w = record { next = w.next; was = answered_between g number a b c d asked r h k w.was }
 
-pub stopped_between : (g : Settings) (a b c d : List Entry) (s : ℕ) (r : Answer) → Continues a b → Continues c d → IsStoppedBy g b c s r → IsStoppedBy g a d s r
-stopped_between g a b c d s r h k w = record { asked = w.asked; on = w.on; stopped = w.stopped; was = answered_between g a b c d w.asked r h k w.was }
+pub hindered_between : (g : Settings) (routes : List Listed) (number : ℕ) (a b c d : List Entry) (j : OpenJob) → Continues a b → Continues c d → IsHindered g routes number b c j → IsHindered g routes number a d j
+hindered_between g routes number a b c d j h k w = record { asked = w.asked; met = w.met; hindered = w.hindered; tried = tried_between g routes number a b c d j w.asked w.met h k w.tried }
 
-pub cause_since : (g : Settings) (a b c : List Entry) (s : ℕ) (how : Going) → Continues a b → CauseOf g b c s how → CauseOf g a c s how
-cause_since g a b c s going.Blocked h w = hindered_between g a b c c s h ([], refl) w
-cause_since g a b c s (going.Stopped r) h w = stopped_between g a b c c s r h ([], refl) w
-cause_since g a b c s _ h w = w
+pub waiting_since : (g : Settings) (routes : List Listed) (names : List ℕ) (number : ℕ) (a b c : List Entry) (j : OpenJob) → Continues a b → IsWaiting g routes names number b c j → IsWaiting g routes names number a c j
+unfolding hindered_between
+waiting_since g routes names number a b c j h w = record { met = hindered_between g routes number a b c c j h ([], refl) w.met; last = w.last }
+
+pub stopped_since : (g : Settings) (routes : List Listed) (names : List ℕ) (number : ℕ) (a b c : List Entry) (j : OpenJob) (r : Answer) → Continues a b
+    → IsStoppedBy g routes names number b c j r → IsStoppedBy g routes names number a c j r
+stopped_since g routes names number a b c j r h w = record { asked = w.asked; tried = tried_between g routes number a b c c j w.asked r h ([], refl) w.tried; last = w.last; final = w.final }
+
+pub got_since : (g : Settings) (number : ℕ) (a b c : List Entry) (j : OpenJob) → Continues a b → WasGot g number b c j → WasGot g number a c j
+got_since g number a b c j h w = record { initial = w.initial; complete = w.complete; got = answered_between g number a b c c call.TakeJob _ h ([], refl) w.got }
+
+-- ---- the bytes of replies
+
+bytes-append : (xs ys : List Call) → bytes_of_all (xs ++ ys) ≡ bytes_of_all xs + bytes_of_all ys
+bytes-append [] ys = omega arith
+bytes-append (x ∷ xs) ys = let rest = bytes-append xs ys in omega arith
+
+pub sent_none : (names : List ℕ) (a : List Entry) → HasSent names a a 0
+sent_none names a = record { more = []; on = refl; sent = omega arith }
+
+pub sent_both : (names : List ℕ) (a b c : List Entry) (m n : ℕ) → HasSent names a b m → HasSent names b c n → HasSent names a c (m + n)
+sent_both names a b c m n h k = record {
+  more = k.more ++ h.more;
+  on = k.on ∙ (ap (λ es. k.more ++ es) h.on ∙ sym (append_assoc k.more h.more a));
+  sent = (let l : bytes_of_all (accepted names (k.more ++ h.more)) ≡ bytes_of_all (accepted names k.more) + bytes_of_all (accepted names h.more) =
+      ap bytes_of_all (accepted-append names k.more h.more) ∙ bytes-append (accepted names k.more) (accepted names h.more) in let x = h.sent in let y = k.sent in omega arith);
+}
+
+pub sent_less : (names : List ℕ) (a b : List Entry) (m n : ℕ) → m ≤ n → HasSent names a b n → HasSent names a b m
+sent_less names a b m n le h = record { more = h.more; on = h.on; sent = (let s = h.sent in omega arith) }
+
+pub sent_since : (names : List ℕ) (a b c : List Entry) (n : ℕ) → Continues a b → HasSent names b c n → HasSent names a c n
+sent_since names a b c n h k = sent_less names a c n (0 + n) (omega arith) (sent_both names a b c 0 n (record { more = h.0; on = h.1; sent = omega arith }) k)
+
+pub most_since : (names : List ℕ) (most : Option ℕ) (a b c : List Entry) → Continues a b → HasSentMost names most b c → HasSentMost names most a c
+most_since names None a b c h k = absurd k
+most_since names (Some most) a b c h k = sent_since names a b c most h k
+
+-- where so many bytes are enough
+pub enough_sent : (names : List ℕ) (most : Option ℕ) (a b : List Entry) (n : ℕ) → (most ≡ None → ⊥) → IfSome most (λ m. m ≤ n) → HasSent names a b n → HasSentMost names most a b
+enough_sent names None a b n some le h = absurd (some refl)
+enough_sent names (Some most) a b n some le h = sent_less names a b most n le h

@@ -1,6 +1,6 @@
 -- How a job went on, by one call or by several.
-use Rattle.std.proofs.Common.{◌≡◌, ◌≤◌, ◌+◌, ◌∙◌, ℕ, Bool, true, false, if◌then◌else◌, List, [], ◌∷◌, length, refl, sym, ap, subst, arith}
-use Rattle.std.specs.Prelude.{◌^◌}
+use Rattle.std.proofs.Common.{◌≡◌, ◌≤◌, ◌+◌, ◌∙◌, ℕ, Bool, true, false, if◌then◌else◌, List, [], ◌∷◌, length, inl, inr, refl, sym, ap, subst, arith}
+use Rattle.std.specs.Prelude.{Some, ◌^◌}
 use Rattle.rs_wire.specs.declared.call.Call.{Call}
 use Rattle.rs_wire.specs.declared.call.Call.TheVariants as call
 use Rattle.rs_wire.specs.declared.delivery.Delivery.{Delivery}
@@ -19,12 +19,15 @@ use Rattle.workers.specs.declared.outcome.Outcome.TheVariants as outcome
 use Rattle.workers.specs.declared.outcome.Taken.{Taken}
 use Rattle.workers.specs.declared.outcome.Taken.TheVariants as taken
 use Rattle.workers.specs.Replies.{law_of}
-use Rattle.workers.specs.Courses.{Course, GoesOn, IsOfJob, IsReplyOn, accepted_of, is_done, after_call, after_take, course}
+use Rattle.workers.specs.declared.step.Step.{Step}
+use Rattle.workers.specs.declared.step.Step.TheVariants as step
+use Rattle.workers.specs.Causes.{CauseOfStep, IsForGood, IsHindrance, IsLast, IsStoppedBy, IsWaiting, WasAnswered}
+use Rattle.workers.specs.Courses.{Course, GoesOn, HasSent, IsOfJob, IsReplyOn, accepted_of, bytes_of, bytes_of_all, is_done, after_call, after_take, course}
 use Rattle.workers.specs.Serving.{IsServed, Stands}
-use Rattle.workers.specs.Going.{Awaits, HasGone, HasWorked, IsHindered, IsHindrance, IsStoppedBy, WasAnswered, IsOfReply, IsOfTake, IsSameJob, MayAnswer, left_after, left_with, outcome_of, plan_of, taken_of, told}
+use Rattle.workers.specs.Going.{Awaits, HasGone, HasWorked, IsAccepted, IsOfReply, IsOfTake, IsSameJob, MayAnswer, left_after, left_with, outcome_of, plan_of, taken_of, told}
 use Rattle.rs_wire.specs.declared.settings.Settings.{Settings}
 use Rattle.conn_shared.specs.Members.{Continues, Knowledge}
-use Rattle.workers.proofs.Fronts.{goes_both, goes_later, goes_longer, goes_none, goes_weaker, hindered_between, stopped_between}
+use Rattle.workers.proofs.Fronts.{goes_both, goes_later, goes_longer, goes_none, goes_weaker, sent_both, sent_less, stopped_since, waiting_since}
 use Rattle.workers.proofs.Plans.{after_apart, after_said, other_test, same_test}
 use Rattle.workers.proofs.Standing.{full_for_good, nothing_said, said_for_good, said_in_vain, said_last, said_more, skipped, took_end, took_in_vain, took_item, took_no_more}
 
@@ -251,17 +254,75 @@ blocked_hinders (answer.Refused (refusal.OutFull queued)) h = tt
 blocked_hinders answer.NotYet h = tt
 blocked_hinders _ h = absurd (cc)
 
-final_stops : (a : Answer) → outcome_of a ≡ outcome.Final → IsHindrance a → ⊥
-final_stops (answer.Refused (refusal.NoCredit granted)) h = absurd (cc)
-final_stops (answer.Refused (refusal.OutFull queued)) h = absurd (cc)
-final_stops answer.NotYet h = absurd (cc)
-final_stops _ h = λ never. never
+final_for_good : (a : Answer) → outcome_of a ≡ outcome.Final → IsOfReply a → IsForGood a
+final_for_good (answer.Refused (refusal.NoCredit granted)) h of = absurd (cc)
+final_for_good (answer.Refused (refusal.OutFull queued)) h of = absurd (cc)
+final_for_good (answer.Refused why) h of = tt
+final_for_good answer.TapeFull h of = tt
+final_for_good answer.Done h of = absurd (cc)
+final_for_good answer.OutOfMemory h of = absurd (cc)
+final_for_good _ h of = absurd of
 
-pub hindered_reply : (g : Settings) (old new : List Entry) (s : ℕ) (asked : Call) (a : Answer) → IsReplyOn s asked → outcome_of a ≡ outcome.Blocked → WasAnswered g old new asked a → IsHindered g old new s
-hindered_reply g old new s asked a on is was = record { asked = asked; met = a; on = is_of_job s asked on; hindered = blocked_hinders a is; was = was }
+-- the last call on a stream, where it left an entry
+last_told : (s : ℕ) (asked : Call) (a : Answer) (c d : Course) → d ≡ told s asked a c → leaves a ≡ true → (after_call s asked a c).last ≡ Some (asked, a) → d.last ≡ Some (asked, a)
+last_told s asked a c d is left last = ap (λ (x : Course). x.last) (is ∙ ap (λ b. if b then after_call s asked a c else c) left) ∙ last
 
-pub stopped_reply : (g : Settings) (old new : List Entry) (s : ℕ) (asked : Call) (a : Answer) → IsReplyOn s asked → outcome_of a ≡ outcome.Final → MayAnswer asked a → WasAnswered g old new asked a → IsStoppedBy g old new s a
-stopped_reply g old new s asked a on is may was = record { asked = asked; on = is_of_job s asked on; stopped = (final_stops a is, may); was = was }
+reply_last : (names : List ℕ) (old new : List Entry) (j : OpenJob) (asked : Call) (a : Answer) → IsReplyOn j.stream asked → ((s : ℕ) → course names s new ≡ told s asked a (course names s old)) → IsLast names new j asked a
+reply_last names old new j asked a on tells = λ left.
+    last_told j.stream asked a (course names j.stream old) (course names j.stream new) (tells j.stream) left (ap (λ (x : Course). x.last) (after_said j.stream asked a (course names j.stream old) on))
+
+take_last : (names : List ℕ) (old new : List Entry) (j : OpenJob) (a : Answer) → ((s : ℕ) → course names s new ≡ told s (call.Take j.stream) a (course names s old)) → IsLast names new j (call.Take j.stream) a
+take_last names old new j a tells = λ left.
+    last_told j.stream (call.Take j.stream) a (course names j.stream old) (course names j.stream new) (tells j.stream) left (ap (λ (x : Course). x.last) (take_here j.stream a (course names j.stream old)))
+
+pub waiting_reply : (g : Settings) (routes : List Listed) (names : List ℕ) (number : ℕ) (old new : List Entry) (j : OpenJob) (asked : Call) (ends : Bool) (a : Answer) → outcome_of a ≡ outcome.Blocked → IsReplyOn j.stream asked
+    → ((s : ℕ) → course names s new ≡ told s asked a (course names s old)) → WasAnswered g number old new asked a → plan_of (law_of routes j.kind j.message) j ≡ plan.Say asked ends
+    → IsWaiting g routes names number old new j
+waiting_reply g routes names number old new j asked ends a is on tells was plans = record {
+  met = record { asked = asked; met = a; hindered = blocked_hinders a is; tried = record { next = inl (ends, plans); was = was } };
+  last = reply_last names old new j asked a on tells;
+}
+
+pub stopped_reply : (g : Settings) (routes : List Listed) (names : List ℕ) (number : ℕ) (old new : List Entry) (j : OpenJob) (asked : Call) (ends : Bool) (a : Answer) → outcome_of a ≡ outcome.Final → IsReplyOn j.stream asked
+    → MayAnswer asked a → ((s : ℕ) → course names s new ≡ told s asked a (course names s old)) → WasAnswered g number old new asked a → plan_of (law_of routes j.kind j.message) j ≡ plan.Say asked ends
+    → IsStoppedBy g routes names number old new j a
+stopped_reply g routes names number old new j asked ends a is on may tells was plans = record {
+  asked = asked;
+  tried = record { next = inl (ends, plans); was = was };
+  last = reply_last names old new j asked a on tells;
+  final = final_for_good a is (reply_only j.stream asked a on may);
+}
+
+done_bytes : (s : ℕ) (asked : Call) → IsReplyOn s asked → bytes_of_all (accepted_of asked answer.Done) ≡ bytes_of asked
+done_bytes s (call.Next q message complete) on = let n : length message.content + 0 ≡ length message.content = omega arith in n
+done_bytes s (call.Done q) on = refl
+done_bytes s (call.Fail q code content) on = refl
+done_bytes s (call.Take q) on = absurd on
+done_bytes s call.TakeJob on = absurd on
+done_bytes s (call.Request k initial message complete) on = absurd on
+done_bytes s (call.Grant q n) on = absurd on
+done_bytes s (call.Cancel q) on = absurd on
+done_bytes s (call.Push metadata) on = absurd on
+done_bytes s (call.Lease ttl count metadata) on = absurd on
+done_bytes s call.Close on = absurd on
+
+pub accepted_done : (a : Answer) → outcome_of a ≡ outcome.Accepted → a ≡ answer.Done
+accepted_done answer.Done h = refl
+accepted_done (answer.Refused (refusal.NoCredit granted)) h = absurd (cc)
+accepted_done (answer.Refused (refusal.OutFull queued)) h = absurd (cc)
+accepted_done answer.NotYet h = absurd (cc)
+accepted_done answer.OutOfMemory h = absurd (cc)
+accepted_done _ h = absurd (cc)
+
+-- a reply was accepted
+pub went_reply : (g : Settings) (routes : List Listed) (names : List ℕ) (number : ℕ) (old new : List Entry) (j : OpenJob) (s : ℕ) (asked : Call) (before : ℕ) (ends : Bool) (a : Answer) (result : Step) → outcome_of a ≡ outcome.Accepted
+    → IsReplyOn s asked → HasSent names old new (bytes_of_all (accepted_of asked a)) → IsAccepted asked before ends result → CauseOfStep g routes names number old new j result
+went_reply g routes names number old new j s asked before ends a (step.Went bytes) is on sent so =
+    subst (HasSent names old new) (ap (λ b. bytes_of_all (accepted_of asked b)) (accepted_done a is) ∙ (done_bytes s asked on ∙ sym so)) sent
+went_reply g routes names number old new j s asked before ends a (step.Served items) is on sent so = tt
+went_reply g routes names number old new j s asked before ends a step.Blocked is on sent so = absurd so
+went_reply g routes names number old new j s asked before ends a (step.Stopped r) is on sent so = absurd so
+went_reply g routes names number old new j s asked before ends a step.OutOfMemory is on sent so = tt
 
 got_blocks_not : (d : Delivery) → taken_of (answer.Got d) ≡ taken.Blocked → ⊥
 got_blocks_not (delivery.Item message) h = absurd (cc)
@@ -277,28 +338,40 @@ blocked_take (answer.Got d) h = absurd (got_blocks_not d h)
 blocked_take _ h = absurd (cc)
 
 -- a Take that was refused for good
-final_take : (a b : Answer) → taken_of a ≡ taken.Final b → (a ≡ b) × (IsHindrance a → ⊥)
-final_take (answer.Refused (refusal.NoCredit granted)) b h = absurd (cc)
-final_take (answer.Refused (refusal.OutFull queued)) b h = absurd (cc)
-final_take (answer.Refused refusal.Ended) b h = absurd (cc)
-final_take (answer.Got d) b h = absurd (never d h)
+final_take : (a b : Answer) → taken_of a ≡ taken.Final b → IsOfTake a → (a ≡ b) × IsForGood a
+final_take (answer.Refused (refusal.NoCredit granted)) b h of = absurd (cc)
+final_take (answer.Refused (refusal.OutFull queued)) b h of = absurd (cc)
+final_take (answer.Refused refusal.Ended) b h of = absurd (cc)
+final_take (answer.Refused why) b h of = (cc, tt)
+final_take (answer.Got d) b h of = absurd (never d h)
   where
     never : (e : Delivery) → taken_of (answer.Got e) ≡ taken.Final b → ⊥
     never (delivery.Item message) is = absurd (cc)
     never delivery.Complete is = absurd (cc)
     never (delivery.Error code content) is = absurd (cc)
     never delivery.Canceled is = absurd (cc)
-final_take answer.NotYet b h = absurd (cc)
-final_take answer.OutOfMemory b h = absurd (cc)
-final_take _ b h = (cc, λ never. never)
+final_take answer.NotYet b h of = absurd (cc)
+final_take answer.OutOfMemory b h of = absurd (cc)
+final_take answer.TapeFull b h of = (cc, tt)
+final_take _ b h of = absurd of
 
-pub hindered_take : (g : Settings) (old new : List Entry) (s : ℕ) (a : Answer) → taken_of a ≡ taken.Blocked → WasAnswered g old new (call.Take s) a → IsHindered g old new s
-hindered_take g old new s a is was = record { asked = call.Take s; met = a; on = refl; hindered = blocked_take a is; was = was }
+pub waiting_take : (g : Settings) (routes : List Listed) (names : List ℕ) (number : ℕ) (old new : List Entry) (j : OpenJob) (a : Answer) → taken_of a ≡ taken.Blocked
+    → ((s : ℕ) → course names s new ≡ told s (call.Take j.stream) a (course names s old)) → WasAnswered g number old new (call.Take j.stream) a → Awaits routes j → IsWaiting g routes names number old new j
+waiting_take g routes names number old new j a is tells was awaits = record {
+  met = record { asked = call.Take j.stream; met = a; hindered = blocked_take a is; tried = record { next = inr (awaits, refl); was = was } };
+  last = take_last names old new j a tells;
+}
 
-pub stopped_take : (g : Settings) (old new : List Entry) (s : ℕ) (a b : Answer) → taken_of a ≡ taken.Final b → MayAnswer (call.Take s) a → WasAnswered g old new (call.Take s) a → IsStoppedBy g old new s b
-stopped_take g old new s a b is may was =
-    let f = final_take a b is in
-    subst (IsStoppedBy g old new s) f.0 (record { asked = call.Take s; on = refl; stopped = (f.1, may); was = was })
+pub stopped_take : (g : Settings) (routes : List Listed) (names : List ℕ) (number : ℕ) (old new : List Entry) (j : OpenJob) (a b : Answer) → taken_of a ≡ taken.Final b → MayAnswer (call.Take j.stream) a
+    → ((s : ℕ) → course names s new ≡ told s (call.Take j.stream) a (course names s old)) → WasAnswered g number old new (call.Take j.stream) a → Awaits routes j → IsStoppedBy g routes names number old new j b
+stopped_take g routes names number old new j a b is may tells was awaits =
+    let f = final_take a b is may in
+    subst (IsStoppedBy g routes names number old new j) f.0 (record {
+      asked = call.Take j.stream;
+      tried = record { next = inr (awaits, refl); was = was };
+      last = take_last names old new j a tells;
+      final = f.1;
+    })
 
 -- ---- by the outcome
 
@@ -339,8 +412,20 @@ worked_after was mid now i j k on same h w =
 pub worked_later : (names : List ℕ) (number : ℕ) (a b : List Entry) (i j : OpenJob) → HasWorked names number a b i j → Continues a b
 worked_later names number a b i j w = goes_later (IsOfJob i.stream) names number a b w.replies w.goes
 
-pub hindered_after : (g : Settings) (names : List ℕ) (number : ℕ) (a b c : List Entry) (i j : OpenJob) → IsSameJob i j → HasWorked names number a b i j → IsHindered g b c j.stream → IsHindered g a c i.stream
-hindered_after g names number a b c i j same w h = hindered_between g a b c c i.stream (worked_later names number a b i j w) ([], refl) (subst (IsHindered g b c) (ap (λ (x : OpenJob). x.stream) same) h)
+-- as the caller was known before
+pub waiting_after : (g : Settings) (routes : List Listed) (was mid now : Knowledge) (i j k : OpenJob) → IsOn was mid → HasWorked was.names was.number was.front mid.front i j
+    → IsWaiting g routes mid.names mid.number mid.front now.front k → IsWaiting g routes was.names was.number was.front now.front k
+waiting_after g routes was mid now i j k on w h =
+    waiting_since g routes was.names was.number was.front mid.front now.front k (worked_later was.names was.number was.front mid.front i j w)
+    (subst (λ n. IsWaiting g routes was.names n mid.front now.front k) (ap (λ (x : Knowledge). x.number) on) (subst (λ names. IsWaiting g routes names mid.number mid.front now.front k) (ap (λ (x : Knowledge). x.names) on) h))
 
-pub stopped_after : (g : Settings) (names : List ℕ) (number : ℕ) (a b c : List Entry) (i j : OpenJob) (r : Answer) → IsSameJob i j → HasWorked names number a b i j → IsStoppedBy g b c j.stream r → IsStoppedBy g a c i.stream r
-stopped_after g names number a b c i j r same w h = stopped_between g a b c c i.stream r (worked_later names number a b i j w) ([], refl) (subst (λ s. IsStoppedBy g b c s r) (ap (λ (x : OpenJob). x.stream) same) h)
+pub stopped_after : (g : Settings) (routes : List Listed) (was mid now : Knowledge) (i j k : OpenJob) (r : Answer) → IsOn was mid → HasWorked was.names was.number was.front mid.front i j
+    → IsStoppedBy g routes mid.names mid.number mid.front now.front k r → IsStoppedBy g routes was.names was.number was.front now.front k r
+stopped_after g routes was mid now i j k r on w h =
+    stopped_since g routes was.names was.number was.front mid.front now.front k r (worked_later was.names was.number was.front mid.front i j w)
+    (subst (λ n. IsStoppedBy g routes was.names n mid.front now.front k r) (ap (λ (x : Knowledge). x.number) on) (subst (λ names. IsStoppedBy g routes names mid.number mid.front now.front k r) (ap (λ (x : Knowledge). x.names) on) h))
+
+pub sent_after : (was mid now : Knowledge) (m n sum : ℕ) → IsOn was mid → sum ≤ m + n → HasSent was.names was.front mid.front m → HasSent mid.names mid.front now.front n → HasSent was.names was.front now.front sum
+sent_after was mid now m n sum on le h k =
+    sent_less was.names was.front now.front sum (m + n) le
+    (sent_both was.names was.front mid.front now.front m n h (subst (λ names. HasSent names mid.front now.front n) (ap (λ (x : Knowledge). x.names) on) k))

@@ -51,6 +51,15 @@ served_longer routes n m s c [] le h = done_longer routes n m s c c.job le h
 served_longer routes n m s c (j ∷ []) le h = h
 served_longer routes n m s c (j ∷ i ∷ more) le h = h
 
+-- a job of a stream that is served leaves none
+pub left_job : (names : List ℕ) (routes : List Listed) (old : List Entry) (before after : List OpenJob) (j : OpenJob) → Serving names old routes (before ++ j ∷ after)
+    → (jobs_on j.stream (before ++ after) ≡ []) × Stands routes (course names j.stream old) j
+left_job names routes old before after j serving =
+    let s = j.stream in
+    let all : jobs_on s (before ++ j ∷ after) ≡ jobs_on s before ++ j ∷ jobs_on s after = jobs-append s before (j ∷ after) ∙ ap (λ js. jobs_on s before ++ js) (jobs_here s j after refl) in
+    let only = alone routes (length old) s (course names s old) (jobs_on s before) (jobs_on s after) j (subst (IsServed routes (length old) s (course names s old)) all (serving s)) in
+    (jobs-append s before after ∙ (ap (λ js. js ++ jobs_on s after) only.0 ∙ only.1), only.2)
+
 -- ---- all streams
 
 -- where no stream's job went on, the statement is as before

@@ -11,3 +11,4 @@ pub mod Rows
 pub mod Served
 pub mod Standing
 pub mod Values
+pub mod Waiting

@@ -4,12 +4,18 @@ use Rattle.std.proofs.lemmas.Bool.Decides.{nat_tests}
 use Rattle.std.proofs.lemmas.List.Quantifiers.{position-Some}
 use Rattle.std.proofs.lemmas.List.{length-append, take-append-drop}
 use Rattle.std.proofs.Math.ListN.{set}
-use Rattle.std.proofs.Common.{◌≡◌, ◌<◌, ◌≤◌, ◌+◌, ◌==◌, ◌∙◌, ℕ, zero, suc, Bool, true, false, cond, not, List, [], ◌∷◌, ◌++◌, length, take, drop, get_or, drop-cons, refl, sym, ap, subst, arith, append-nil}
-use Rattle.std.specs.Prelude.{Option, Some, None}
+use Rattle.std.proofs.Common.{◌≡◌, ◌<◌, ◌≤◌, ◌+◌, ◌==◌, ◌∙◌, ℕ, zero, suc, Bool, true, false, cond, if◌then◌else◌, not, inl, inr, ◌⊎◌, List, [], ◌∷◌, ◌++◌, length, take, drop, get_or, drop-cons, refl, sym, ap, subst, arith, append-nil}
+use Rattle.std.specs.Prelude.{Option, Some, None, is_none}
 use Rattle.rs_wire.specs.declared.words.Kind.{Kind}
 use Rattle.rs_wire.specs.declared.words.Kind.TheVariants as kind
 use Rattle.rs_wire.specs.declared.message.Message.{Message}
+use Rattle.rs_wire.specs.declared.call.Call.{Call}
 use Rattle.rs_wire.specs.declared.call.Call.TheVariants as call
+use Rattle.rs_wire.specs.declared.delivery.Job.{Job}
+use Rattle.rs_wire.specs.declared.settings.Settings.{Settings}
+use Rattle.conn_shared.specs.Members.{Continues}
+use Rattle.tape.specs.declared.event.Event.{Event}
+use Rattle.tape.specs.declared.event.Event.TheVariants as event
 use Rattle.rs_wire.specs.declared.delivery.Job.TheVariants as job
 use Rattle.tape.specs.declared.answer.Answer.{Answer}
 use Rattle.tape.specs.declared.answer.Answer.TheVariants as answer
@@ -18,12 +24,14 @@ use Rattle.handlers.specs.Listed.{Listed}
 use Rattle.handlers.specs.declared.law.Law.{Law}
 use Rattle.workers.specs.declared.job.OpenJob.{OpenJob}
 use Rattle.workers.specs.declared.job.Stage.TheVariants as stage
-use Rattle.workers.specs.Courses.{Course, after_job, course}
+use Rattle.workers.specs.Courses.{Course, after_call, after_event, after_job, after_reply, after_take, course, is_named, made_before}
 use Rattle.workers.specs.Replies.{law_of}
-use Rattle.workers.specs.Serving.{AreRouted, IsAt, IsServed, Stands, jobs_on}
+use Rattle.workers.specs.Serving.{AreRouted, IsAt, IsGone, IsServed, Stands, jobs_on}
 use Rattle.workers.specs.declared.outcome.Found.{Found}
 use Rattle.workers.specs.declared.outcome.Found.TheVariants as found
-use Rattle.workers.specs.Going.{IsForgotten, IsOfTakeJob, IsPut, IsRefusedOrFull, Keeps, found_of, told}
+use Rattle.workers.specs.Causes.{IsRefusedOrFull, WasAnswered, WasGot, WasHad}
+use Rattle.workers.specs.Going.{IsForgotten, IsOfTakeJob, IsPut, IsSameJob, Keeps, StoodIn, found_of, told}
+use Rattle.workers.proofs.Fronts.{answered_between, got_since}
 use Rattle.workers.proofs.Plans.{other_test, same_test, test_other, test_same}
 use Rattle.workers.proofs.Jobs.{jobs-append, jobs_here, jobs_there, routed_both, routed_split, served_longer, serving_same}
 
@@ -62,12 +70,18 @@ nothing_forgotten s jobs h = record {
   here = λ few. none_on s jobs (past_end (λ j. j.stream == s) jobs h);
   apart = λ q other. refl;
   routed = λ routes r. r;
+  stood = λ j h. h;
 }
 
 two_empty : (xs ys : List OpenJob) (j : OpenJob) → length (xs ++ j ∷ ys) ≤ 1 → xs ++ ys ≡ []
 two_empty [] [] j few = refl
 two_empty [] (y ∷ ys) j few = absurd (omega arith)
 two_empty (x ∷ xs) ys j few = let l : length (xs ++ j ∷ ys) ≡ length xs + length (j ∷ ys) = length-append xs (j ∷ ys) in absurd (omega arith)
+
+stood_more : (before after : List OpenJob) (j x : OpenJob) → StoodIn (before ++ after) x → StoodIn (before ++ j ∷ after) x
+stood_more [] after j x h = inr h
+stood_more (b ∷ before) after j x (inl h) = inl h
+stood_more (b ∷ before) after j x (inr h) = inr (stood_more before after j x h)
 
 forgotten_between : (s : ℕ) (before after : List OpenJob) (j : OpenJob) → j.stream ≡ s → IsForgotten s (before ++ j ∷ after) (before ++ after)
 forgotten_between s before after j is = record {
@@ -76,6 +90,7 @@ forgotten_between s before after j is = record {
       jobs-append s before after ∙ two_empty (jobs_on s before) (jobs_on s after) j (subst (λ js. length js ≤ 1) all few);
   apart = λ q other. jobs-append q before after ∙ (ap (λ js. jobs_on q before ++ js) (sym (jobs_there q j after (λ e. other (sym e ∙ is)))) ∙ sym (jobs-append q before (j ∷ after)));
   routed = λ routes r. let both = routed_split routes before (j ∷ after) r in routed_both routes before after both.0 both.1.1;
+  stood = stood_more before after j;
 }
 
 pub one_forgotten : (s i : ℕ) (jobs : List OpenJob) (d : OpenJob) → position (λ j. j.stream == s) jobs ≡ Some i → IsForgotten s jobs (remove jobs i)
@@ -92,12 +107,75 @@ few_jobs routes n s c (j ∷ []) h = omega arith
 few_jobs routes n s c (j ∷ i ∷ more) h = absurd h
 
 job_here : (s : ℕ) (k : Kind) (initial : Option ℕ) (message : Message) (complete : Bool) (c : Course)
-    → after_job s (answer.GotJob (job.Asked s k initial message complete)) c ≡ record { job = Some (job.Asked s k initial message complete); made = []; got = []; over = false; last = None; tried = c.tried }
+    → after_job s (answer.GotJob (job.Asked s k initial message complete)) c ≡ record { job = Some (job.Asked s k initial message complete); made = made_before c; got = []; over = false; last = None; tried = c.tried }
 job_here s k initial message complete c = rw (same_test s s refl) refl
 
 pub job_there : (s q : ℕ) (k : Kind) (initial : Option ℕ) (message : Message) (complete : Bool) (c : Course) → (q ≡ s → ⊥)
     → after_job q (answer.GotJob (job.Asked s k initial message complete)) c ≡ c
 job_there s q k initial message complete c differs = rw (other_test s q (λ e. differs (sym e))) refl
+
+-- ---- replies before a job
+
+-- one call: where no reply was tried, none was accepted
+untried_call : (s : ℕ) (asked : Call) (a : Answer) (c : Course) → (c.tried ≡ false → c.made ≡ []) → (after_call s asked a c).tried ≡ false → (after_call s asked a c).made ≡ []
+untried_call s (call.Next q message complete) a c h = by (q == s)
+  where
+    by : (b : Bool) → (if b then after_reply (call.Next q message complete) a c else c).tried ≡ false → (if b then after_reply (call.Next q message complete) a c else c).made ≡ []
+    by true is = absurd (cc)
+    by false is = h is
+untried_call s (call.Done q) a c h = by (q == s)
+  where
+    by : (b : Bool) → (if b then after_reply (call.Done q) a c else c).tried ≡ false → (if b then after_reply (call.Done q) a c else c).made ≡ []
+    by true is = absurd (cc)
+    by false is = h is
+untried_call s (call.Fail q code content) a c h = by (q == s)
+  where
+    by : (b : Bool) → (if b then after_reply (call.Fail q code content) a c else c).tried ≡ false → (if b then after_reply (call.Fail q code content) a c else c).made ≡ []
+    by true is = absurd (cc)
+    by false is = h is
+untried_call s (call.Take q) a c h = by (q == s)
+  where
+    by : (b : Bool) → (if b then after_take q a c else c).tried ≡ false → (if b then after_take q a c else c).made ≡ []
+    by true is = h is
+    by false is = h is
+untried_call s call.TakeJob (answer.GotJob (job.Asked q kind initial message complete)) c h = by (q == s)
+  where
+    kept : (b : Bool) → c.made ≡ [] → (if b then c.made else []) ≡ []
+    kept true is = is
+    kept false is = refl
+
+    by : (b : Bool) → (if b then record { job = Some (job.Asked q kind initial message complete); made = made_before c; got = []; over = false; last = None; tried = c.tried } else c).tried ≡ false
+        → (if b then record { job = Some (job.Asked q kind initial message complete); made = made_before c; got = []; over = false; last = None; tried = c.tried } else c).made ≡ []
+    by true is = kept (is_none c.job) (h is)
+    by false is = h is
+untried_call s call.TakeJob (answer.GotJob (job.Pushed metadata)) c h = h
+untried_call s call.TakeJob _ c h = h
+untried_call s _ a c h = h
+
+untried_event : (s : ℕ) (e : Event) (a : Answer) (c : Course) → (c.tried ≡ false → c.made ≡ []) → (after_event s e a c).tried ≡ false → (after_event s e a c).made ≡ []
+untried_event s (event.Asked asked) a c h = untried_call s asked a c h
+untried_event s _ a c h = h
+
+-- where no reply was tried on a stream, none was accepted
+pub untried : (names : List ℕ) (s : ℕ) (past : List Entry) → (course names s past).tried ≡ false → (course names s past).made ≡ []
+unfolding course
+untried names s [] h = refl
+untried names s (x ∷ past) h = by (untried names s past) (is_named names x.who) h
+  where
+    by : ((course names s past).tried ≡ false → (course names s past).made ≡ []) → (b : Bool) → (if b then after_event s x.event x.answer (course names s past) else course names s past).tried ≡ false
+        → (if b then after_event s x.event x.answer (course names s past) else course names s past).made ≡ []
+    by rest true = untried_event s x.event x.answer (course names s past) rest
+    by rest false = rest
+
+-- so none counts for a job that comes where the statement holds
+none_before : (routes : List Listed) (n s : ℕ) (c : Course) (jobs : List OpenJob) → (c.tried ≡ false → c.made ≡ []) → IsServed routes n s c jobs → made_before c ≡ []
+none_before routes n s c [] still h = by c.job h
+  where
+    by : (o : Option Job) → IsGone routes n s c o → (if is_none o then c.made else []) ≡ []
+    by None gone = still gone
+    by (Some j) gone = refl
+none_before routes n s c (j ∷ []) still h = ap (λ (o : Option Job). if is_none o then c.made else []) h.got
+none_before routes n s c (j ∷ i ∷ more) still h = absurd h
 
 -- a job of which nothing was made
 fresh_at : (lo : Option Law) (k : Kind) (content : List ℕ) → IsAt lo k content [] false 0 stage.Request
@@ -138,7 +216,10 @@ serving_put names routes old new s k initial message complete was now tells long
         let mine : p.job.stream ≡ q = p.stream ∙ sym e in
         let rest : jobs_on q p.rest ≡ [] = subst (λ r. jobs_on r p.rest ≡ []) (sym e) (p.forgotten.here (few_jobs routes (length old) s (course names s old) (jobs_on s was) (h s))) in
         let only : jobs_on q now ≡ p.job ∷ [] = all ∙ (ap (λ js. js ++ jobs_on q (p.job ∷ [])) rest ∙ jobs_here q p.job [] mine) in
-        let went : course names s new ≡ record { job = Some (job.Asked s k initial message complete); made = []; got = []; over = false; last = None; tried = (course names s old).tried } = tells s ∙ job_here s k initial message complete (course names s old) in
+        let none : made_before (course names s old) ≡ [] = none_before routes (length old) s (course names s old) (jobs_on s was) (untried names s old) (h s) in
+        let went : course names s new ≡ record { job = Some (job.Asked s k initial message complete); made = []; got = []; over = false; last = None; tried = (course names s old).tried } =
+        tells s ∙ (job_here s k initial message complete (course names s old)
+        ∙ ap (λ (ms : List Call). record { job = Some (job.Asked s k initial message complete); made = ms; got = []; over = false; last = None; tried = (course names s old).tried }) none) in
         let stands = fresh_stands routes p.job initial complete (course names s old).tried p.made p.stage in
         subst (IsServed routes (length new) q (course names q new)) (sym only)
         (subst (λ c. Stands routes c p.job) (sym (ap (λ r. course names r new) e ∙ went))
@@ -218,3 +299,34 @@ put_routed routes s k m was now p h = subst (AreRouted routes) (sym p.are) (rout
 
 pub put_some : (routes : List Listed) (s : ℕ) (k : Kind) (m : Message) (was now : List OpenJob) → IsPut routes s k m was now → 0 < length now
 put_some routes s k m was now p = let l : length now ≡ length p.rest + 1 = ap length p.are ∙ length-append p.rest (p.job ∷ []) in omega arith
+
+-- ---- whose job it was
+
+stood_last : (xs : List OpenJob) (j x : OpenJob) → StoodIn (xs ++ j ∷ []) x → StoodIn xs x ⊎ IsSameJob j x
+stood_last [] j x (inl h) = inr h
+stood_last [] j x (inr h) = absurd h
+stood_last (y ∷ xs) j x (inl h) = inl (inl h)
+stood_last (y ∷ xs) j x (inr h) = elim (stood_last xs j x h) [
+  | inl there ↦ inl (inr there)
+  | inr same ↦ inr same
+]
+
+-- a job in the work, where one was just put into it, stood there before or was got
+pub had_put : (g : Settings) (number : ℕ) (a b c : List Entry) (routes : List Listed) (s : ℕ) (k : Kind) (m : Message) (r : Answer) (was now : List OpenJob) → found_of r ≡ found.Asked s k m
+    → WasAnswered g number a b call.TakeJob r → Continues a b → Continues b c → IsPut routes s k m was now → (x : OpenJob) → WasHad g number b c now x → WasHad g number a c was x
+had_put g number a b c routes s k m r was now is answered later since p x (inr got) = inr (got_since g number a b c x later got)
+had_put g number a b c routes s k m r was now is answered later since p x (inl stood) = elim (stood_last p.rest p.job x (subst (λ js. StoodIn js x) p.are stood)) [
+  | inl there ↦ inl (p.forgotten.stood x there)
+  | inr same ↦
+      let f = found_asked r s k m is in
+      let stream : s ≡ x.stream = sym (ap (λ (j : OpenJob). j.stream) same ∙ p.stream) in
+      let kind_so : k ≡ x.kind = sym (ap (λ (j : OpenJob). j.kind) same ∙ p.kind) in
+      let message : m ≡ x.message = sym (ap (λ (j : OpenJob). j.message) same ∙ p.message) in
+      inr (record {
+        initial = f.0;
+        complete = f.1;
+        got = subst (WasAnswered g number a c call.TakeJob)
+            (f.2 ∙ (ap (λ q. answer.GotJob (job.Asked q k f.0 m f.1)) stream ∙ (ap (λ q. answer.GotJob (job.Asked x.stream q f.0 m f.1)) kind_so ∙ ap (λ q. answer.GotJob (job.Asked x.stream x.kind f.0 q f.1)) message)))
+            (answered_between g number a a b c call.TakeJob r ([], refl) since answered);
+      })
+]

@@ -2,7 +2,8 @@
 use Rattle.std.proofs.Math.ListN.{set}
 use Rattle.std.proofs.Math.Seq.{get_or-append_seam}
 use Rattle.std.proofs.lemmas.List.{length-append}
-use Rattle.std.proofs.Common.{◌≡◌, ◌≢◌, ◌<◌, ◌≤◌, ◌+◌, ◌∙◌, ℕ, suc, List, [], ◌∷◌, ◌++◌, length, take, drop, get_or, refl, sym, ap, subst, arith, append_assoc, append-nil}
+use Rattle.std.proofs.Common.{◌≡◌, ◌≢◌, ◌<◌, ◌≤◌, ◌+◌, ◌∙◌, ℕ, suc, List, [], ◌∷◌, ◌++◌, length, take, drop, get_or, inl, inr, refl, sym, ap, subst, arith, append_assoc, append-nil}
+use Rattle.std.specs.Prelude.{Option}
 use Rattle.rs_wire.specs.declared.settings.Settings.{Settings}
 use Rattle.tape.specs.declared.entry.Entry.{Entry}
 use Rattle.conn_shared.specs.Members.{Continues, Knowledge}
@@ -13,21 +14,22 @@ use Rattle.workers.specs.declared.going.Going.TheVariants as going
 use Rattle.workers.specs.declared.worked.Worked.TheVariants as worked
 use Rattle.workers.specs.declared.worked.Progress.{Progress}
 use Rattle.workers.specs.declared.worked.Progress.TheVariants as progress
+use Rattle.workers.specs.Causes.{AreHindered, CauseOf, CauseOfProgress, CauseOfTaking, IsHindered, IsHinderedAt, IsNotMore, IsOfJobs, IsWaiting, WasHad, WentAt}
 use Rattle.workers.specs.Courses.{GoesOn, IsWorkersCall, WorksOn}
-use Rattle.workers.specs.Serving.{AreRouted, IsRouted, Serving}
-use Rattle.workers.specs.Going.{AreHindered, CauseOf, CauseOfProgress, HasGone, HasWorked, IsHindered, IsHinderedAt, IsNotMore, IsOfJobs, IsSameJob, IsSettled, Keeps, WentAt, WholeOf, left_by, progress_of}
-use Rattle.workers.proofs.Fronts.{all_weaker, answered_between, goes_both, goes_later, hindered_between, of_worker, stopped_between, works_after, works_job}
-use Rattle.workers.proofs.Gone.{IsOn}
-use Rattle.workers.proofs.Jobs.{IsLeft, none_left, one_left, routed_both, routed_split, serving_job}
+use Rattle.workers.specs.Serving.{AreRouted, IsRouted, Serving, jobs_on}
+use Rattle.workers.specs.Going.{HasGone, HasWorked, IsSameJob, IsSettled, Keeps, StoodIn, WholeOf, left_by, progress_of}
+use Rattle.workers.proofs.Fronts.{all_weaker, answered_between, goes_both, goes_later, got_since, hindered_between, most_since, of_worker, stopped_since, waiting_since, works_after, works_job}
+use Rattle.workers.proofs.Gone.{IsOn, same_both}
+use Rattle.workers.proofs.Jobs.{IsLeft, left_job, none_left, one_left, routed_both, routed_split, serving_job}
 use Rattle.workers.proofs.Putting.{cut_at, cut_length, set_split}
 
 -- ---- the job at a place
 
 -- of a job that is changed in place
-went_at : (names : List ℕ) (routes : List Listed) (number : ℕ) (g : Settings) (old new : List Entry) (place : ℕ) (was : List OpenJob) (d left : OpenJob) (how : Going) → place < length was
+went_at : (names : List ℕ) (routes : List Listed) (number : ℕ) (g : Settings) (most : Option ℕ) (old new : List Entry) (place : ℕ) (was : List OpenJob) (d left : OpenJob) (how : Going) → place < length was
     → IsSameJob (get_or was place d) left → HasGone names routes old new (get_or was place d) (left_by how left) → HasWorked names number old new (get_or was place d) left
-    → CauseOf g old new (get_or was place d).stream how → WholeOf names routes old new (get_or was place d) how → WentAt names routes number g old new place was (set was place left) how
-went_at names routes number g old new place was d left how within same gone worked cause whole =
+    → CauseOf g routes names number most old new left how → WholeOf names routes old new (get_or was place d) how → WentAt names routes number g most old new place was (set was place left) how
+went_at names routes number g most old new place was d left how within same gone worked cause whole =
     let cut = cut_at was place d within in
     let at = cut_length was place within in
     record {
@@ -46,15 +48,15 @@ went_at names routes number g old new place was d left how within same gone work
     }
 
 -- the same, of the job that is read there
-pub went_here : (names : List ℕ) (routes : List Listed) (number : ℕ) (g : Settings) (old new : List Entry) (place : ℕ) (was : List OpenJob) (x left : OpenJob) (how : Going) → place < length was
+pub went_here : (names : List ℕ) (routes : List Listed) (number : ℕ) (g : Settings) (most : Option ℕ) (old new : List Entry) (place : ℕ) (was : List OpenJob) (x left : OpenJob) (how : Going) → place < length was
     → x ≡ get_or was place x → IsSameJob x left → HasGone names routes old new x (left_by how left) → HasWorked names number old new x left
-    → CauseOf g old new x.stream how → WholeOf names routes old new x how → WentAt names routes number g old new place was (set was place left) how
-went_here names routes number g old new place was x left how within is same gone worked cause whole =
-    went_at names routes number g old new place was x left how within
+    → CauseOf g routes names number most old new left how → WholeOf names routes old new x how → WentAt names routes number g most old new place was (set was place left) how
+went_here names routes number g most old new place was x left how within is same gone worked cause whole =
+    went_at names routes number g most old new place was x left how within
     (subst (λ (j : OpenJob). IsSameJob j left) is same)
     (subst (λ (j : OpenJob). HasGone names routes old new j (left_by how left)) is gone)
     (subst (λ (j : OpenJob). HasWorked names number old new j left) is worked)
-    (subst (λ (j : OpenJob). CauseOf g old new j.stream how) is cause)
+    cause
     (subst (λ (j : OpenJob). WholeOf names routes old new j how) is whole)
 
 is_left : (job left : OpenJob) (how : Going) → left.stream ≡ job.stream → IsLeft job.stream (left_by how left)
@@ -63,18 +65,18 @@ is_left job left (going.Stopped a) same = none_left job.stream
 is_left job left _ same = one_left job.stream left same
 
 -- the statement is kept where the job stays or leaves
-pub went_kept : (names : List ℕ) (routes : List Listed) (number : ℕ) (g : Settings) (old new : List Entry) (place : ℕ) (was mid now : List OpenJob) (how : Going)
-    → WentAt names routes number g old new place was mid how → IsSettled place how mid now → Keeps names routes old new was now
-went_kept names routes number g old new place was mid now how w settled serving =
+pub went_kept : (names : List ℕ) (routes : List Listed) (number : ℕ) (g : Settings) (most : Option ℕ) (old new : List Entry) (place : ℕ) (was mid now : List OpenJob) (how : Going)
+    → WentAt names routes number g most old new place was mid how → IsSettled place how mid now → Keeps names routes old new was now
+went_kept names routes number g most old new place was mid now how w settled serving =
     let stream : w.left.stream ≡ w.job.stream = ap (λ (j : OpenJob). j.stream) w.same in
     subst (Serving names new routes) (sym (settled w.before w.after w.left w.are w.at))
     (serving_job names routes old new w.before w.after w.job (left_by how w.left) (is_left w.job w.left how stream) w.gone (subst (Serving names old routes) w.were serving))
 
 -- and where it stays, hindered
-pub stays_kept : (names : List ℕ) (routes : List Listed) (number : ℕ) (g : Settings) (old new : List Entry) (place : ℕ) (was now : List OpenJob) (how : Going)
-    → how ≡ going.Blocked → WentAt names routes number g old new place was now how → Keeps names routes old new was now
-stays_kept names routes number g old new place was now how is w =
-    went_kept names routes number g old new place was now now how w
+pub stays_kept : (names : List ℕ) (routes : List Listed) (number : ℕ) (g : Settings) (most : Option ℕ) (old new : List Entry) (place : ℕ) (was now : List OpenJob) (how : Going)
+    → how ≡ going.Blocked → WentAt names routes number g most old new place was now how → Keeps names routes old new was now
+stays_kept names routes number g most old new place was now how is w =
+    went_kept names routes number g most old new place was now now how w
     (λ before after j are at. are ∙ ap (λ h. before ++ (left_by h j ++ after)) (sym is))
 
 same_routed : (routes : List Listed) (job left : OpenJob) → IsSameJob job left → IsRouted routes job → IsRouted routes left
@@ -85,9 +87,9 @@ left_routed routes left (going.Served items) h = tt
 left_routed routes left (going.Stopped a) h = tt
 left_routed routes left _ h = (h, tt)
 
-pub went_routed : (names : List ℕ) (routes : List Listed) (number : ℕ) (g : Settings) (old new : List Entry) (place : ℕ) (was mid now : List OpenJob) (how : Going)
-    → WentAt names routes number g old new place was mid how → IsSettled place how mid now → AreRouted routes was → AreRouted routes now
-went_routed names routes number g old new place was mid now how w settled h =
+pub went_routed : (names : List ℕ) (routes : List Listed) (number : ℕ) (g : Settings) (most : Option ℕ) (old new : List Entry) (place : ℕ) (was mid now : List OpenJob) (how : Going)
+    → WentAt names routes number g most old new place was mid how → IsSettled place how mid now → AreRouted routes was → AreRouted routes now
+went_routed names routes number g most old new place was mid now how w settled h =
     let parts = routed_split routes w.before (w.job ∷ w.after) (subst (AreRouted routes) w.were h) in
     subst (AreRouted routes) (sym (settled w.before w.after w.left w.are w.at))
     (routed_both routes w.before (left_by how w.left ++ w.after) parts.0 (routed_both routes (left_by how w.left) w.after (left_routed routes w.left how (same_routed routes w.job w.left w.same parts.1.0)) parts.1.1))
@@ -95,44 +97,137 @@ went_routed names routes number g old new place was mid now how w settled h =
 pub stays_settled : (place : ℕ) (how : Going) (now : List OpenJob) → how ≡ going.Blocked → IsSettled place how now now
 stays_settled place how now is = λ before after j are at. are ∙ ap (λ h. before ++ (left_by h j ++ after)) (sym is)
 
-pub went_length : (names : List ℕ) (routes : List Listed) (number : ℕ) (g : Settings) (old new : List Entry) (place : ℕ) (was now : List OpenJob) (how : Going)
-    → WentAt names routes number g old new place was now how → length now ≡ length was
-went_length names routes number g old new place was now how w =
+pub went_works : (names : List ℕ) (routes : List Listed) (number : ℕ) (g : Settings) (most : Option ℕ) (old new : List Entry) (place : ℕ) (was now : List OpenJob) (how : Going)
+    → WentAt names routes number g most old new place was now how → WorksOn names number old new
+went_works names routes number g most old new place was now how w = works_job w.job.stream names number old new w.worked.replies w.worked.goes
+
+-- ---- whose call it was
+
+stood_here : (before after : List OpenJob) (j left : OpenJob) → IsSameJob j left → StoodIn (before ++ j ∷ after) left
+stood_here [] after j left same = inl same
+stood_here (b ∷ before) after j left same = inr (stood_here before after j left same)
+
+stood_through : (before after : List OpenJob) (j left x : OpenJob) → IsSameJob j left → StoodIn (before ++ left ∷ after) x → StoodIn (before ++ j ∷ after) x
+stood_through [] after j left x same (inl h) = inl (same_both j left x same h)
+stood_through [] after j left x same (inr h) = inr h
+stood_through (b ∷ before) after j left x same (inl h) = inl h
+stood_through (b ∷ before) after j left x same (inr h) = inr (stood_through before after j left x same h)
+
+-- a job that stands in the work where one was hindered stood there before
+pub hindered_stood : (g : Settings) (routes : List Listed) (names : List ℕ) (number : ℕ) (old new : List Entry) (place : ℕ) (was now : List OpenJob) → IsHinderedAt g routes names number old new place was now
+    → (x : OpenJob) → StoodIn now x → StoodIn was x
+hindered_stood g routes names number old new place was now w x h =
+    subst (λ js. StoodIn js x) (sym w.were) (stood_through w.before w.after w.job w.left x w.same (subst (λ js. StoodIn js x) w.are h))
+
+pub had_since : (g : Settings) (number : ℕ) (a b c : List Entry) (was mid : List OpenJob) → Continues a b → ((x : OpenJob) → StoodIn mid x → StoodIn was x) → (x : OpenJob) → WasHad g number b c mid x → WasHad g number a c was x
+had_since g number a b c was mid later stood x (inl h) = inl (stood x h)
+had_since g number a b c was mid later stood x (inr got) = inr (got_since g number a b c x later got)
+
+pub went_stood : (names : List ℕ) (routes : List Listed) (number : ℕ) (g : Settings) (most : Option ℕ) (old new : List Entry) (place : ℕ) (was now : List OpenJob) (how : Going)
+    → (w : WentAt names routes number g most old new place was now how) → StoodIn was w.left
+went_stood names routes number g most old new place was now how w = subst (λ js. StoodIn js w.left) (sym w.were) (stood_here w.before w.after w.job w.left w.same)
+
+-- ---- what is read of the job at a place
+
+pub at_place : (before after : List OpenJob) (place : ℕ) (jobs : List OpenJob) (j x : OpenJob) → jobs ≡ before ++ j ∷ after → length before ≡ place → x ≡ get_or jobs place x → x ≡ j
+at_place before after place jobs j x are at is =
+    is ∙ (ap (λ js. get_or js place x) are ∙ (ap (λ n. get_or (before ++ j ∷ after) n x) (sym at) ∙ get_or-append_seam before j after x))
+
+pub left_stream : (names : List ℕ) (routes : List Listed) (number : ℕ) (g : Settings) (most : Option ℕ) (old new : List Entry) (place : ℕ) (was now : List OpenJob) (how : Going) (x : OpenJob) → x ≡ get_or was place x
+    → (w : WentAt names routes number g most old new place was now how) → w.left.stream ≡ x.stream
+left_stream names routes number g most old new place was now how x is w =
+    ap (λ (j : OpenJob). j.stream) w.same ∙ sym (ap (λ (j : OpenJob). j.stream) (at_place w.before w.after place was w.job x w.were w.at is))
+
+-- where the job has as many replies as before, none was accepted
+pub went_quietly : (names : List ℕ) (routes : List Listed) (number : ℕ) (g : Settings) (most : Option ℕ) (old new : List Entry) (place : ℕ) (was now : List OpenJob) (how : Going) (x y : OpenJob)
+    → WentAt names routes number g most old new place was now how → x ≡ get_or was place x → y ≡ get_or now place y → y.made ≡ x.made → GoesOn IsWorkersCall names number old new 0
+went_quietly names routes number g most old new place was now how x y w isx isy same =
+    let a : x ≡ w.job = at_place w.before w.after place was w.job x w.were w.at isx in
+    let b : y ≡ w.left = at_place w.before w.after place now w.left y w.are w.at isy in
+    let made : w.left.made ≡ w.job.made = ap (λ (j : OpenJob). j.made) (sym b) ∙ (same ∙ ap (λ (j : OpenJob). j.made) a) in
+    let none : w.worked.replies ≡ 0 = (let m = w.worked.made in omega arith) in
+    subst (GoesOn IsWorkersCall names number old new) none (of_worker w.job.stream names number old new w.worked.replies w.worked.goes)
+
+-- ---- causes
+
+pub went_hindered : (names : List ℕ) (routes : List Listed) (number : ℕ) (g : Settings) (most : Option ℕ) (old new : List Entry) (place : ℕ) (was now : List OpenJob) (how : Going) → how ≡ going.Blocked
+    → WentAt names routes number g most old new place was now how → IsHinderedAt g routes names number old new place was now
+went_hindered names routes number g most old new place was now how is w = record {
+  before = w.before;
+  job = w.job;
+  left = w.left;
+  after = w.after;
+  were = w.were;
+  are = w.are;
+  at = w.at;
+  same = w.same;
+  apart = w.gone.apart;
+  waiting = subst (CauseOf g routes names number most old new w.left) is w.cause;
+}
+
+pub hindered_length : (g : Settings) (routes : List Listed) (names : List ℕ) (number : ℕ) (old new : List Entry) (place : ℕ) (was now : List OpenJob) → IsHinderedAt g routes names number old new place was now → length now ≡ length was
+hindered_length g routes names number old new place was now w =
     let a : length was ≡ length w.before + length (w.job ∷ w.after) = ap length w.were ∙ length-append w.before (w.job ∷ w.after) in
     let b : length now ≡ length w.before + length (w.left ∷ w.after) = ap length w.are ∙ length-append w.before (w.left ∷ w.after) in
     omega arith
 
-pub went_works : (names : List ℕ) (routes : List Listed) (number : ℕ) (g : Settings) (old new : List Entry) (place : ℕ) (was now : List OpenJob) (how : Going)
-    → WentAt names routes number g old new place was now how → WorksOn names number old new
-went_works names routes number g old new place was now how w = works_job w.job.stream names number old new w.worked.replies w.worked.goes
+-- what is said of the job at a place
+pub went_of_jobs : (names : List ℕ) (routes : List Listed) (number : ℕ) (g : Settings) (most : Option ℕ) (old new : List Entry) (place : ℕ) (was mid now : List OpenJob) (how : Going) (x : OpenJob) → x ≡ get_or was place x
+    → WentAt names routes number g most old new place was mid how → IsSettled place how mid now → IsOfJobs g routes names number most old new was now (progress_of x.stream how)
+went_of_jobs names routes number g most old new place was mid now (going.Served items) x is w settled = tt
+went_of_jobs names routes number g most old new place was mid now going.Blocked x is w settled = record {
+  job = w.left;
+  stream = left_stream names routes number g most old new place was mid going.Blocked x is w;
+  stands = (w.before, w.after, settled w.before w.after w.left w.are w.at);
+  waiting = w.cause;
+}
+went_of_jobs names routes number g most old new place was mid now going.More x is w settled = record {
+  job = w.left;
+  stream = left_stream names routes number g most old new place was mid going.More x is w;
+  stands = (w.before, w.after, settled w.before w.after w.left w.are w.at);
+  sent = w.cause;
+}
+went_of_jobs names routes number g most old new place was mid now (going.Stopped a) x is w settled = record {
+  job = w.left;
+  had = inl (went_stood names routes number g most old new place was mid (going.Stopped a) w);
+  left = λ serving.
+      subst (λ s. jobs_on s now ≡ []) (sym (ap (λ (j : OpenJob). j.stream) w.same))
+      (subst (λ js. jobs_on w.job.stream js ≡ []) (sym (settled w.before w.after w.left w.are w.at))
+      (left_job names routes old w.before w.after w.job (subst (Serving names old routes) w.were serving)).0);
+  stopped = w.cause;
+}
+went_of_jobs names routes number g most old new place was mid now going.OutOfMemory x is w settled = tt
 
--- ---- causes
+pub progress_of_jobs : (g : Settings) (routes : List Listed) (names : List ℕ) (number : ℕ) (most : Option ℕ) (old new : List Entry) (was now : List OpenJob) (p : Progress)
+    → IsOfJobs g routes names number most old new was now p → CauseOfProgress g routes names number most old new was now p
+progress_of_jobs g routes names number most old new was now (progress.More s) c = c
+progress_of_jobs g routes names number most old new was now (progress.Worked (worked.Served s items)) c = tt
+progress_of_jobs g routes names number most old new was now (progress.Worked (worked.Waiting s)) c = c
+progress_of_jobs g routes names number most old new was now (progress.Worked (worked.Stopped a)) c = c
+progress_of_jobs g routes names number most old new was now (progress.Worked worked.OutOfMemory) c = tt
+progress_of_jobs g routes names number most old new was now (progress.Worked (worked.NoMore a)) c = absurd c
+progress_of_jobs g routes names number most old new was now (progress.Worked worked.Idle) c = absurd c
 
-pub cause_of_progress : (g : Settings) (names : List ℕ) (number : ℕ) (old new : List Entry) (work : List OpenJob) (s : ℕ) (how : Going) → CauseOf g old new s how → CauseOfProgress g names number old new work (progress_of s how)
-cause_of_progress g names number old new work s (going.Served items) c = tt
-cause_of_progress g names number old new work s going.Blocked c = c
-cause_of_progress g names number old new work s going.More c = tt
-cause_of_progress g names number old new work s (going.Stopped a) c = (s, c)
-cause_of_progress g names number old new work s going.OutOfMemory c = tt
+pub taking_of_jobs : (g : Settings) (routes : List Listed) (names : List ℕ) (number : ℕ) (most : Option ℕ) (old new : List Entry) (was now : List OpenJob) (p : Progress)
+    → IsOfJobs g routes names number most old new was now p → CauseOfTaking g routes names number most old new was now p
+taking_of_jobs g routes names number most old new was now (progress.More s) c = c
+taking_of_jobs g routes names number most old new was now (progress.Worked (worked.Served s items)) c = tt
+taking_of_jobs g routes names number most old new was now (progress.Worked (worked.Waiting s)) c = c
+taking_of_jobs g routes names number most old new was now (progress.Worked (worked.Stopped a)) c = c
+taking_of_jobs g routes names number most old new was now (progress.Worked worked.OutOfMemory) c = tt
+taking_of_jobs g routes names number most old new was now (progress.Worked (worked.NoMore a)) c = absurd c
+taking_of_jobs g routes names number most old new was now (progress.Worked worked.Idle) c = absurd c
 
-pub of_jobs : (g : Settings) (old new : List Entry) (s : ℕ) (how : Going) → CauseOf g old new s how → IsOfJobs g old new (progress_of s how)
-of_jobs g old new s (going.Served items) c = tt
-of_jobs g old new s going.Blocked c = c
-of_jobs g old new s going.More c = tt
-of_jobs g old new s (going.Stopped a) c = (s, c)
-of_jobs g old new s going.OutOfMemory c = tt
-
-pub progress_of_jobs : (g : Settings) (names : List ℕ) (number : ℕ) (old new : List Entry) (work : List OpenJob) (p : Progress) → IsOfJobs g old new p → CauseOfProgress g names number old new work p
-progress_of_jobs g names number old new work (progress.More s) c = tt
-progress_of_jobs g names number old new work (progress.Worked (worked.Served s items)) c = tt
-progress_of_jobs g names number old new work (progress.Worked (worked.Waiting s)) c = c
-progress_of_jobs g names number old new work (progress.Worked (worked.Stopped a)) c = c
-progress_of_jobs g names number old new work (progress.Worked worked.OutOfMemory) c = tt
-progress_of_jobs g names number old new work (progress.Worked (worked.NoMore a)) c = absurd c
-progress_of_jobs g names number old new work (progress.Worked worked.Idle) c = absurd c
-
-pub of_jobs_not_idle : (g : Settings) (old new : List Entry) (p : Progress) → IsOfJobs g old new p → p ≡ progress.Worked worked.Idle → ⊥
-of_jobs_not_idle g old new p c is = subst (IsOfJobs g old new) is c
+-- an idle worker's jobs were hindered before
+pub progress_of_taking : (g : Settings) (routes : List Listed) (names : List ℕ) (number : ℕ) (most : Option ℕ) (old new : List Entry) (was now : List OpenJob) (p : Progress)
+    → (p ≡ progress.Worked worked.Idle → AreHindered g routes number old new now) → CauseOfTaking g routes names number most old new was now p → CauseOfProgress g routes names number most old new was now p
+progress_of_taking g routes names number most old new was now (progress.More s) idle c = c
+progress_of_taking g routes names number most old new was now (progress.Worked (worked.Served s items)) idle c = tt
+progress_of_taking g routes names number most old new was now (progress.Worked (worked.Waiting s)) idle c = c
+progress_of_taking g routes names number most old new was now (progress.Worked (worked.Stopped a)) idle c = c
+progress_of_taking g routes names number most old new was now (progress.Worked worked.OutOfMemory) idle c = tt
+progress_of_taking g routes names number most old new was now (progress.Worked (worked.NoMore a)) idle c = c
+progress_of_taking g routes names number most old new was now (progress.Worked worked.Idle) idle c = (c.0, c.1, idle refl)
 
 pub not_more : (s : ℕ) (how : Going) → how ≢ going.More → IsNotMore (progress_of s how)
 not_more s (going.Served items) h = tt
@@ -141,54 +236,55 @@ not_more s going.More h = absurd (h refl)
 not_more s (going.Stopped a) h = tt
 not_more s going.OutOfMemory h = tt
 
-hindered_since : (g : Settings) (a b c : List Entry) (jobs : List OpenJob) → Continues a b → AreHindered g b c jobs → AreHindered g a c jobs
-hindered_since g a b c jobs h all = all_weaker _ _ jobs (λ j w. hindered_between g a b c c j.stream h ([], refl) w) all
+pub hindered_until : (g : Settings) (routes : List Listed) (number : ℕ) (a b c : List Entry) (jobs : List OpenJob) → Continues b c → AreHindered g routes number a b jobs → AreHindered g routes number a c jobs
+hindered_until g routes number a b c jobs h all = all_weaker _ _ jobs (λ j w. hindered_between g routes number a a b c j ([], refl) h w) all
 
-pub hindered_until : (g : Settings) (a b c : List Entry) (jobs : List OpenJob) → Continues b c → AreHindered g a b jobs → AreHindered g a c jobs
-hindered_until g a b c jobs h all = all_weaker _ _ jobs (λ j w. hindered_between g a a b c j.stream ([], refl) h w) all
+-- ---- from an earlier front
 
--- no reply was accepted at first
-pub progress_since : (g : Settings) (names : List ℕ) (number : ℕ) (a b c : List Entry) (work : List OpenJob) (p : Progress) → GoesOn IsWorkersCall names number a b 0
-    → CauseOfProgress g names number b c work p → CauseOfProgress g names number a c work p
-progress_since g names number a b c work (progress.More s) h k = tt
-progress_since g names number a b c work (progress.Worked (worked.Served s items)) h k = tt
-progress_since g names number a b c work (progress.Worked (worked.Waiting s)) h k = hindered_between g a b c c s (goes_later IsWorkersCall names number a b 0 h) ([], refl) k
-progress_since g names number a b c work (progress.Worked (worked.Stopped r)) h k = (k.0, stopped_between g a b c c k.0 r (goes_later IsWorkersCall names number a b 0 h) ([], refl) k.1)
-progress_since g names number a b c work (progress.Worked (worked.NoMore r)) h k =
-    let later = goes_later IsWorkersCall names number a b 0 h in
-    (goes_both IsWorkersCall names number a b c 0 0 h k.0, (answered_between g a b c c _ r later ([], refl) k.1.0, k.1.1))
-progress_since g names number a b c work (progress.Worked worked.Idle) h k =
-    let later = goes_later IsWorkersCall names number a b 0 h in
-    (goes_both IsWorkersCall names number a b c 0 0 h k.0, answered_between g a b c c _ _ later ([], refl) k.1, hindered_since g a b c work later k.2)
-progress_since g names number a b c work (progress.Worked worked.OutOfMemory) h k = tt
+of_jobs_since : (g : Settings) (routes : List Listed) (names : List ℕ) (number : ℕ) (most : Option ℕ) (a b c : List Entry) (was mid now : List OpenJob) (p : Progress) → Continues a b → Keeps names routes a b was mid
+    → ((x : OpenJob) → WasHad g number b c mid x → WasHad g number a c was x) → IsOfJobs g routes names number most b c mid now p → IsOfJobs g routes names number most a c was now p
+of_jobs_since g routes names number most a b c was mid now (progress.More s) later keeps had k = record { job = k.job; stream = k.stream; stands = k.stands; sent = most_since names most a b c later k.sent }
+of_jobs_since g routes names number most a b c was mid now (progress.Worked (worked.Served s items)) later keeps had k = tt
+of_jobs_since g routes names number most a b c was mid now (progress.Worked (worked.Waiting s)) later keeps had k =
+    record { job = k.job; stream = k.stream; stands = k.stands; waiting = waiting_since g routes names number a b c k.job later k.waiting }
+of_jobs_since g routes names number most a b c was mid now (progress.Worked (worked.Stopped r)) later keeps had k =
+    record { job = k.job; had = had k.job k.had; left = λ serving. k.left (keeps serving); stopped = stopped_since g routes names number a b c k.job r later k.stopped }
+of_jobs_since g routes names number most a b c was mid now (progress.Worked worked.OutOfMemory) later keeps had k = tt
+of_jobs_since g routes names number most a b c was mid now (progress.Worked (worked.NoMore r)) later keeps had k = absurd k
+of_jobs_since g routes names number most a b c was mid now (progress.Worked worked.Idle) later keeps had k = absurd k
 
--- an idle worker's jobs were hindered before
-pub progress_of_all : (g : Settings) (names : List ℕ) (number : ℕ) (old new : List Entry) (work : List OpenJob) (p : Progress) → (p ≡ progress.Worked worked.Idle → AreHindered g old new work)
-    → CauseOfProgress g names number old new [] p → CauseOfProgress g names number old new work p
-progress_of_all g names number old new work (progress.More s) h k = tt
-progress_of_all g names number old new work (progress.Worked (worked.Served s items)) h k = tt
-progress_of_all g names number old new work (progress.Worked (worked.Waiting s)) h k = k
-progress_of_all g names number old new work (progress.Worked (worked.Stopped r)) h k = k
-progress_of_all g names number old new work (progress.Worked (worked.NoMore r)) h k = k
-progress_of_all g names number old new work (progress.Worked worked.Idle) h k = (k.0, k.1, h refl)
-progress_of_all g names number old new work (progress.Worked worked.OutOfMemory) h k = tt
+taking_since : (g : Settings) (routes : List Listed) (names : List ℕ) (number : ℕ) (most : Option ℕ) (a b c : List Entry) (was mid now : List OpenJob) (p : Progress) → GoesOn IsWorkersCall names number a b 0 → Keeps names routes a b was mid
+    → ((x : OpenJob) → WasHad g number b c mid x → WasHad g number a c was x) → CauseOfTaking g routes names number most b c mid now p → CauseOfTaking g routes names number most a c was now p
+taking_since g routes names number most a b c was mid now (progress.More s) h keeps had k =
+    of_jobs_since g routes names number most a b c was mid now (progress.More s) (goes_later IsWorkersCall names number a b 0 h) keeps had k
+taking_since g routes names number most a b c was mid now (progress.Worked (worked.Served s items)) h keeps had k = tt
+taking_since g routes names number most a b c was mid now (progress.Worked (worked.Waiting s)) h keeps had k =
+    of_jobs_since g routes names number most a b c was mid now (progress.Worked (worked.Waiting s)) (goes_later IsWorkersCall names number a b 0 h) keeps had k
+taking_since g routes names number most a b c was mid now (progress.Worked (worked.Stopped r)) h keeps had k =
+    of_jobs_since g routes names number most a b c was mid now (progress.Worked (worked.Stopped r)) (goes_later IsWorkersCall names number a b 0 h) keeps had k
+taking_since g routes names number most a b c was mid now (progress.Worked worked.OutOfMemory) h keeps had k = tt
+taking_since g routes names number most a b c was mid now (progress.Worked (worked.NoMore r)) h keeps had k =
+    (goes_both IsWorkersCall names number a b c 0 0 h k.0, (answered_between g number a b c c _ r (goes_later IsWorkersCall names number a b 0 h) ([], refl) k.1.0, k.1.1))
+taking_since g routes names number most a b c was mid now (progress.Worked worked.Idle) h keeps had k =
+    (goes_both IsWorkersCall names number a b c 0 0 h k.0, answered_between g number a b c c _ _ (goes_later IsWorkersCall names number a b 0 h) ([], refl) k.1)
 
 -- ---- one job after the other
 
 -- the first so many jobs were hindered
-pub record AreTried (g : Settings) (old new : List Entry) (place : ℕ) (jobs : List OpenJob) : Type 0 where
+pub record AreTried (g : Settings) (routes : List Listed) (number : ℕ) (old new : List Entry) (place : ℕ) (jobs : List OpenJob) : Type 0 where
   pub first : List OpenJob
   pub rest : List OpenJob
   pub are : jobs ≡ first ++ rest
   pub many : length first ≡ place
-  pub hindered : AreHindered g old new first
+  pub hindered : AreHindered g routes number old new first
 
-pub none_tried : (g : Settings) (old new : List Entry) (jobs : List OpenJob) → AreTried g old new 0 jobs
-none_tried g old new jobs = record { first = []; rest = jobs; are = refl; many = refl; hindered = tt }
+pub none_tried : (g : Settings) (routes : List Listed) (number : ℕ) (old new : List Entry) (jobs : List OpenJob) → AreTried g routes number old new 0 jobs
+none_tried g routes number old new jobs = record { first = []; rest = jobs; are = refl; many = refl; hindered = tt }
 
-all_more : (g : Settings) (old new : List Entry) (jobs : List OpenJob) (j : OpenJob) → AreHindered g old new jobs → IsHindered g old new j.stream → AreHindered g old new (jobs ++ j ∷ [])
-all_more g old new [] j h k = (k, tt)
-all_more g old new (i ∷ jobs) j h k = (h.0, all_more g old new jobs j h.1 k)
+all_more : (g : Settings) (routes : List Listed) (number : ℕ) (old new : List Entry) (jobs : List OpenJob) (j : OpenJob) → AreHindered g routes number old new jobs → IsHindered g routes number old new j
+    → AreHindered g routes number old new (jobs ++ j ∷ [])
+all_more g routes number old new [] j h k = (k, tt)
+all_more g routes number old new (i ∷ jobs) j h k = (h.0, all_more g routes number old new jobs j h.1 k)
 
 same_start : {X : Type 0} (xs ys zs ws : List X) → length xs ≡ length zs → xs ++ ys ≡ zs ++ ws → xs ≡ zs
 same_start [] ys [] ws h e = refl
@@ -200,76 +296,28 @@ same_start (x ∷ xs) ys (z ∷ zs) ws h e =
     let l : length xs ≡ length zs = omega arith in
     ap (λ v. v ∷ xs) first ∙ ap (λ vs. z ∷ vs) (same_start xs ys zs ws l rest)
 
-pub one_more_tried : (g : Settings) (a b c : List Entry) (place : ℕ) (was now : List OpenJob) → Continues a b → Continues b c → AreTried g a b place was → IsHinderedAt g b c place was now → AreTried g a c (place + 1) now
-one_more_tried g a b c place was now h k t w =
+pub one_more_tried : (g : Settings) (routes : List Listed) (names : List ℕ) (number : ℕ) (a b c : List Entry) (place : ℕ) (was now : List OpenJob) → Continues a b → Continues b c → AreTried g routes number a b place was
+    → IsHinderedAt g routes names number b c place was now → AreTried g routes number a c (place + 1) now
+one_more_tried g routes names number a b c place was now h k t w =
     let same : t.first ≡ w.before = same_start t.first t.rest w.before (w.job ∷ w.after) (t.many ∙ sym w.at) (sym t.are ∙ w.were) in
     record {
       first = w.before ++ w.left ∷ [];
       rest = w.after;
       are = w.are ∙ sym (append_assoc w.before (w.left ∷ []) w.after);
       many = (let l : length (w.before ++ w.left ∷ []) ≡ length w.before + 1 = length-append w.before (w.left ∷ []) in let at = w.at in omega arith);
-      hindered = all_more g a c w.before w.left (subst (AreHindered g a c) same (hindered_until g a b c t.first k t.hindered)) (hindered_between g a b c c w.left.stream h ([], refl) w.hindered);
+      hindered = all_more g routes number a c w.before w.left (subst (AreHindered g routes number a c) same (hindered_until g routes number a b c t.first k t.hindered)) (hindered_between g routes number a b c c w.left h ([], refl) w.waiting.met);
     }
 
 -- all were
-pub all_tried : (g : Settings) (old new : List Entry) (place : ℕ) (jobs : List OpenJob) → length jobs ≤ place → AreTried g old new place jobs → AreHindered g old new jobs
-all_tried g old new place jobs le t =
+pub all_tried : (g : Settings) (routes : List Listed) (number : ℕ) (old new : List Entry) (place : ℕ) (jobs : List OpenJob) → length jobs ≤ place → AreTried g routes number old new place jobs → AreHindered g routes number old new jobs
+all_tried g routes number old new place jobs le t =
     let l : length jobs ≡ length t.first + length t.rest = ap length t.are ∙ length-append t.first t.rest in
     let none : t.rest ≡ [] = none_of t.rest (let m = t.many in omega arith) in
-    subst (AreHindered g old new) (sym (t.are ∙ (ap (λ js. t.first ++ js) none ∙ append-nil t.first))) t.hindered
+    subst (AreHindered g routes number old new) (sym (t.are ∙ (ap (λ js. t.first ++ js) none ∙ append-nil t.first))) t.hindered
   where
     none_of : (xs : List OpenJob) → length xs ≡ 0 → xs ≡ []
     none_of [] h = refl
     none_of (x ∷ xs) h = absurd (omega arith)
-
--- ---- what is read of the job at a place
-
-pub at_place : (before after : List OpenJob) (place : ℕ) (jobs : List OpenJob) (j x : OpenJob) → jobs ≡ before ++ j ∷ after → length before ≡ place → x ≡ get_or jobs place x → x ≡ j
-at_place before after place jobs j x are at is =
-    is ∙ (ap (λ js. get_or js place x) are ∙ (ap (λ n. get_or (before ++ j ∷ after) n x) (sym at) ∙ get_or-append_seam before j after x))
-
--- where the job has as many replies as before, none was accepted
-pub went_quietly : (names : List ℕ) (routes : List Listed) (number : ℕ) (g : Settings) (old new : List Entry) (place : ℕ) (was now : List OpenJob) (how : Going) (x y : OpenJob)
-    → WentAt names routes number g old new place was now how → x ≡ get_or was place x → y ≡ get_or now place y → y.made ≡ x.made → GoesOn IsWorkersCall names number old new 0
-went_quietly names routes number g old new place was now how x y w isx isy same =
-    let a : x ≡ w.job = at_place w.before w.after place was w.job x w.were w.at isx in
-    let b : y ≡ w.left = at_place w.before w.after place now w.left y w.are w.at isy in
-    let made : w.left.made ≡ w.job.made = ap (λ (j : OpenJob). j.made) (sym b) ∙ (same ∙ ap (λ (j : OpenJob). j.made) a) in
-    let none : w.worked.replies ≡ 0 = (let m = w.worked.made in omega arith) in
-    subst (GoesOn IsWorkersCall names number old new) none (of_worker w.job.stream names number old new w.worked.replies w.worked.goes)
-
-pub went_hindered : (names : List ℕ) (routes : List Listed) (number : ℕ) (g : Settings) (old new : List Entry) (place : ℕ) (was now : List OpenJob) (how : Going) → how ≡ going.Blocked
-    → WentAt names routes number g old new place was now how → IsHinderedAt g old new place was now
-went_hindered names routes number g old new place was now how is w = record {
-  before = w.before;
-  job = w.job;
-  left = w.left;
-  after = w.after;
-  were = w.were;
-  are = w.are;
-  at = w.at;
-  hindered = subst (IsHindered g old new) (sym (ap (λ (j : OpenJob). j.stream) w.same)) (subst (CauseOf g old new w.job.stream) is w.cause);
-}
-
-pub hindered_length : (g : Settings) (old new : List Entry) (place : ℕ) (was now : List OpenJob) → IsHinderedAt g old new place was now → length now ≡ length was
-hindered_length g old new place was now w =
-    let a : length was ≡ length w.before + length (w.job ∷ w.after) = ap length w.were ∙ length-append w.before (w.job ∷ w.after) in
-    let b : length now ≡ length w.before + length (w.left ∷ w.after) = ap length w.are ∙ length-append w.before (w.left ∷ w.after) in
-    omega arith
-
-pub went_cause : (names : List ℕ) (routes : List Listed) (number : ℕ) (g : Settings) (old new : List Entry) (place : ℕ) (was now : List OpenJob) (how : Going) (x : OpenJob) → x ≡ get_or was place x
-    → WentAt names routes number g old new place was now how → CauseOf g old new x.stream how
-went_cause names routes number g old new place was now how x is w =
-    subst (λ (j : OpenJob). CauseOf g old new j.stream how) (sym (at_place w.before w.after place was w.job x w.were w.at is)) w.cause
-
-pub of_jobs_since : (g : Settings) (a b c : List Entry) (p : Progress) → Continues a b → IsOfJobs g b c p → IsOfJobs g a c p
-of_jobs_since g a b c (progress.More s) h k = tt
-of_jobs_since g a b c (progress.Worked (worked.Served s items)) h k = tt
-of_jobs_since g a b c (progress.Worked (worked.Waiting s)) h k = hindered_between g a b c c s h ([], refl) k
-of_jobs_since g a b c (progress.Worked (worked.Stopped r)) h k = (k.0, stopped_between g a b c c k.0 r h ([], refl) k.1)
-of_jobs_since g a b c (progress.Worked worked.OutOfMemory) h k = tt
-of_jobs_since g a b c (progress.Worked (worked.NoMore r)) h k = absurd k
-of_jobs_since g a b c (progress.Worked worked.Idle) h k = absurd k
 
 -- ---- one after the other, as the caller knows
 
@@ -286,11 +334,27 @@ quiet_since was mid now on h k =
     goes_both IsWorkersCall was.names was.number was.front mid.front now.front 0 0 h
     (subst (λ n. GoesOn IsWorkersCall was.names n mid.front now.front 0) (ap (λ (x : Knowledge). x.number) on) (subst (λ names. GoesOn IsWorkersCall names mid.number mid.front now.front 0) (ap (λ (x : Knowledge). x.names) on) k))
 
-pub progress_after : (g : Settings) (was mid now : Knowledge) (work : List OpenJob) (p : Progress) → IsOn was mid → GoesOn IsWorkersCall was.names was.number was.front mid.front 0
-    → CauseOfProgress g mid.names mid.number mid.front now.front work p → CauseOfProgress g was.names was.number was.front now.front work p
-progress_after g was mid now work p on h k =
-    progress_since g was.names was.number was.front mid.front now.front work p h
-    (subst (λ n. CauseOfProgress g was.names n mid.front now.front work p) (ap (λ (x : Knowledge). x.number) on) (subst (λ names. CauseOfProgress g names mid.number mid.front now.front work p) (ap (λ (x : Knowledge). x.names) on) k))
+pub tried_after : (g : Settings) (routes : List Listed) (was mid now : Knowledge) (place : ℕ) (before after : List OpenJob) → IsOn was mid → Continues was.front mid.front → Continues mid.front now.front
+    → AreTried g routes was.number was.front mid.front place before → IsHinderedAt g routes mid.names mid.number mid.front now.front place before after → AreTried g routes was.number was.front now.front (place + 1) after
+tried_after g routes was mid now place before after on h k t w =
+    one_more_tried g routes was.names was.number was.front mid.front now.front place before after h k t
+    (subst (λ n. IsHinderedAt g routes was.names n mid.front now.front place before after) (ap (λ (x : Knowledge). x.number) on)
+    (subst (λ names. IsHinderedAt g routes names mid.number mid.front now.front place before after) (ap (λ (x : Knowledge). x.names) on) w))
+
+-- what is said of a job, from the front and the work before
+pub jobs_after : (g : Settings) (routes : List Listed) (most : Option ℕ) (a b c : Knowledge) (was mid now : List OpenJob) (p : Progress) → IsOn a b → Continues a.front b.front → Keeps a.names routes a.front b.front was mid
+    → ((x : OpenJob) → WasHad g a.number b.front c.front mid x → WasHad g a.number a.front c.front was x) → IsOfJobs g routes b.names b.number most b.front c.front mid now p
+    → IsOfJobs g routes a.names a.number most a.front c.front was now p
+jobs_after g routes most a b c was mid now p on later keeps had k =
+    of_jobs_since g routes a.names a.number most a.front b.front c.front was mid now p later keeps had
+    (subst (λ n. IsOfJobs g routes a.names n most b.front c.front mid now p) (ap (λ (x : Knowledge). x.number) on) (subst (λ names. IsOfJobs g routes names b.number most b.front c.front mid now p) (ap (λ (x : Knowledge). x.names) on) k))
+
+pub taking_after : (g : Settings) (routes : List Listed) (most : Option ℕ) (a b c : Knowledge) (was mid now : List OpenJob) (p : Progress) → IsOn a b → GoesOn IsWorkersCall a.names a.number a.front b.front 0 → Keeps a.names routes a.front b.front was mid
+    → ((x : OpenJob) → WasHad g a.number b.front c.front mid x → WasHad g a.number a.front c.front was x) → CauseOfTaking g routes b.names b.number most b.front c.front mid now p
+    → CauseOfTaking g routes a.names a.number most a.front c.front was now p
+taking_after g routes most a b c was mid now p on h keeps had k =
+    taking_since g routes a.names a.number most a.front b.front c.front was mid now p h keeps had
+    (subst (λ n. CauseOfTaking g routes a.names n most b.front c.front mid now p) (ap (λ (x : Knowledge). x.number) on) (subst (λ names. CauseOfTaking g routes names b.number most b.front c.front mid now p) (ap (λ (x : Knowledge). x.names) on) k))
 
 pub later_of : (names : List ℕ) (number : ℕ) (a b : List Entry) → GoesOn IsWorkersCall names number a b 0 → Continues a b
 later_of names number a b h = goes_later IsWorkersCall names number a b 0 h

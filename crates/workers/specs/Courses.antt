@@ -1,5 +1,5 @@
 -- How the job of a stream went, by the calls of one caller. Entries stand newest first.
-use Rattle.std.specs.Prelude.{◌≡◌, ◌<◌, ℕ, ◌==◌, ◌||◌, Bool, true, false, nat_lt, if◌then◌else◌, List, [], ◌∷◌, ◌++◌, length, Option, Some, None}
+use Rattle.std.specs.Prelude.{◌≡◌, ◌<◌, ◌≤◌, ◌+◌, ℕ, ◌==◌, ◌||◌, Bool, true, false, nat_lt, if◌then◌else◌, List, [], ◌∷◌, ◌++◌, length, Option, Some, None, is_none}
 use Rattle.std.specs.List.{AllByRecursion}
 use Rattle.rs_wire.specs.declared.call.Call.{Call}
 use Rattle.rs_wire.specs.declared.call.Call.TheVariants as call
@@ -17,7 +17,7 @@ use Rattle.conn_lock.specs.Callers.{times}
 pub record Course : Type 0 where
   -- the last job that was got on the stream
   pub job : Option Job
-  -- since then: the replies that were accepted, the newest first
+  -- since then, or without one at all: the replies that were accepted, the newest first
   pub made : List Call
   -- the contents of the items that were taken, the oldest first
   pub got : List (List ℕ)
@@ -53,9 +53,13 @@ after_reply asked a c = record c { made = if is_done a then asked ∷ c.made els
 abbrev pub after_take : ℕ → Answer → Course → Course
 after_take s a c = record c { got = c.got ++ got_in a; over = c.over || tells_end a; last = Some (call.Take s, a) }
 
+-- the replies that count for the next job: those that were accepted where no job was got yet
+abbrev pub made_before : Course → List Call
+made_before c = if is_none c.job then c.made else []
+
 abbrev pub after_job : ℕ → Answer → Course → Course
 after_job s (answer.GotJob (job.Asked q kind initial message complete)) c =
-    if q == s then record { job = Some (job.Asked q kind initial message complete); made = []; got = []; over = false; last = None; tried = c.tried }
+    if q == s then record { job = Some (job.Asked q kind initial message complete); made = made_before c; got = []; over = false; last = None; tried = c.tried }
     else c
 after_job s a c = c
 
@@ -91,6 +95,15 @@ IsWorkersCall (call.Next s message complete) = Unit {0}
 IsWorkersCall (call.Done s) = Unit {0}
 IsWorkersCall (call.Fail s code content) = Unit {0}
 IsWorkersCall _ = ⊥
+
+-- no call of a worker
+abbrev pub IsNoWork : Event → Type 0
+IsNoWork (event.Asked asked) = IsWorkersCall asked → ⊥
+IsNoWork _ = Unit {0}
+
+-- each entry under one of these names is so
+abbrev pub Under : List ℕ → (Entry → Type 0) → List Entry → Type 0
+Under names P past = AllByRecursion (λ (x : Entry). 0 < times x.who names → P x) past
 
 -- the call is a reply on stream s
 abbrev pub IsReplyOn : ℕ → Call → Type 0
@@ -139,3 +152,23 @@ pub record WorksOn (names : List ℕ) (number : ℕ) (old new : List Entry) : Ty
   pub own : AllByRecursion (λ (e : Entry). 0 < times e.who names → (e.who ≡ number) × Asks IsWorkersCall e.event) more
   pub stream : ℕ
   pub one : AllByRecursion (IsReplyOn stream) (accepted names more)
+
+-- the bytes of the content of a reply
+abbrev pub bytes_of : Call → ℕ
+bytes_of (call.Next s message complete) = length message.content
+bytes_of _ = 0
+
+abbrev pub bytes_of_all : List Call → ℕ
+bytes_of_all [] = 0
+bytes_of_all (c ∷ calls) = bytes_of c + bytes_of_all calls
+
+-- The front went on, and the contents of the replies that were accepted under these names have at least so many bytes.
+pub record HasSent (names : List ℕ) (old new : List Entry) (bytes : ℕ) : Type 0 where
+  pub more : List Entry
+  pub on : new ≡ more ++ old
+  pub sent : bytes ≤ bytes_of_all (accepted names more)
+
+-- and as many as are allowed, where there is a bound
+abbrev pub HasSentMost : List ℕ → Option ℕ → List Entry → List Entry → Type 0
+HasSentMost names None old new = ⊥
+HasSentMost names (Some most) old new = HasSent names old new most

@@ -1,5 +1,5 @@
 -- What the calls of a worker do to its job.
-use Rattle.std.specs.Prelude.{◌≡◌, ◌≢◌, ◌≤◌, ◌↔◌, ◌⊎◌, ◌+◌, ◌^◌, ℕ, Bool, true, false, if◌then◌else◌, List, [], ◌∷◌, ◌++◌, length, Option, Some, None}
+use Rattle.std.specs.Prelude.{◌≡◌, ◌≢◌, ◌≤◌, ◌⊎◌, ◌+◌, ℕ, Bool, true, false, if◌then◌else◌, List, [], ◌∷◌, ◌++◌, length, Option, Some, None}
 use Rattle.rs_wire.specs.declared.words.Kind.{Kind}
 use Rattle.rs_wire.specs.declared.words.Kind.TheVariants as kind
 use Rattle.rs_wire.specs.declared.message.Message.{Message}
@@ -12,11 +12,6 @@ use Rattle.tape.specs.Answers.{leaves}
 use Rattle.tape.specs.declared.answer.Answer.{Answer}
 use Rattle.tape.specs.declared.answer.Answer.TheVariants as answer
 use Rattle.tape.specs.declared.entry.Entry.{Entry}
-use Rattle.tape.specs.declared.event.Event.TheVariants as event
-use Rattle.rs_wire.specs.declared.settings.Settings.{Settings}
-use Rattle.session_model.specs.Answers.{answer_to}
-use Rattle.session_core.specs.Seen.{IsOrOutOfMemory}
-use Rattle.conn_shared.specs.Members.{Continues}
 use Rattle.handlers.specs.Listed.{Listed}
 use Rattle.handlers.specs.Values.{value}
 use Rattle.handlers.specs.declared.law.Law.{Law}
@@ -39,9 +34,8 @@ use Rattle.workers.specs.declared.worked.Worked.{Worked}
 use Rattle.workers.specs.declared.worked.Worked.TheVariants as worked
 use Rattle.workers.specs.declared.worked.Progress.{Progress}
 use Rattle.workers.specs.declared.worked.Progress.TheVariants as progress
-use Rattle.std.specs.List.{AllByRecursion}
 use Rattle.workers.specs.Replies.{item_of, items_of, law_of, no_route, plain, response}
-use Rattle.workers.specs.Courses.{Course, GoesOn, IsOfJob, IsWorkersCall, after_call, course}
+use Rattle.workers.specs.Courses.{Course, GoesOn, IsOfJob, after_call, bytes_of, course}
 use Rattle.workers.specs.Serving.{AreRouted, IsRouted, IsServed, IsWholeJob, Serving, Stands, jobs_on}
 
 -- ---- what a job says next
@@ -70,6 +64,18 @@ plan_by None _ s content made at = plan.Say (no_route s) true
 -- what a job says next, by the law of its route, where there is one
 abbrev pub plan_of : Option Law → OpenJob → Plan
 plan_of l j = plan_by l j.kind j.stream j.message.content j.made j.stage
+
+-- a channel of this law, all of whose contents so far are answered
+pub record Awaits (routes : List Listed) (j : OpenJob) : Type 0 where
+  pub law : Law
+  pub found : law_of routes j.kind j.message ≡ Some law
+  pub channel : j.kind ≡ kind.Channel
+  pub answered : j.stage ≡ stage.Answered
+
+-- a job's next call: the one that its plan says, or of a channel that is answered so far the Take of its stream
+abbrev pub IsNextOf : List Listed → OpenJob → Call → Type 0
+IsNextOf routes j asked =
+    ((last : Bool) × (plan_of (law_of routes j.kind j.message) j ≡ plan.Say asked last)) ⊎ (Awaits routes j × (asked ≡ call.Take j.stream))
 
 -- a plan is this one, but for out of memory
 abbrev pub IsPlan : Plan → Plan → Type 0
@@ -139,52 +145,6 @@ found_of answer.NotYet = found.NotYet
 found_of answer.OutOfMemory = found.OutOfMemory
 found_of a = found.NoMore a
 
--- ---- why a job does not go on
-
--- the answer to a call after these entries, but for a full tape and out of memory
-unfoldable pub IsRight : Settings → List Entry → Call → Answer → Type 0
-IsRight g before asked a = IsOrOutOfMemory a (answer_to g before (event.Asked asked))
-
--- between two fronts a call was so answered, after the entries before it
-pub record WasAnswered (g : Settings) (old new : List Entry) (asked : Call) (a : Answer) : Type 0 where
-  pub before : List Entry
-  pub since : Continues old before
-  pub up_to : Continues before new
-  pub answered : IsRight g before asked a
-  pub full : (a ≡ answer.TapeFull) ↔ (2 ^ 63 ≤ length before)
-
--- no credit, no room in the queue, or nothing to take yet
-abbrev pub IsHindrance : Answer → Type 0
-IsHindrance (answer.Refused (refusal.NoCredit granted)) = Unit {0}
-IsHindrance (answer.Refused (refusal.OutFull queued)) = Unit {0}
-IsHindrance answer.NotYet = Unit {0}
-IsHindrance _ = ⊥
-
--- the next call of the job of stream s met one of these
-pub record IsHindered (g : Settings) (old new : List Entry) (s : ℕ) : Type 0 where
-  pub asked : Call
-  pub met : Answer
-  pub on : IsOfJob s asked
-  pub hindered : IsHindrance met
-  pub was : WasAnswered g old new asked met
-
--- the next call of the job of stream s was answered so, and that is no hindrance
-pub record IsStoppedBy (g : Settings) (old new : List Entry) (s : ℕ) (a : Answer) : Type 0 where
-  pub asked : Call
-  pub on : IsOfJob s asked
-  pub stopped : (IsHindrance a → ⊥) × MayAnswer asked a
-  pub was : WasAnswered g old new asked a
-
-abbrev pub CauseOfStep : Settings → List Entry → List Entry → ℕ → Step → Type 0
-CauseOfStep g old new s step.Blocked = IsHindered g old new s
-CauseOfStep g old new s (step.Stopped a) = IsStoppedBy g old new s a
-CauseOfStep g old new s _ = Unit {0}
-
-abbrev pub CauseOf : Settings → List Entry → List Entry → ℕ → Going → Type 0
-CauseOf g old new s going.Blocked = IsHindered g old new s
-CauseOf g old new s (going.Stopped a) = IsStoppedBy g old new s a
-CauseOf g old new s _ = Unit {0}
-
 -- ---- how a job goes on
 
 -- what is left after a reply with this outcome
@@ -216,6 +176,11 @@ left_by s j = j ∷ []
 abbrev pub IsSameJob : OpenJob → OpenJob → Type 0
 IsSameJob was now = now ≡ record was { made = now.made; stage = now.stage }
 
+-- a job of this request stood in the work
+abbrev pub StoodIn : List OpenJob → OpenJob → Type 0
+StoodIn [] j = ⊥
+StoodIn (i ∷ jobs) j = IsSameJob i j ⊎ StoodIn jobs j
+
 -- between two fronts a job went on by calls under these names: if it stood, it stands now, or is done; and no other stream's job did
 pub record HasGone (names : List ℕ) (routes : List Listed) (old new : List Entry) (was : OpenJob) (left : List OpenJob) : Type 0 where
   pub kept : Stands routes (course names was.stream old) was → IsServed routes (length new) was.stream (course names was.stream new) left
@@ -245,25 +210,11 @@ abbrev pub WholeOf : List ℕ → List Listed → List Entry → List Entry → 
 WholeOf names routes old new was (going.Served items) = IsEnded names routes old new was items
 WholeOf names routes old new was _ = Unit {0}
 
--- a step that serves the job by this reply, after so many items: it is the last one
-abbrev pub IsLastStep : Call → ℕ → Bool → Step → Type 0
-IsLastStep asked before last (step.Served items) = (last ≡ true) × (items ≡ before + item_of asked)
-IsLastStep asked before last _ = Unit {0}
-
--- among these jobs the one at that place went on, to that end
-pub record WentAt (names : List ℕ) (routes : List Listed) (number : ℕ) (g : Settings) (old new : List Entry) (place : ℕ) (was now : List OpenJob) (how : Going) : Type 0 where
-  pub before : List OpenJob
-  pub job : OpenJob
-  pub left : OpenJob
-  pub after : List OpenJob
-  pub were : was ≡ before ++ job ∷ after
-  pub are : now ≡ before ++ left ∷ after
-  pub at : length before ≡ place
-  pub same : IsSameJob job left
-  pub gone : HasGone names routes old new job (left_by how left)
-  pub worked : HasWorked names number old new job left
-  pub cause : CauseOf g old new job.stream how
-  pub whole : WholeOf names routes old new job how
+-- a step by this reply, which was accepted after so many items: the last one serves the job, and after another one it goes on
+abbrev pub IsAccepted : Call → ℕ → Bool → Step → Type 0
+IsAccepted asked before last (step.Served items) = (last ≡ true) × (items ≡ before + item_of asked)
+IsAccepted asked before last (step.Went bytes) = bytes ≡ bytes_of asked
+IsAccepted asked before last _ = ⊥
 
 -- the job at that place stays or leaves
 abbrev pub IsSettled : ℕ → Going → List OpenJob → List OpenJob → Type 0
@@ -278,6 +229,7 @@ pub record IsForgotten (s : ℕ) (was now : List OpenJob) : Type 0 where
   pub here : length (jobs_on s was) ≤ 1 → jobs_on s now ≡ []
   pub apart : (q : ℕ) → q ≢ s → jobs_on q now ≡ jobs_on q was
   pub routed : (routes : List Listed) → AreRouted routes was → AreRouted routes now
+  pub stood : (j : OpenJob) → StoodIn now j → StoodIn was j
 
 -- a job of that request stands in the work, in place of one of the same stream
 pub record IsPut (routes : List Listed) (s : ℕ) (k : Kind) (asked : Message) (was now : List OpenJob) : Type 0 where
@@ -292,61 +244,6 @@ pub record IsPut (routes : List Listed) (s : ℕ) (k : Kind) (asked : Message) (
   pub made : job.made ≡ 0
   pub stage : job.stage ≡ stage.Request
 
--- a channel of this law, all of whose contents so far are answered
-pub record Awaits (routes : List Listed) (j : OpenJob) : Type 0 where
-  pub law : Law
-  pub found : law_of routes j.kind j.message ≡ Some law
-  pub channel : j.kind ≡ kind.Channel
-  pub answered : j.stage ≡ stage.Answered
-
--- ---- what a worker says
-
--- the next call of each of these jobs was hindered
-abbrev pub AreHindered : Settings → List Entry → List Entry → List OpenJob → Type 0
-AreHindered g old new jobs = AllByRecursion (λ (j : OpenJob). IsHindered g old new j.stream) jobs
-
-abbrev pub IsRefusedOrFull : Answer → Type 0
-IsRefusedOrFull (answer.Refused why) = Unit {0}
-IsRefusedOrFull answer.TapeFull = Unit {0}
-IsRefusedOrFull _ = ⊥
-
--- TakeJob was so answered
-abbrev pub IsNoMore : Settings → List Entry → List Entry → Answer → Type 0
-IsNoMore g old new a = WasAnswered g old new call.TakeJob a × IsRefusedOrFull a
-
--- why a worker says that, with this work left
-abbrev pub CauseOfWorked : Settings → List ℕ → ℕ → List Entry → List Entry → List OpenJob → Worked → Type 0
-CauseOfWorked g names number old new work (worked.Served stream items) = Unit {0}
-CauseOfWorked g names number old new work (worked.Waiting s) = IsHindered g old new s
-CauseOfWorked g names number old new work (worked.Stopped a) = (s : ℕ) × IsStoppedBy g old new s a
-CauseOfWorked g names number old new work (worked.NoMore a) = GoesOn IsWorkersCall names number old new 0 × IsNoMore g old new a
-CauseOfWorked g names number old new work worked.Idle =
-    GoesOn IsWorkersCall names number old new 0 × WasAnswered g old new call.TakeJob answer.NotYet × AreHindered g old new work
-CauseOfWorked g names number old new work worked.OutOfMemory = Unit {0}
-
-abbrev pub CauseOfProgress : Settings → List ℕ → ℕ → List Entry → List Entry → List OpenJob → Progress → Type 0
-CauseOfProgress g names number old new work (progress.More s) = Unit {0}
-CauseOfProgress g names number old new work (progress.Worked w) = CauseOfWorked g names number old new work w
-
--- the job of stream s has left the work, and is whole, with so many items
-abbrev pub IsOver : List ℕ → List Listed → List Entry → List OpenJob → ℕ → ℕ → Type 0
-IsOver names routes past work items s = (jobs_on s work ≡ []) × IsWholeOf routes s items (course names s past)
-
--- metadata for the whole connection was taken
-abbrev pub IsPushed : Settings → List Entry → List Entry → Type 0
-IsPushed g old new = (metadata : List ℕ) × WasAnswered g old new call.TakeJob (answer.GotJob (job.Pushed metadata))
-
--- Where a worker says that the job of a stream is served, it has left the work and is whole, with as many items as it says, if the
--- statement held before. Of pushed metadata it says so with stream 0.
-abbrev pub WholeOfWorked : Settings → List ℕ → List Listed → List Entry → List Entry → List OpenJob → List OpenJob → Worked → Type 0
-WholeOfWorked g names routes old new was now (worked.Served s items) =
-    (Serving names old routes was → IsOver names routes new now items s) ⊎ ((s ≡ 0) × (items ≡ 0) × IsPushed g old new)
-WholeOfWorked g names routes old new was now _ = Unit {0}
-
-abbrev pub WholeOfProgress : Settings → List ℕ → List Listed → List Entry → List Entry → List OpenJob → List OpenJob → Progress → Type 0
-WholeOfProgress g names routes old new was now (progress.More s) = Unit {0}
-WholeOfProgress g names routes old new was now (progress.Worked w) = WholeOfWorked g names routes old new was now w
-
 -- what is said of the job of stream s that went on so
 abbrev pub progress_of : ℕ → Going → Progress
 progress_of s (going.Served items) = progress.Worked (worked.Served s items)
@@ -354,27 +251,3 @@ progress_of s going.Blocked = progress.Worked (worked.Waiting s)
 progress_of s going.More = progress.More s
 progress_of s (going.Stopped a) = progress.Worked (worked.Stopped a)
 progress_of s going.OutOfMemory = progress.Worked worked.OutOfMemory
-
-abbrev pub IsNotMore : Progress → Type 0
-IsNotMore (progress.More s) = ⊥
-IsNotMore (progress.Worked w) = Unit {0}
-
--- the job at that place was hindered, and the others stayed
-pub record IsHinderedAt (g : Settings) (old new : List Entry) (place : ℕ) (was now : List OpenJob) : Type 0 where
-  pub before : List OpenJob
-  pub job : OpenJob
-  pub left : OpenJob
-  pub after : List OpenJob
-  pub were : was ≡ before ++ job ∷ after
-  pub are : now ≡ before ++ left ∷ after
-  pub at : length before ≡ place
-  pub hindered : IsHindered g old new left.stream
-
--- what is said of a job's end, with its cause
-abbrev pub IsOfJobs : Settings → List Entry → List Entry → Progress → Type 0
-IsOfJobs g old new (progress.More s) = Unit {0}
-IsOfJobs g old new (progress.Worked (worked.Served s items)) = Unit {0}
-IsOfJobs g old new (progress.Worked (worked.Waiting s)) = IsHindered g old new s
-IsOfJobs g old new (progress.Worked (worked.Stopped a)) = (s : ℕ) × IsStoppedBy g old new s a
-IsOfJobs g old new (progress.Worked worked.OutOfMemory) = Unit {0}
-IsOfJobs g old new (progress.Worked _) = ⊥

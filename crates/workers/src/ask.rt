@@ -2,8 +2,9 @@
 
 ghost use Rattle.std.specs.Prelude.{◌≡◌, ◌≤◌, ◌^◌, ℕ, length};
 ghost use Rattle.rs_wire.specs.Calls.{CanBeAsked};
-ghost use Rattle.workers.specs.Courses.{GoesOn, IsWorkersCall, accepted_of, course};
-ghost use Rattle.workers.specs.Going.{MayAnswer, WasAnswered, told};
+ghost use Rattle.workers.specs.Causes.{WasAnswered};
+ghost use Rattle.workers.specs.Courses.{GoesOn, HasSent, IsWorkersCall, accepted_of, bytes_of_all, course};
+ghost use Rattle.workers.specs.Going.{MayAnswer, told};
 
 use conn::{Caller, Connection};
 use rs_wire::Call;
@@ -26,9 +27,11 @@ pub fn ask<R: Wait, T: Tape>(
         ≡ told s call.now result (course caller.old.names s caller.old.front) }
     ensures goes { GoesOn (λ c. c ≡ call.now) caller.old.names caller.old.number
         caller.old.front caller.new.front (length (accepted_of call.now result)) }
+    ensures sent { HasSent caller.old.names caller.old.front caller.new.front
+        (bytes_of_all (accepted_of call.now result)) }
     ensures may { MayAnswer call.now result }
-    ensures was { WasAnswered connection.now.settings caller.old.front caller.new.front
-        call.now result }
+    ensures was { WasAnswered connection.now.settings caller.old.number caller.old.front
+        caller.new.front call.now result }
     ensures full { result ≡ Answer.TapeFull → 2 ^ 63 ≤ length caller.new.front }
 {
     // The caller's number is one of its names, which contracts have from this call alone.

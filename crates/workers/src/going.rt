@@ -1,9 +1,10 @@
 //! How far a job goes on in one call.
 
-ghost use Rattle.std.specs.Prelude.{◌≡◌, ◌≢◌, None, false};
+ghost use Rattle.std.specs.Prelude.{◌≡◌, ◌≢◌, ◌≤◌, None, IfSome, true, false};
 ghost use Rattle.workers.specs.declared.going.Going.TheVariants as goings;
 ghost use Rattle.workers.specs.Serving.{IsRouted};
-ghost use Rattle.workers.specs.Going.{CauseOf, HasGone, HasWorked, IsSameJob, WholeOf, left_by};
+ghost use Rattle.workers.specs.Causes.{CauseOf};
+ghost use Rattle.workers.specs.Going.{HasGone, HasWorked, IsSameJob, WholeOf, left_by};
 
 use crate::gate::Gate;
 use crate::job::OpenJob;
@@ -31,7 +32,8 @@ pub enum Going {
 
 // So many bytes are as many as were allowed.
 fn is_enough(sent: u64, most: Option<u64>) -> bool
-    ensures { most ≡ None → result ≡ false }
+    ensures none { most ≡ None → result ≡ false }
+    ensures enough { result ≡ true → IfSome most (λ m. m ≤ sent) }
 {
     match most {
         None => false,
@@ -57,8 +59,8 @@ pub fn go_on<R: Wait, T: Tape, F: Handler, G: Gate>(
     ensures worked { HasWorked caller.old.names caller.old.number caller.old.front
         caller.new.front job.old job.new }
     ensures job { IsSameJob job.old job.new }
-    ensures cause { CauseOf connection.now.settings caller.old.front caller.new.front
-        job.old.stream result }
+    ensures cause { CauseOf connection.now.settings routes.now caller.old.names caller.old.number
+        most caller.old.front caller.new.front job.new result }
     ensures kept { HasGone caller.old.names routes.now caller.old.front caller.new.front job.old
         (left_by result job.new) }
     ensures whole { WholeOf caller.old.names routes.now caller.old.front caller.new.front job.old

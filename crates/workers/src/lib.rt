@@ -7,7 +7,9 @@
 //! statement `Serving` of `specs/Serving.antt`, which every call keeps: of each job that this caller
 //! got, the replies accepted so far are the first ones of its law, in order, each once, and the job
 //! is in the work, or it is whole, or its next reply was refused for good. It holds at the beginning
-//! ([`a_worker_begins`]).
+//! ([`a_worker_begins`]), and goes on where this caller makes other calls ([`a_worker_waits`]) and
+//! where it takes in callers that worked on nothing ([`serving_joined`]). What a call says has its
+//! cause in `specs/Causes.antt`: the next call of one of its jobs, which was made and so answered.
 //!
 //! Handlers run outside the connection's lock, so two workers run theirs at one time. That is shown
 //! by a test, and by no contract. Left out: that a job comes to its turn, and any order between the
@@ -27,7 +29,7 @@ mod work;
 mod worked;
 
 pub use gate::{Gate, OpenGate};
-pub use laws::a_worker_begins;
+pub use laws::{a_worker_begins, a_worker_waits, course_of_none, course_of_one, serving_joined};
 pub use serve::{serve_job, serve_some};
 pub use work::Work;
 pub use worked::{Progress, Worked};

@@ -1,6 +1,6 @@
 //! One job of a connection is served.
 
-ghost use Rattle.std.specs.Prelude.{◌≡◌, ◌≢◌, ◌<◌, ◌≤◌, ◌+◌, ◌==◌, ℕ, true, [], None, Some, IfNone, IfSome, length, position, vec_len, vec_capacity};
+ghost use Rattle.std.specs.Prelude.{◌≡◌, ◌≢◌, ◌<◌, ◌≤◌, ◌+◌, ◌==◌, ℕ, true, None, Some, IfNone, IfSome, length, position, vec_len, vec_capacity};
 ghost use Rattle.handlers.specs.Listed.{place as place_of};
 ghost use Rattle.workers.specs.declared.going.Going.TheVariants as goings;
 ghost use Rattle.workers.specs.declared.worked.Progress.TheVariants as progresses;
@@ -8,7 +8,8 @@ ghost use Rattle.workers.specs.declared.worked.Worked.TheVariants as workeds;
 ghost use Rattle.workers.specs.Courses.{GoesOn, IsWorkersCall, WorksOn};
 ghost use Rattle.workers.specs.Replies.{name_of};
 ghost use Rattle.workers.specs.Serving.{AreRouted, Serving};
-ghost use Rattle.workers.specs.Going.{CauseOfProgress, CauseOfWorked, IsForgotten, IsHinderedAt, IsNotMore, IsOfJobs, IsPut, IsSettled, Keeps, WentAt, WholeOfProgress, WholeOfWorked, progress_of};
+ghost use Rattle.workers.specs.Causes.{CauseOfProgress, CauseOfTaking, CauseOfWorked, IsHinderedAt, IsNotMore, IsOfJobs, WentAt, WholeOfProgress, WholeOfWorked};
+ghost use Rattle.workers.specs.Going.{IsForgotten, IsPut, IsSettled, Keeps, progress_of};
 
 use crate::ask::ask;
 use crate::gate::Gate;
@@ -57,7 +58,7 @@ fn go_at<R: Wait, T: Tape, F: Handler, G: Gate>(
     ensures same { caller.new ≡
         record caller.old { front = caller.new.front; note = caller.new.note } }
     ensures went { WentAt caller.old.names routes.now caller.old.number connection.now.settings
-        caller.old.front caller.new.front place jobs.old.items jobs.new.items result }
+        most caller.old.front caller.new.front place jobs.old.items jobs.new.items result }
     ensures unbounded { most ≡ None → result ≢ goings.More }
 {
     go_on(
@@ -121,14 +122,17 @@ fn try_job<R: Wait, T: Tape, F: Handler, G: Gate>(
         jobs.old.items jobs.new.items }
     ensures works { IfSome result (λ p.
         WorksOn caller.old.names caller.old.number caller.old.front caller.new.front) }
-    ensures cause { IfSome result (λ p.
-        IsOfJobs connection.now.settings caller.old.front caller.new.front p) }
-    ensures whole { IfSome result (λ p. WholeOfProgress connection.now.settings caller.old.names
-        routes.now caller.old.front caller.new.front jobs.old.items jobs.new.items p) }
+    ensures cause { IfSome result (λ p. IsOfJobs connection.now.settings routes.now
+        caller.old.names caller.old.number most caller.old.front caller.new.front jobs.old.items
+        jobs.new.items p) }
+    ensures whole { IfSome result (λ p. WholeOfProgress connection.now.settings routes.now
+        caller.old.names caller.old.number caller.old.front caller.new.front jobs.old.items
+        jobs.new.items p) }
     ensures quiet { IfNone result (GoesOn IsWorkersCall caller.old.names caller.old.number
         caller.old.front caller.new.front 0) }
-    ensures hindered { IfNone result (IsHinderedAt connection.now.settings caller.old.front
-        caller.new.front place jobs.old.items jobs.new.items) }
+    ensures hindered { IfNone result (IsHinderedAt connection.now.settings routes.now
+        caller.old.names caller.old.number caller.old.front caller.new.front place jobs.old.items
+        jobs.new.items) }
     ensures unbounded { most ≡ None → IfSome result IsNotMore }
 {
     let stream = jobs[place].stream;
@@ -205,9 +209,11 @@ fn go_first<R: Wait, T: Tape, F: Handler, G: Gate>(
     ensures routed { AreRouted routes.now jobs.new.items }
     ensures kept { Keeps caller.old.names routes.now caller.old.front caller.new.front
         jobs.old.items jobs.new.items }
-    ensures cause { IsOfJobs connection.now.settings caller.old.front caller.new.front result }
-    ensures whole { WholeOfProgress connection.now.settings caller.old.names routes.now
-        caller.old.front caller.new.front jobs.old.items jobs.new.items result }
+    ensures cause { IsOfJobs connection.now.settings routes.now caller.old.names
+        caller.old.number most caller.old.front caller.new.front jobs.old.items jobs.new.items
+        result }
+    ensures whole { WholeOfProgress connection.now.settings routes.now caller.old.names
+        caller.old.number caller.old.front caller.new.front jobs.old.items jobs.new.items result }
     ensures unbounded { most ≡ None → IsNotMore result }
 {
     let place = jobs.len() - 1;
@@ -237,10 +243,11 @@ fn take_job<R: Wait, T: Tape, F: Handler, G: Gate>(
     ensures routed { AreRouted routes.now jobs.new.items }
     ensures kept { Keeps caller.old.names routes.now caller.old.front caller.new.front
         jobs.old.items jobs.new.items }
-    ensures cause { CauseOfProgress connection.now.settings caller.old.names caller.old.number
-        caller.old.front caller.new.front [] result }
-    ensures whole { WholeOfProgress connection.now.settings caller.old.names routes.now
-        caller.old.front caller.new.front jobs.old.items jobs.new.items result }
+    ensures cause { CauseOfTaking connection.now.settings routes.now caller.old.names
+        caller.old.number most caller.old.front caller.new.front jobs.old.items jobs.new.items
+        result }
+    ensures whole { WholeOfProgress connection.now.settings routes.now caller.old.names
+        caller.old.number caller.old.front caller.new.front jobs.old.items jobs.new.items result }
     ensures idle { result ≡ progresses.Worked workeds.Idle →
         jobs.new.items ≡ jobs.old.items }
     ensures unbounded { most ≡ None → IsNotMore result }
@@ -286,10 +293,11 @@ fn serve<R: Wait, T: Tape, F: Handler, G: Gate>(
     ensures routed { AreRouted routes.now jobs.new.items }
     ensures kept { Keeps caller.old.names routes.now caller.old.front caller.new.front
         jobs.old.items jobs.new.items }
-    ensures cause { CauseOfProgress connection.now.settings caller.old.names caller.old.number
-        caller.old.front caller.new.front jobs.new.items result }
-    ensures whole { WholeOfProgress connection.now.settings caller.old.names routes.now
-        caller.old.front caller.new.front jobs.old.items jobs.new.items result }
+    ensures cause { CauseOfProgress connection.now.settings routes.now caller.old.names
+        caller.old.number most caller.old.front caller.new.front jobs.old.items jobs.new.items
+        result }
+    ensures whole { WholeOfProgress connection.now.settings routes.now caller.old.names
+        caller.old.number caller.old.front caller.new.front jobs.old.items jobs.new.items result }
     ensures unbounded { most ≡ None → IsNotMore result }
 {
     let count = jobs.len();
@@ -325,10 +333,10 @@ pub fn serve_job<R: Wait, T: Tape, F: Handler, G: Gate>(
     ensures routed { AreRouted routes.now work.new }
     ensures kept { Serving caller.old.names caller.old.front routes.now work.old →
         Serving caller.old.names caller.new.front routes.now work.new }
-    ensures cause { CauseOfWorked connection.now.settings caller.old.names caller.old.number
-        caller.old.front caller.new.front work.new result }
-    ensures whole { WholeOfWorked connection.now.settings caller.old.names routes.now
-        caller.old.front caller.new.front work.old work.new result }
+    ensures cause { CauseOfWorked connection.now.settings routes.now caller.old.names
+        caller.old.number caller.old.front caller.new.front work.old work.new result }
+    ensures whole { WholeOfWorked connection.now.settings routes.now caller.old.names
+        caller.old.number caller.old.front caller.new.front work.old work.new result }
 {
     match serve(
         rt,
@@ -366,10 +374,10 @@ pub fn serve_some<R: Wait, T: Tape, F: Handler, G: Gate>(
     ensures routed { AreRouted routes.now work.new }
     ensures kept { Serving caller.old.names caller.old.front routes.now work.old →
         Serving caller.old.names caller.new.front routes.now work.new }
-    ensures cause { CauseOfProgress connection.now.settings caller.old.names caller.old.number
-        caller.old.front caller.new.front work.new result }
-    ensures whole { WholeOfProgress connection.now.settings caller.old.names routes.now
-        caller.old.front caller.new.front work.old work.new result }
+    ensures cause { CauseOfProgress connection.now.settings routes.now caller.old.names
+        caller.old.number (Some most) caller.old.front caller.new.front work.old work.new result }
+    ensures whole { WholeOfProgress connection.now.settings routes.now caller.old.names
+        caller.old.number caller.old.front caller.new.front work.old work.new result }
 {
     serve(
         rt,

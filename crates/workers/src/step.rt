@@ -2,17 +2,16 @@
 
 ghost use Rattle.std.specs.Prelude.{◌≡◌, ◌+◌, ◌≤◌, ℕ, List, true, IsTrue, is_some};
 ghost use Rattle.rs_wire.specs.Calls.{CanBeAsked};
-ghost use Rattle.rs_wire.specs.declared.settings.Settings.{Settings};
-ghost use Rattle.tape.specs.declared.entry.Entry.{Entry};
 ghost use Rattle.rs_wire.specs.declared.words.Kind.TheVariants as kinds;
 ghost use Rattle.handlers.specs.Listed.{Listed};
 ghost use Rattle.workers.specs.declared.plan.Plan.TheVariants as plans;
 ghost use Rattle.workers.specs.declared.job.Stage.TheVariants as stages;
 ghost use Rattle.workers.specs.declared.outcome.Outcome.TheVariants as outcomes;
 ghost use Rattle.workers.specs.Replies.{item_of, law_of};
-ghost use Rattle.workers.specs.Courses.{IsReplyOn};
+ghost use Rattle.workers.specs.Causes.{CauseOfStep};
+ghost use Rattle.workers.specs.Courses.{IsReplyOn, bytes_of};
 ghost use Rattle.workers.specs.Serving.{IsRouted};
-ghost use Rattle.workers.specs.Going.{Awaits, CauseOfStep, HasGone, HasWorked, IsLastStep, IsSameJob, WholeOfStep, left_after, left_by_step, plan_of};
+ghost use Rattle.workers.specs.Going.{Awaits, HasGone, HasWorked, IsAccepted, IsSameJob, WholeOfStep, left_after, left_by_step, plan_of};
 
 use crate::ask::ask;
 use crate::gate::Gate;
@@ -51,7 +50,9 @@ fn items_in(call: &Call) -> u64
     }
 }
 
-fn bytes_in(call: &Call) -> u64 {
+fn bytes_in(call: &Call) -> u64
+    ensures { result ≡ bytes_of call.now }
+{
     match call {
         Call::Next { message, .. } => message.content.len() as u64,
         _ => 0,
@@ -83,8 +84,9 @@ fn take_content<R: Wait, T: Tape>(
     ensures worked { HasWorked caller.old.names caller.old.number caller.old.front
         caller.new.front job.old job.new }
     ensures job { IsSameJob job.old job.new }
-    ensures cause { CauseOfStep connection.now.settings caller.old.front caller.new.front
-        job.old.stream result }
+    ensures cause { (routes : List Listed) → Awaits routes job.old → CauseOfStep
+        connection.now.settings routes caller.old.names caller.old.number caller.old.front
+        caller.new.front job.new result }
     ensures kept { (routes : List Listed) → Awaits routes job.old → HasGone caller.old.names routes
         caller.old.front caller.new.front job.old (left_by_step result job.new) }
     ensures whole { (routes : List Listed) → WholeOfStep caller.old.names routes caller.old.front
@@ -111,9 +113,7 @@ fn accepted(job: &mut OpenJob, call: &Call, last: bool, made: u64) -> Step
     requires { made ≡ job.old.made + 1 }
     ensures job { job.new ≡ record job.old { made = made; stage = stages.Answered } }
     ensures left { left_by_step result job.new ≡ left_after outcomes.Accepted last job.old made }
-    ensures cause { (settings : Settings) (old new : List Entry) (stream : ℕ) →
-        CauseOfStep settings old new stream result }
-    ensures end { IsLastStep call.now job.old.made last result }
+    ensures accepted { IsAccepted call.now job.old.made last result }
 {
     let items = job.made + items_in(call);
     job.made = made;
@@ -142,8 +142,10 @@ fn say<R: Wait, T: Tape>(
     ensures worked { HasWorked caller.old.names caller.old.number caller.old.front
         caller.new.front job.old job.new }
     ensures job { IsSameJob job.old job.new }
-    ensures cause { CauseOfStep connection.now.settings caller.old.front caller.new.front
-        job.old.stream result }
+    ensures cause { (routes : List Listed) →
+        plan_of (law_of routes job.old.kind job.old.message) job.old ≡ plans.Say call.now last →
+        CauseOfStep connection.now.settings routes caller.old.names caller.old.number
+        caller.old.front caller.new.front job.new result }
     ensures kept { (routes : List Listed) →
         plan_of (law_of routes job.old.kind job.old.message) job.old ≡ plans.Say call.now last →
         HasGone caller.old.names routes caller.old.front caller.new.front job.old
@@ -181,8 +183,8 @@ fn answer<R: Wait, T: Tape, F: Handler>(
     ensures worked { HasWorked caller.old.names caller.old.number caller.old.front
         caller.new.front job.old job.new }
     ensures job { IsSameJob job.old job.new }
-    ensures cause { CauseOfStep connection.now.settings caller.old.front caller.new.front
-        job.old.stream result }
+    ensures cause { CauseOfStep connection.now.settings routes.now caller.old.names
+        caller.old.number caller.old.front caller.new.front job.new result }
     ensures kept { HasGone caller.old.names routes.now caller.old.front caller.new.front job.old
         (left_by_step result job.new) }
     ensures whole { WholeOfStep caller.old.names routes.now caller.old.front caller.new.front
@@ -216,8 +218,8 @@ pub fn make_step<R: Wait, T: Tape, F: Handler, G: Gate>(
     ensures worked { HasWorked caller.old.names caller.old.number caller.old.front
         caller.new.front job.old job.new }
     ensures job { IsSameJob job.old job.new }
-    ensures cause { CauseOfStep connection.now.settings caller.old.front caller.new.front
-        job.old.stream result }
+    ensures cause { CauseOfStep connection.now.settings routes.now caller.old.names
+        caller.old.number caller.old.front caller.new.front job.new result }
     ensures kept { HasGone caller.old.names routes.now caller.old.front caller.new.front job.old
         (left_by_step result job.new) }
     ensures whole { WholeOfStep caller.old.names routes.now caller.old.front caller.new.front

@@ -1,6 +1,6 @@
 use Rattle.std.proofs.Common.{◌<◌, subst}
 use Rattle.conn_lock.specs.Callers.{times}
-use Rattle.workers.proofs.Calling.{course_told, full_at, goes_call, may_answer, was_answered}
+use Rattle.workers.proofs.Calling.{course_told, full_at, goes_call, may_answer, sent_call, was_answered}
 use Rattle.workers.proofs.ask.ask.Goals as goal
 
 pub returns-clause-told : goal.returns-clause-told
@@ -8,6 +8,9 @@ returns-clause-told g c = course_told _ c.args.caller.now c.args.call.now c.call
 
 pub returns-clause-goes : goal.returns-clause-goes
 returns-clause-goes g c = goes_call _ c.args.caller.now c.args.call.now c.call.result _ (subst (λ n. 0 < times n c.args.caller.now.names) c.number-number.ensures.value c.number-number.ensures.named) c.call.ensures.called
+
+pub returns-clause-sent : goal.returns-clause-sent
+returns-clause-sent g c = sent_call _ c.args.caller.now c.args.call.now c.call.result _ (subst (λ n. 0 < times n c.args.caller.now.names) c.number-number.ensures.value c.number-number.ensures.named) c.call.ensures.called
 
 pub returns-clause-may : goal.returns-clause-may
 returns-clause-may g c = may_answer _ c.args.caller.now c.args.call.now c.call.result _ c.requires.workers c.call.ensures.called

@@ -1,4 +1,5 @@
 use Rattle.std.proofs.Common.{◌≡◌, [], ◌∷◌}
+use Rattle.workers.specs.Courses.{HasSent}
 use Rattle.workers.specs.Going.{HasGone, HasWorked, IsSameJob}
 use Rattle.workers.proofs.going.go_on.Given as goal
 
@@ -7,5 +8,6 @@ invariant-loop g l = record {
   same : l.caller ≡ record l.fn.caller { front = l.caller.front; note = l.caller.note };
   job : IsSameJob l.fn.job l.job;
   worked : HasWorked l.fn.caller.names l.fn.caller.number l.fn.caller.front l.caller.front l.fn.job l.job;
+  sent : HasSent l.fn.caller.names l.fn.caller.front l.caller.front l.sent;
   gone : HasGone l.fn.caller.names l.routes l.fn.caller.front l.caller.front l.fn.job (l.job ∷ []);
 }

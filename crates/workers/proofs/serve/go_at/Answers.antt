@@ -11,5 +11,5 @@ go_on-requires-clause-routed g c =
 
 pub returns-clause-went : goal.returns-clause-went
 returns-clause-went g c =
-    went_here _ _ _ _ _ _ c.args.place c.args.jobs.now.items c.index_mut.result.now c.go_on.new.job c.go_on.result c.requires.place
+    went_here _ _ _ _ _ _ _ c.args.place c.args.jobs.now.items c.index_mut.result.now c.go_on.new.job c.go_on.result c.requires.place
     c.index_mut.ensures.value c.go_on.ensures.job c.go_on.ensures.kept c.go_on.ensures.worked c.go_on.ensures.cause c.go_on.ensures.whole

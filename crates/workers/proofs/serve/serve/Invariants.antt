@@ -1,7 +1,8 @@
 use Rattle.std.proofs.Common.{◌≡◌, length}
 use Rattle.workers.specs.Courses.{GoesOn, IsWorkersCall}
 use Rattle.workers.specs.Serving.{AreRouted}
-use Rattle.workers.specs.Going.{Keeps}
+use Rattle.workers.specs.declared.job.OpenJob.{OpenJob}
+use Rattle.workers.specs.Going.{Keeps, StoodIn}
 use Rattle.workers.proofs.Served.{AreTried}
 use Rattle.workers.proofs.serve.serve.Given as goal
 
@@ -12,5 +13,6 @@ invariant-loop-place g l = record {
   routed : AreRouted l.routes l.jobs.items;
   kept : Keeps l.fn.caller.names l.routes l.fn.caller.front l.caller.front l.fn.jobs.items l.jobs.items;
   many : length l.jobs.items ≡ l.count;
-  tried : AreTried l.connection.settings l.fn.caller.front l.caller.front l.place l.jobs.items;
+  tried : AreTried l.connection.settings l.routes l.fn.caller.number l.fn.caller.front l.caller.front l.place l.jobs.items;
+  stood : (x : OpenJob) → StoodIn l.jobs.items x → StoodIn l.fn.jobs.items x;
 }

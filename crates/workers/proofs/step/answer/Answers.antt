@@ -2,8 +2,12 @@ use Rattle.std.proofs.Common.{sym, subst}
 use Rattle.workers.specs.Replies.{law_of}
 use Rattle.workers.specs.Going.{IsPlan, plan_of}
 use Rattle.workers.proofs.Ended.{whole_quietly}
+use Rattle.workers.proofs.Fronts.{sent_none}
 use Rattle.workers.proofs.Gone.{gone_skipped, gone_unsaid}
 use Rattle.workers.proofs.step.answer.Goals as goal
+
+pub returns-in-Skip-clause-cause : goal.returns-in-Skip-clause-cause
+returns-in-Skip-clause-cause g c = sent_none _ _
 
 pub returns-in-Skip-clause-kept : goal.returns-in-Skip-clause-kept
 returns-in-Skip-clause-kept g c =

@@ -7,5 +7,11 @@ returns-then-awaits_content-clause-kept g c =
     c.take_content.ensures.kept c.args.routes.now
     (found_awaits c.args.routes.now c.args.job.now c.requires.routed (c.awaits_content.ensures.route yes) (c.awaits_content.ensures.kind yes) (c.awaits_content.ensures.stage yes))
 
+pub returns-then-awaits_content-clause-cause : goal.returns-then-awaits_content-clause-cause
+returns-then-awaits_content-clause-cause g c =
+    let yes = c.if-awaits_content.true in
+    c.take_content.ensures.cause c.args.routes.now
+    (found_awaits c.args.routes.now c.args.job.now c.requires.routed (c.awaits_content.ensures.route yes) (c.awaits_content.ensures.kind yes) (c.awaits_content.ensures.stage yes))
+
 pub returns-then-awaits_content-clause-whole : goal.returns-then-awaits_content-clause-whole
 returns-then-awaits_content-clause-whole g c = c.take_content.ensures.whole c.args.routes.now

@@ -4,7 +4,7 @@ use Rattle.workers.specs.declared.outcome.Outcome.{Outcome}
 use Rattle.workers.specs.declared.outcome.Outcome.TheVariants as outcome
 use Rattle.workers.specs.Going.{HasGone}
 use Rattle.workers.proofs.Ended.{whole_said}
-use Rattle.workers.proofs.Gone.{made_after, said_by, worked_said}
+use Rattle.workers.proofs.Gone.{made_after, said_by, stopped_reply, waiting_reply, went_reply, worked_said}
 use Rattle.workers.proofs.step.say.Goals as goal
 
 pub returns-in-Accepted-clause-worked : goal.returns-in-Accepted-clause-worked
@@ -14,7 +14,19 @@ returns-in-Accepted-clause-worked g c =
     (ap (λ (j : OpenJob). j.made) c.accepted.ensures.job ∙ (more ∙ (sym (ap (λ (o : Outcome). made_after o c.args.job.now.made) (sym c.judge.ensures ∙ c.in-Accepted.is))))) c.ask-answer.ensures.goes
 
 pub returns-in-Accepted-clause-cause : goal.returns-in-Accepted-clause-cause
-returns-in-Accepted-clause-cause g c = c.accepted.ensures.cause _ _ _ _
+returns-in-Accepted-clause-cause g c = λ routes plans.
+    went_reply _ routes _ _ _ _ c.accepted.new.job c.args.job.now.stream c.args.call.now c.args.job.now.made c.args.last c.ask-answer.result c.accepted.result (sym c.judge.ensures ∙ c.in-Accepted.is)
+    c.requires.on c.ask-answer.ensures.sent c.accepted.ensures.accepted
+
+pub returns-in-Blocked-clause-cause : goal.returns-in-Blocked-clause-cause
+returns-in-Blocked-clause-cause g c = λ routes plans.
+    waiting_reply _ routes _ _ _ _ c.args.job.now c.args.call.now c.args.last c.ask-answer.result (sym c.judge.ensures ∙ c.in-Blocked.is)
+    c.requires.on c.ask-answer.ensures.told c.ask-answer.ensures.was plans
+
+pub returns-in-Final-clause-cause : goal.returns-in-Final-clause-cause
+returns-in-Final-clause-cause g c = λ routes plans.
+    stopped_reply _ routes _ _ _ _ c.args.job.now c.args.call.now c.args.last c.ask-answer.result (sym c.judge.ensures ∙ c.in-Final.is)
+    c.requires.on c.ask-answer.ensures.may c.ask-answer.ensures.told c.ask-answer.ensures.was plans
 
 pub returns-in-Accepted-clause-kept : goal.returns-in-Accepted-clause-kept
 returns-in-Accepted-clause-kept g c = λ routes plans.
@@ -52,5 +64,5 @@ returns-in-Final-clause-kept g c = λ routes plans.
 
 pub returns-in-Accepted-clause-whole : goal.returns-in-Accepted-clause-whole
 returns-in-Accepted-clause-whole g c = λ routes plans.
-    whole_said _ routes _ _ c.args.job.now c.args.call.now c.args.last c.ask-answer.result c.accepted.result c.accepted.ensures.end (sym c.judge.ensures ∙ c.in-Accepted.is)
+    whole_said _ routes _ _ c.args.job.now c.args.call.now c.args.last c.ask-answer.result c.accepted.result c.accepted.ensures.accepted (sym c.judge.ensures ∙ c.in-Accepted.is)
     c.requires.on c.ask-answer.ensures.told plans

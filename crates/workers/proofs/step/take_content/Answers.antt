@@ -1,10 +1,24 @@
 use Rattle.std.proofs.Common.{refl, sym, ◌∙◌}
 use Rattle.workers.specs.declared.outcome.Taken.TheVariants as taken
-use Rattle.workers.proofs.Gone.{took_by, worked_took}
+use Rattle.workers.proofs.Gone.{stopped_take, took_by, waiting_take, worked_took}
 use Rattle.workers.proofs.step.take_content.Goals as goal
 
 pub returns-in-Item-clause-worked : goal.returns-in-Item-clause-worked
 returns-in-Item-clause-worked g c = worked_took _ _ _ _ c.args.job.now _ c.ask.result refl c.ask.ensures.goes
+
+pub returns-in-Item-clause-cause : goal.returns-in-Item-clause-cause
+returns-in-Item-clause-cause g c = λ routes w. c.ask.ensures.sent
+
+pub returns-in-End-clause-cause : goal.returns-in-End-clause-cause
+returns-in-End-clause-cause g c = λ routes w. c.ask.ensures.sent
+
+pub returns-in-Blocked-clause-cause : goal.returns-in-Blocked-clause-cause
+returns-in-Blocked-clause-cause g c = λ routes w.
+    waiting_take _ routes _ _ _ _ c.args.job.now c.ask.result (sym c.sort.ensures ∙ c.in-Blocked.is) c.ask.ensures.told c.ask.ensures.was w
+
+pub returns-clause-cause : goal.returns-clause-cause
+returns-clause-cause g c = λ routes w.
+    stopped_take _ routes _ _ _ _ c.args.job.now c.ask.result c.in-Final.answer (sym c.sort.ensures ∙ c.in-Final.is) c.ask.ensures.may c.ask.ensures.told c.ask.ensures.was w
 
 pub returns-in-Item-clause-kept : goal.returns-in-Item-clause-kept
 returns-in-Item-clause-kept g c = λ routes w.
