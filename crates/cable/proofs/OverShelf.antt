@@ -9,7 +9,7 @@ use Rattle.rs_wire.specs.declared.settings.Settings.{Settings}
 use Rattle.cable_script.specs.declared.setting.SettingLine.{SettingLine}
 use Rattle.cable_script.specs.Setting.{settings_by}
 use Rattle.cable.specs.Shelves.{GotTapes, IsEnd, end_of}
-use Rattle.cable.proofs.Settings.{settings_side}
+use Rattle.cable_script.proofs.Settings.{settings_side}
 
 both_back : (b b' b'' : List (Option (List Entry))) (c s : Option (List Entry)) → b' ≡ b ++ c ∷ [] → b'' ≡ b' ++ s ∷ [] → b'' ≡ b ++ c ∷ s ∷ []
 both_back b b' b'' c s p q = q ∙ ap (λ (x : List (Option (List Entry))). x ++ s ∷ []) p ∙ append_assoc b (c ∷ []) (s ∷ [])

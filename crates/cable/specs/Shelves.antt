@@ -1,5 +1,5 @@
 -- A script that is played over a shelf of tapes.
-use Rattle.std.specs.Prelude.{◌≡◌, ℕ, ◌≤◌, List, [], ◌∷◌, ◌++◌, length, Option, is_some}
+use Rattle.std.specs.Prelude.{◌≡◌, ℕ, Bool, List, [], ◌∷◌, ◌++◌, Option, is_some}
 use Rattle.rs_wire.specs.declared.settings.Settings.{Settings}
 use Rattle.rs_wire.specs.declared.words.Side.TheVariants.{Client, Server}
 use Rattle.tape.specs.declared.entry.Entry.{Entry}
@@ -52,8 +52,21 @@ pub record Reports (script : Scripted) (fresh : Option (List Entry)) (shelf shel
   pub put_back : shelf' ≡ shelf ++ told_by (is_some fresh) client ∷ told_by (is_some fresh) server ∷ []
   pub reported : text ≡ report_of (end_of (settings_by Client script.settings) fresh client) (end_of (settings_by Server script.settings) fresh server)
 
--- a shelf got at most that many tapes back
-pub record GotTapes (most : ℕ) (shelf shelf' : List (Option (List Entry))) : Type 0 where
+-- a tape of a session under these settings shows this: the entries of the session, or nothing
+pub record IsOfSession (g : Settings) (tells : Bool) (tape : Option (List Entry)) : Type 0 where
+  pub past : List Entry
+  pub legal : Legal g past
+  pub fair : Fair g past
+  pub told : tape ≡ told_by tells past
+
+-- each of these tapes is of a session under the settings in its place; the last ones may be missing
+abbrev pub AreOfSessions : Bool → List Settings → List (Option (List Entry)) → Type 0
+AreOfSessions tells settings [] = Unit {0}
+AreOfSessions tells [] (tape ∷ tapes) = ⊥
+AreOfSessions tells (g ∷ settings) (tape ∷ tapes) = IsOfSession g tells tape × AreOfSessions tells settings tapes
+
+-- a shelf got back the tapes of a client and of a server under these settings, in this order: both, the client's, or none
+pub record GotTapes (s : Sides) (fresh : Option (List Entry)) (shelf shelf' : List (Option (List Entry))) : Type 0 where
   pub tapes : List (Option (List Entry))
-  pub few : length tapes ≤ most
+  pub of_sessions : AreOfSessions (is_some fresh) (s.client ∷ s.server ∷ []) tapes
   pub back : shelf' ≡ shelf ++ tapes
