@@ -1,6 +1,7 @@
 -- A script that is played over a shelf of tapes.
 use Rattle.std.specs.Prelude.{◌≡◌, ℕ, Bool, List, [], ◌∷◌, ◌++◌, Option, is_some}
 use Rattle.rs_wire.specs.declared.settings.Settings.{Settings}
+use Rattle.rs_wire.specs.Settings.{IsChecked}
 use Rattle.rs_wire.specs.declared.words.Side.TheVariants.{Client, Server}
 use Rattle.tape.specs.declared.entry.Entry.{Entry}
 use Rattle.session_core.specs.Seen.{Seen, told_by}
@@ -8,6 +9,7 @@ use Rattle.session_model.specs.Lists.{IsPrefix}
 use Rattle.session_model.specs.Frames.{made, handled}
 use Rattle.session_model.specs.Legal.{Fair, Legal}
 use Rattle.session_model.specs.Joined.{Joined}
+use Rattle.session_laws.specs.Headline.{HasHeadline}
 use Rattle.honest_laws.specs.Accusing.{AccusesNobody}
 use Rattle.cable_script.specs.declared.line.Line.{Line}
 use Rattle.cable.specs.Played.{Played, Sides, pair_of}
@@ -28,14 +30,20 @@ IsEnd g fresh entries v = v ≡ record (end_of g fresh entries) { spare = v.spar
 abbrev pub sides_by : List SettingLine → Sides
 sides_by lines = record { client = settings_by Client lines; server = settings_by Server lines }
 
--- the two ends of a run of these lines under these settings, their entries the newest first: each list is a session's, the bytes of
--- the two crossed, what each end has handled is a prefix of what the other made, and neither accuses the other
+-- the two ends of a run of these lines under these settings, their entries the newest first: each list is a session's and has the headline,
+-- the bytes of the two crossed, what each end has handled is a prefix of what the other made, and neither accuses the other
 pub record EndsOf (s : Sides) (lines : List Line) (client server : List Entry) : Type 0 where
   pub played : Played s lines client server
+  pub client_side : s.client.side ≡ Client
+  pub server_side : s.server.side ≡ Server
+  pub client_checked : IsChecked s.client
+  pub server_checked : IsChecked s.server
   pub client_legal : Legal s.client client
   pub server_legal : Legal s.server server
   pub client_fair : Fair s.client client
   pub server_fair : Fair s.server server
+  pub client_headline : HasHeadline s.client client
+  pub server_headline : HasHeadline s.server server
   pub pairs : List ℕ
   pub joined : Joined s.client s.server client server (pair_of pairs)
   pub server_handled : IsPrefix (handled server) (made s.client client)

@@ -4,6 +4,7 @@ ghost use Rattle.std.specs.Prelude.{◌≡◌, ◌+◌, [], IfErr, IfOk, OnErr, 
 ghost use Rattle.rs_wire.specs.Settings.{IsChecked};
 ghost use Rattle.session_core.specs.Seen.{told_by};
 ghost use Rattle.cable_script.specs.Setting.{settings_by};
+ghost use Rattle.cable.specs.Played.{Sides};
 ghost use Rattle.cable.specs.Shelves.{GotTapes, IsEnd, sides_by};
 
 use cable_script::Script;
@@ -21,8 +22,8 @@ fn lend_both<H: Shelf>(shelf: &mut H) -> Result<(H::Tape, H::Tape), OutOfMemory>
     ensures back { OnOk result (H.back shelf.new ≡ H.back shelf.old) }
     ensures lent { OnOk result (H.lent shelf.new ≡ H.lent shelf.old + 2) }
     ensures err { OnErr result (H.lent shelf.new ≡ H.lent shelf.old) }
-    ensures few { OnErr result ((H.back shelf.new ≡ H.back shelf.old) ⊎
-        (H.back shelf.new ≡ H.back shelf.old ++ told_by (is_some H.fresh) [] ∷ [])) }
+    ensures got { (s : Sides) →
+        OnErr result (GotTapes s H.fresh (H.back shelf.old) (H.back shelf.new)) }
 {
     let client = shelf.lend(Side::Client)?;
     match shelf.lend(Side::Server) {
