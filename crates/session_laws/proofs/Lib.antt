@@ -6,6 +6,7 @@ pub mod Spelled
 pub mod Counting
 pub mod Refused
 pub mod Quiet
+pub mod Waiting
 pub mod Verdict
 pub mod Told
 pub mod Runs
@@ -17,9 +18,15 @@ pub mod Lawful
 pub mod OwnEnds
 pub mod ReadWords
 pub mod ReadFragments
+pub mod ReadSame
 pub mod ReadStreams
+pub mod ReadDelivered
 pub mod HandedOut
 pub mod Fragments
 pub mod Rows
 pub mod WithinLeases
 pub mod RowsOfMoments
+pub mod HeadlineHolds
+pub mod OpenedOnce
+pub mod ClosedJobs
+pub mod TakesOfJobs

@@ -1,14 +1,12 @@
 -- The streams are those that the frames seen tell.
-use Rattle.std.proofs.Common.{◌≡◌, ◌<◌, ◌%◌, ◌==◌, ◌&&◌, ◌||◌, ℕ, zero, suc, Bool, true, false, cond, ltb, List, [], ◌∷◌, ◌++◌, map, Option, Some, None, option_to_list, refl, append-nil, ap, subst, sym, ◌∙◌, arith}
+use Rattle.std.proofs.Common.{◌≡◌, ◌<◌, ◌%◌, ◌&&◌, ◌||◌, ℕ, Bool, true, false, cond, List, [], ◌∷◌, ◌++◌, map, Option, Some, None, option_to_list, refl, append-nil, ap, subst, sym, ◌∙◌, arith}
 use Rattle.std.proofs.lemmas.Grind.{common_steps}
-use Rattle.std.proofs.lemmas.Bool.{eqb-true}
 use Rattle.std.proofs.Math.Path.{fun_ext}
 use Rattle.std.specs.Option.{option_map}
 use Rattle.rs_wire.specs.declared.words.Role.{Role}
 use Rattle.rs_wire.specs.declared.words.Role.TheVariants.{Requester, Responder}
 use Rattle.rs_wire.specs.declared.settings.Settings.{Settings}
 use Rattle.rs_wire.specs.declared.message.Message.{Message}
-use Rattle.rs_wire.specs.declared.delivery.Delivery.{Delivery}
 use Rattle.rs_wire.specs.declared.call.Call.{Call}
 use Rattle.rs_wire.specs.declared.call.Call.TheVariants as call
 use Rattle.rs_frame.specs.declared.frame.Frame.{Frame}
@@ -25,14 +23,14 @@ use Rattle.fragment.specs.Joining.{Gathered, nothing}
 use Rattle.fragment.specs.Splitting.{follows_of}
 use Rattle.stream_model.specs.declared.arrival.Arrival.{Arrival}
 use Rattle.stream_model.specs.declared.arrival.Arrival.TheVariants as arrival
-use Rattle.stream_model.specs.Marks.{Opening, Step, Payload, RequestN, Cancel, Fail, Mark, Opens, Passed, Sent, Got, Pushed, Took, TookJob}
-use Rattle.stream_model.specs.Turns.{Taken, Turn, is_over, is_response, is_role}
-use Rattle.stream_model.specs.Streams.{count_to, highest, higher, is_admitted, is_live, live, on, top, turn}
+use Rattle.stream_model.specs.Marks.{Opening, Payload, RequestN, Cancel, Fail, Mark, Opens, Passed, Pushed}
+use Rattle.stream_model.specs.Turns.{Turn, is_over, is_response, is_role}
+use Rattle.stream_model.specs.Streams.{highest, jobs, live, turn}
 use Rattle.stream_model.specs.Kept.{kept, stream_of}
 use Rattle.stream_model.specs.Known.{known as known_after, hears_on, is_open_response}
 use Rattle.stream_model.specs.Arriving.{heard, no_message, said, theirs}
 use Rattle.stream_model.specs.Fair.{Fair as FairMarks}
-use Rattle.stream_model.proofs.Ids.{fresh, highest_opens, highest_passed, highest_said, others_stay, same_id, still_none, turn_got, turn_job, turn_opened, turn_passed, turn_pushed, turn_sent, turn_took}
+use Rattle.stream_model.proofs.Ids.{fresh, turn_opened, turn_passed}
 use Rattle.session_model.specs.Frames.{Mark as Seen, Sent as Made, Got as Handled, in_fragments, marks, request_frame, seen, sent_as, spoken, turned_away, turned_away_with}
 use Rattle.session_model.specs.Leases.{is_covered}
 use Rattle.session_model.specs.Streams.{Heard, arrival_in, gathers_of, heard_in, known, marks_in, more_heard, request_in, turned_away_for, unfinished, while_heard, words}
@@ -42,120 +40,12 @@ use Rattle.session_model.specs.Means.{Does, Means}
 use Rattle.session_model.proofs.Fairness.{legal_fair}
 use Rattle.session_model.proofs.Meaning.{last_means}
 use Rattle.session_model.proofs.Refusals.{names, unrefused}
+use Rattle.session_laws.specs.Jobs.{requests}
 use Rattle.session_laws.specs.Streams.{IsLawful, stream}
-use Rattle.session_laws.specs.Read.{Reading, framed, framed_step, framed_words, more_read, nothing_read, own_in, read, reading, reads}
+use Rattle.session_laws.specs.Read.{Reading, framed, framed_step, more_read, nothing_read, own_in, read, reading, reads}
 use Rattle.session_laws.proofs.ReadFragments.{IsMasked, Says, frame_says}
-use Rattle.session_laws.proofs.ReadWords.{framed_own, framed_peers, framed_taken, same_hears, same_live}
-
--- ---- two lists of marks that tell the same streams: those of the entries, and those of the frames
-
-record Same (most : ℕ) (W R : List Mark) : Type 0 where
-  turns : (s : ℕ) → turn most R s ≡ framed (turn most W s)
-  ids : (parity : ℕ) → highest parity R ≡ highest parity W
-
-count_same : (n : ℕ) (f g : ℕ → Bool) → ((q : ℕ) → f q ≡ g q) → count_to n f ≡ count_to n g
-unfolding count_to
-count_same zero f g same = refl
-count_same (suc n) f g same = rw (same (suc n), count_same n f g same) refl
-
-room_same : (most : ℕ) (W R : List Mark) → Same most W R → live most R ≡ live most W
-room_same most W R h =
-    rw (h.ids 0, h.ids 1) (count_same (top W) (λ q. is_live (turn most R q)) (λ q. is_live (turn most W q)) (λ q. ap is_live (h.turns q) ∙ same_live (turn most W q)))
-
--- one mark more on a stream, in each: where it tells the same on that stream, it does on all
-turns_more : (most : ℕ) (W R : List Mark) (m n : Mark) (s q : ℕ) (same : Bool) → (s == q) ≡ same → Same most W R → on s m ≡ true → on s n ≡ true → turn most (n ∷ R) s ≡ framed (turn most (m ∷ W) s)
-    → turn most (n ∷ R) q ≡ framed (turn most (m ∷ W) q)
-turns_more most W R m n s q true is h here there now = subst (λ (i : ℕ). turn most (n ∷ R) i ≡ framed (turn most (m ∷ W) i)) (eqb-true s q is) now
-turns_more most W R m n s q false is h here there now = others_stay most R n s q there is ∙ (h.turns q ∙ sym (ap framed (others_stay most W m s q here is)))
-
-opened_framed : (b : Bool) (o : Opening) → cond b (Some (record { opening = o; words = [] })) None ≡ framed (cond b (Some (record { opening = o; words = [] })) None)
-unfolding framed_words
-opened_framed true o = refl
-opened_framed false o = refl
-
-same_opens : (most : ℕ) (W R : List Mark) (s : ℕ) (o : Opening) → highest (s % 2) W < s → Same most W R → Same most (Opens s o ∷ W) (Opens s o ∷ R)
-same_opens most W R s o below h =
-    let there = subst (λ (n : ℕ). n < s) (sym (h.ids (s % 2))) below in
-    let room = ap (λ (n : ℕ). is_admitted (ltb n most) o) (room_same most W R h) in
-    let now : turn most (Opens s o ∷ R) s ≡ framed (turn most (Opens s o ∷ W) s) =
-    rw (turn_opened most R s o there, turn_opened most W s o below, room) (opened_framed (is_admitted (ltb (live most W) most) o) o) in
-    record {
-      turns = λ q. turns_more most W R (Opens s o) (Opens s o) s q (s == q) refl h (same_id s) (same_id s) now;
-      ids = λ p. highest_opens p R s o ∙ (ap (higher p s) (h.ids p) ∙ sym (highest_opens p W s o));
-    }
-
-same_sent : (most : ℕ) (W R : List Mark) (s : ℕ) (step step' : Step) → ((u : Turn) → turn most W s ≡ Some u → step' ≡ framed_step u.opening u.opening.role step) → Same most W R → Same most (Sent s step ∷ W) (Sent s step' ∷ R)
-same_sent most W R s step step' steps h =
-    let now : turn most (Sent s step' ∷ R) s ≡ framed (turn most (Sent s step ∷ W) s) =
-    rw (turn_sent most R s step', turn_sent most W s step, h.turns s) (framed_own (turn most W s) step step' steps) in
-    record {
-      turns = λ q. turns_more most W R (Sent s step) (Sent s step') s q (s == q) refl h (same_id s) (same_id s) now;
-      ids = λ p. highest_said p R (Sent s step') refl ∙ (h.ids p ∙ sym (highest_said p W (Sent s step) refl));
-    }
-
-same_got : (most : ℕ) (W R : List Mark) (s : ℕ) (step : Step) → Same most W R → Same most (Got s step ∷ W) (Got s step ∷ R)
-same_got most W R s step h =
-    let now : turn most (Got s step ∷ R) s ≡ framed (turn most (Got s step ∷ W) s) =
-    rw (turn_got most R s step, turn_got most W s step, h.turns s) (framed_peers (turn most W s) step) in
-    record {
-      turns = λ q. turns_more most W R (Got s step) (Got s step) s q (s == q) refl h (same_id s) (same_id s) now;
-      ids = λ p. highest_said p R (Got s step) refl ∙ (h.ids p ∙ sym (highest_said p W (Got s step) refl));
-    }
-
--- what a caller takes stands in no frame
-took_turns : (most : ℕ) (W : List Mark) (s q : ℕ) (d : Delivery) (same : Bool) → (s == q) ≡ same → framed (turn most W q) ≡ framed (turn most (Took s d ∷ W) q)
-unfolding framed_words
-took_turns most W s q d true is =
-    subst (λ (i : ℕ). framed (turn most W i) ≡ framed (turn most (Took s d ∷ W) i)) (eqb-true s q is)
-    (framed_taken (turn most W s) (λ role. Taken d) (λ role o xs. refl) ∙ sym (ap framed (turn_took most W s d)))
-took_turns most W s q d false is = sym (ap framed (others_stay most W (Took s d) s q (same_id s) is))
-
-same_took : (most : ℕ) (W R : List Mark) (s : ℕ) (d : Delivery) → Same most W R → Same most (Took s d ∷ W) R
-same_took most W R s d h = record {
-  turns = λ q. h.turns q ∙ took_turns most W s q d (s == q) refl;
-  ids = λ p. h.ids p ∙ sym (highest_said p W (Took s d) refl);
-}
-
-same_job : (most : ℕ) (W R : List Mark) → Same most W R → Same most (TookJob ∷ W) R
-same_job most W R h = record {
-  turns = λ q. h.turns q ∙ sym (ap framed (turn_job most W q));
-  ids = λ p. h.ids p ∙ sym (highest_said p W TookJob refl);
-}
-
--- metadata that is pushed stands in no frame that counts
-same_pushed : (most : ℕ) (W R : List Mark) (metadata : List ℕ) → Same most W R → Same most (Pushed metadata ∷ W) R
-same_pushed most W R metadata h = record {
-  turns = λ q. h.turns q ∙ sym (ap framed (turn_pushed most W metadata q));
-  ids = λ p. h.ids p ∙ sym (highest_said p W (Pushed metadata) refl);
-}
-
-same_came : (most : ℕ) (W R : List Mark) (metadata : List ℕ) → Same most W R → Same most (Pushed metadata ∷ W) (Pushed metadata ∷ R)
-same_came most W R metadata h =
-    let before = same_pushed most W R metadata h in
-    record {
-      turns = λ q. turn_pushed most R metadata q ∙ before.turns q;
-      ids = λ p. highest_said p R (Pushed metadata) refl ∙ before.ids p;
-    }
-
--- a request that is passed over
-same_passed : (most : ℕ) (W R : List Mark) (s : ℕ) → Same most W R → Same most (Passed s ∷ W) (Passed s ∷ R)
-same_passed most W R s h = record {
-  turns = λ q. turn_passed most R s q ∙ (h.turns q ∙ sym (ap framed (turn_passed most W s q)));
-  ids = λ p. highest_passed p R s ∙ (ap (higher p s) (h.ids p) ∙ sym (highest_passed p W s));
-}
-
--- a frame on a stream that was never admitted tells nothing
-stray_turns : (most : ℕ) (R : List Mark) (s q : ℕ) (step : Step) (same : Bool) → (s == q) ≡ same → turn most R s ≡ None → turn most (Sent s step ∷ R) q ≡ turn most R q
-stray_turns most R s q step true is none =
-    subst (λ (i : ℕ). turn most (Sent s step ∷ R) i ≡ turn most R i) (eqb-true s q is)
-    (still_none most R (Sent s step) s refl none ∙ sym none)
-stray_turns most R s q step false is none = others_stay most R (Sent s step) s q (same_id s) is
-
-same_stray : (most : ℕ) (W R : List Mark) (s : ℕ) (step : Step) → turn most W s ≡ None → Same most W R → Same most W (Sent s step ∷ R)
-same_stray most W R s step none h = record {
-  turns = λ q. stray_turns most R s q step (s == q) refl (h.turns s ∙ ap framed none) ∙ h.turns q;
-  ids = λ p. highest_said p R (Sent s step) refl ∙ h.ids p;
-}
+use Rattle.session_laws.proofs.ReadSame.{Same, room_same, same_came, same_got, same_job, same_opens, same_passed, same_pushed, same_sent, same_stray, same_took}
+use Rattle.session_laws.proofs.ReadWords.{same_hears}
 
 -- ---- what is kept of messages that are not whole: the same in both
 
@@ -384,7 +274,7 @@ read_on most r (m ∷ older) newer = read_on most (reads most r m) older newer
 
 frames_read : (g : Settings) (past : List Entry) → IsLawful g past → IsRead g.max_streams (heard_in g past) (reading g.max_streams nothing_read (seen g past))
 unfolding Legal Fair seen heard_in reading turn known_after
-frames_read g [] h = record { told = record { turns = λ s. refl; ids = λ p. refl }; held = refl; masked = refl; none = λ s. refl }
+frames_read g [] h = record { told = record { turns = λ s. refl; ids = λ p. refl; asked = refl }; held = refl; masked = refl; none = λ s. refl }
 frames_read g (x ∷ past) h =
     let before : IsLawful g past = record { legal = h.legal.0; fair = h.fair.0 } in
     let fair = legal_fair g (x ∷ past) h.legal h.fair in
@@ -398,3 +288,9 @@ read_streams g past s h = (frames_read g past h).told.turns s
 
 pub read_live : (g : Settings) (past : List Entry) → IsLawful g past → live g.max_streams (read g.max_streams (seen g past)) ≡ live g.max_streams (words g past)
 read_live g past h = room_same g.max_streams (words g past) (read g.max_streams (seen g past)) (frames_read g past h).told
+
+pub read_highest : (g : Settings) (past : List Entry) (parity : ℕ) → IsLawful g past → highest parity (read g.max_streams (seen g past)) ≡ highest parity (words g past)
+read_highest g past parity h = (frames_read g past h).told.ids parity
+
+pub read_requests : (g : Settings) (past : List Entry) → IsLawful g past → requests (jobs g.max_streams (read g.max_streams (seen g past))) ≡ requests (jobs g.max_streams (words g past))
+read_requests g past h = (frames_read g past h).told.asked

@@ -12,13 +12,13 @@ use Rattle.stream_model.specs.Kept.{kept, stream_of}
 use Rattle.stream_model.specs.Known.{hears, hears_on}
 use Rattle.session_laws.specs.Read.{framed, framed_step, framed_words}
 
-same_ends : (o : Opening) (by : Role) (step : Step) (w : Way) → ends o.kind w (Said by (framed_step o by step)) ≡ ends o.kind w (Said by step)
+pub same_ends : (o : Opening) (by : Role) (step : Step) (w : Way) → ends o.kind w (Said by (framed_step o by step)) ≡ ends o.kind w (Said by step)
 same_ends o by step w = grind (arith, common_steps)
 
 same_whole_word : (o : Opening) (by : Role) (step : Step) → is_of_requester (Said by (framed_step o by step)) ≡ is_of_requester (Said by step)
 same_whole_word o by step = grind (arith, common_steps)
 
-same_item : (o : Opening) (whole : Bool) (by : Role) (step : Step) (w : Way) → item_in o.kind whole w (Said by (framed_step o by step)) ≡ item_in o.kind whole w (Said by step)
+pub same_item : (o : Opening) (whole : Bool) (by : Role) (step : Step) (w : Way) → item_in o.kind whole w (Said by (framed_step o by step)) ≡ item_in o.kind whole w (Said by step)
 same_item o whole by (Payload m c n) w = refl
 same_item o whole by (RequestN n) w = refl
 same_item o whole by Cancel w = refl
@@ -30,7 +30,7 @@ same_grant o by (RequestN n) w = refl
 same_grant o by Cancel w = refl
 same_grant o by (Fail code content) w = refl
 
-no_more : (b : Bool) → (b || false) ≡ b
+pub no_more : (b : Bool) → (b || false) ≡ b
 no_more true = refl
 no_more false = refl
 
@@ -40,7 +40,7 @@ same_over o [] w = refl
 same_over o (Said by step ∷ xs) w = rw (same_over o xs w, same_ends o by step w) refl
 same_over o (Taken d ∷ xs) w = same_over o xs w ∙ sym (no_more (over o xs w))
 
-same_whole : (o : Opening) (xs : List Word) → is_whole o (framed_words o xs) ≡ is_whole o xs
+pub same_whole : (o : Opening) (xs : List Word) → is_whole o (framed_words o xs) ≡ is_whole o xs
 unfolding is_whole framed_words
 same_whole o [] = refl
 same_whole o (Said by step ∷ xs) = rw (same_whole o xs, same_whole_word o by step, same_over o xs way.Request) refl

@@ -5,7 +5,7 @@ use Rattle.std.proofs.lemmas.Bool.{le-leb}
 use Rattle.std.proofs.lemmas.Bool.Decides.{Decides-eqb, nat_tests}
 use Rattle.std.proofs.lemmas.Grind.{common_steps}
 use Rattle.std.proofs.lemmas.Slice.Eq.{slice_eq-Decides}
-use Rattle.rs_wire.specs.Settings.{is_client, out_limit_of}
+use Rattle.rs_wire.specs.Settings.{IsChecked, is_client, out_limit_of}
 use Rattle.rs_wire.specs.declared.words.Side.TheVariants.{Server}
 use Rattle.rs_wire.specs.declared.fault.Cause.{Cause}
 use Rattle.rs_wire.specs.declared.fault.Gone.{Gone}
@@ -30,6 +30,8 @@ use Rattle.session_model.specs.Legal.{Legal}
 use Rattle.session_model.specs.Answers.{Facts, answer_to, facts, gone_with, handled_unless_gone, ok_gone, opened_unless_gone, resume_gone, unless_closed}
 use Rattle.session_model.proofs.Agreed.{kept_made, waiting_agreed}
 use Rattle.session_laws.specs.Resumption.{CanGoOn, CanResume, IsHeldFrom, refused_resume}
+use Rattle.session_laws.specs.Streams.{IsLawful}
+use Rattle.session_laws.proofs.Waiting.{ok_room}
 
 -- ---- the tests of a position and of a token, row by row
 
@@ -262,12 +264,10 @@ unfolding facts
 ok_handled_so g past conn position legal h =
     let u = ok_unfaulty (facts g past) position h.holds in
     let agreed = waiting_agreed g past conn legal h.waits h.live in
-    let place = h.place in
     record {
       here = h.live;
       waits = h.waits;
       free = h.free;
-      place = grind (arith, nat_tests);
       client_holds = record {
         held = subst (λ n. n ≤ position) (held_starts g past agreed) u.from_first;
         boundary = kept_boundary g past position u.boundary;
@@ -285,14 +285,35 @@ goes_on g past conn position legal can =
       boundary = is_held g past position agreed holds;
     })
 
-pub ok_handled : (g : Settings) (past : List Entry) (conn position : ℕ) → Legal g past → (answer_to g past (event.Came conn (frame.ResumeOk position)) ≡ answer.Handled) ↔ CanGoOn g past conn position
+-- the queue has no room for what answers a frame of that length
+abbrev pub is_busy : Settings → List Entry → ℕ → Bool
+is_busy g past position = ltb (out_limit_of g) (queued g past + length_of (frame.ResumeOk position) + ANSWER_ROOM)
+
+pub ok_only : (g : Settings) (past : List Entry) (conn position : ℕ) → Legal g past → answer_to g past (event.Came conn (frame.ResumeOk position)) ≡ answer.Handled → CanGoOn g past conn position
 unfolding facts ok_answer
-ok_handled g past conn position legal = (
-  λ is. ok_handled_so g past conn position legal
-      (handled_only (is_live (live past) conn) (closed g past) (ltb (out_limit_of g) (queued g past + length_of (frame.ResumeOk position) + ANSWER_ROOM)) (carrying g past) (ok_gone (facts g past) position) (live past) (queued g past) is),
-  λ can.
-      let place : ltb (out_limit_of g) (queued g past + length_of (frame.ResumeOk position) + ANSWER_ROOM) ≡ false = let le = can.place in grind (arith, nat_tests) in
-      rw (can.here, can.free, place, can.waits, goes_on g past conn position legal can) refl,
+ok_only g past conn position legal is =
+    ok_handled_so g past conn position legal
+    (handled_only (is_live (live past) conn) (closed g past) (is_busy g past position) (carrying g past) (ok_gone (facts g past) position) (live past) (queued g past) is)
+
+-- where the client can go on, it does unless the queue is full
+pub ok_unless_busy : (g : Settings) (past : List Entry) (conn position : ℕ) → Legal g past → CanGoOn g past conn position
+    → answer_to g past (event.Came conn (frame.ResumeOk position)) ≡ cond (is_busy g past position) (answer.OutBusy (queued g past)) answer.Handled
+unfolding facts
+ok_unless_busy g past conn position legal can = rw (can.here, can.free, can.waits, goes_on g past conn position legal can) refl
+
+live_some : (now conn : ℕ) → is_live now conn ≡ true → (now == 0) ≡ false
+live_some now conn here = grind (arith, common_steps)
+
+-- and it never is
+never_busy : (g : Settings) (past : List Entry) (conn position : ℕ) → IsChecked g → IsLawful g past → CanGoOn g past conn position → is_busy g past position ≡ false
+never_busy g past conn position checked h can =
+    let room = ok_room g past position checked h (record { here = live_some (live past) conn can.here; waits = can.waits; free = can.free }) in
+    grind (arith, nat_tests)
+
+pub ok_handled : (g : Settings) (past : List Entry) (conn position : ℕ) → IsChecked g → IsLawful g past → (answer_to g past (event.Came conn (frame.ResumeOk position)) ≡ answer.Handled) ↔ CanGoOn g past conn position
+ok_handled g past conn position checked h = (
+  ok_only g past conn position h.legal,
+  λ can. ok_unless_busy g past conn position h.legal can ∙ ap (λ b. cond b (answer.OutBusy (queued g past)) answer.Handled) (never_busy g past conn position checked h can),
 )
 
 pub goes_on_agreed : (g : Settings) (past : List Entry) (conn position : ℕ) → Legal g past → CanGoOn g past conn position → resumption_agreed g past ≡ true

@@ -24,3 +24,9 @@ is_on s (job.Pushed metadata) = 0
 unfoldable pub jobs_on : ℕ → List Job → ℕ
 jobs_on s [] = 0
 jobs_on s (j ∷ jobs) = is_on s j + jobs_on s jobs
+
+-- the requests among jobs: the rest is metadata that was pushed
+abbrev pub requests : List Job → List Job
+requests [] = []
+requests (job.Asked stream kind initial message complete ∷ jobs) = job.Asked stream kind initial message complete ∷ requests jobs
+requests (job.Pushed metadata ∷ jobs) = requests jobs

@@ -5,3 +5,5 @@ pub mod Read
 pub mod Jobs
 pub mod Fragments
 pub mod Resumption
+pub mod Headline
+pub mod Openings

@@ -1,19 +1,15 @@
 -- When a session can be resumed, over its entries (RSocket 1.0, "Resuming Operation").
-use Rattle.std.specs.Prelude.{◌≡◌, ◌≤◌, ◌+◌, ℕ, Bool, true, false, List, Option, Some, None}
-use Rattle.rs_wire.specs.Settings.{out_limit_of}
+use Rattle.std.specs.Prelude.{◌≡◌, ◌≤◌, ◌==◌, ℕ, Bool, true, false, List, [], ◌∷◌, Option, Some, None}
 use Rattle.rs_wire.specs.declared.settings.Settings.{Settings}
 use Rattle.rs_wire.specs.declared.fault.Gone.{Gone}
 use Rattle.rs_frame.specs.declared.frame.Frame.{Frame}
-use Rattle.rs_frame.specs.declared.frame.Frame.TheVariants as frame
 use Rattle.rs_frame.specs.declared.frame.Resume.{Resume}
-use Rattle.rs_frame.specs.Spelling.{length_of}
 use Rattle.tape.specs.declared.answer.Answer.TheVariants as answer
 use Rattle.tape.specs.declared.event.Event.TheVariants as event
 use Rattle.tape.specs.declared.entry.Entry.{Entry}
 use Rattle.position.specs.Boundaries.{IsBoundary, pos}
 use Rattle.session_model.specs.Life.{asked_token, carrying, closed, is_live, live, setup}
-use Rattle.session_model.specs.Frames.{first, handled, made, queued}
-use Rattle.session_model.specs.declared.numbers.TheConstants.{ANSWER_ROOM}
+use Rattle.session_model.specs.Frames.{first, handled, made, resume_frame}
 
 -- all that was made from the position on is held: it is a boundary of what was made, so none past its end, and none before what is held
 pub record IsHeldFrom (g : Settings) (past : List Entry) (position : ℕ) : Type 0 where
@@ -29,14 +25,23 @@ pub record CanResume (g : Settings) (past : List Entry) (r : Resume) : Type 0 wh
   pub server_holds : IsHeldFrom g past r.server_position
   pub client_holds : r.client_position ≤ pos (handled past)
 
--- a client can go on by a RESUME_OK of that position on a connection: it is the live one, and waits for it; the session is not closed, and the queue
--- has room for what answers a frame; the client holds what the server has not handled
+-- a client can go on by a RESUME_OK of that position on a connection: it is the live one, and waits for it; the session is not closed, and the client
+-- holds what the server has not handled
 pub record CanGoOn (g : Settings) (past : List Entry) (conn position : ℕ) : Type 0 where
   pub here : is_live (live past) conn ≡ true
   pub waits : carrying g past ≡ false
   pub free : closed g past ≡ None
-  pub place : queued g past + length_of (frame.ResumeOk position) + ANSWER_ROOM ≤ out_limit_of g
   pub client_holds : IsHeldFrom g past position
+
+-- a connection is live and waits for RESUME_OK, and the session is not closed
+pub record IsWaiting (g : Settings) (past : List Entry) : Type 0 where
+  pub here : (live past == 0) ≡ false
+  pub waits : carrying g past ≡ false
+  pub free : closed g past ≡ None
+
+-- the frames are one RESUME of this end's
+abbrev pub IsResumeAlone : Settings → List Frame → Type 0
+IsResumeAlone g frames = (position from : ℕ) × (frames ≡ resume_frame g position from ∷ [])
 
 -- an opening whose RESUME is refused
 abbrev pub refused_resume : ℕ → Option Frame → Bool → Gone → Entry

@@ -4,19 +4,24 @@ ghost use Rattle.std.specs.Prelude.{◌≡◌, ◌≤◌, ◌+◌, ◌-◌, ◌+
 ghost use Rattle.std.specs.Prelude.{Bool, true, ℕ, List, ◌∷◌, Option, Some};
 ghost use Rattle.rs_wire.specs.declared.words.Side.TheVariants.{Server};
 ghost use Rattle.rs_wire.specs.declared.fault.Gone.{Gone};
+ghost use Rattle.rs_wire.specs.Settings.{IsChecked, out_limit_of};
 ghost use Rattle.rs_wire.specs.declared.settings.Settings.{Settings};
 ghost use Rattle.rs_frame.specs.declared.frame.Frame.{Frame};
 ghost use Rattle.rs_frame.specs.declared.frame.Frame.TheVariants as frame;
 ghost use Rattle.rs_frame.specs.declared.frame.Resume.{Resume};
+ghost use Rattle.rs_frame.specs.Spelling.{length_of};
 ghost use Rattle.tape.specs.declared.answer.Answer.TheVariants as answer;
 ghost use Rattle.tape.specs.declared.entry.Entry.{Entry};
 ghost use Rattle.tape.specs.declared.event.Event.TheVariants as event;
 ghost use Rattle.position.specs.Boundaries.{IsBoundary, acked, frames_from, pos};
 ghost use Rattle.session_model.specs.Answers.{answer_to};
-ghost use Rattle.session_model.specs.Frames.{due, first, made};
+ghost use Rattle.session_model.specs.Frames.{due, first, made, queued};
 ghost use Rattle.session_model.specs.Legal.{Legal};
 ghost use Rattle.session_model.specs.Life.{begun, closed, live, openings, resumption_agreed, told};
-ghost use Rattle.session_laws.specs.Resumption.{CanGoOn, CanResume, refused_resume};
+ghost use Rattle.session_model.specs.declared.numbers.TheConstants.{ANSWER_ROOM};
+ghost use Rattle.session_laws.specs.Resumption.{CanGoOn, CanResume, IsResumeAlone, IsWaiting};
+ghost use Rattle.session_laws.specs.Resumption.{refused_resume};
+ghost use Rattle.session_laws.specs.Streams.{IsLawful};
 
 /// The position that the peer told, what of the frames made is acknowledged by it, and the position
 /// from which they are held never fall.
@@ -76,12 +81,23 @@ pub fn a_refused_resume_changes_nothing()
 {}
 
 /// A client handles a RESUME_OK exactly where it waits for it on the live connection of a session
-/// that is not closed, has room in its queue, and holds what the server has not handled. Such a
-/// session agreed to resumption.
+/// that is not closed, and holds what the server has not handled. Such a session agreed to
+/// resumption.
 pub fn resume_ok_is_handled_where_the_client_holds()
-    ensures handled { (g : Settings) (past : List Entry) (conn position : ℕ) → Legal g past →
+    ensures handled { (g : Settings) (past : List Entry) (conn position : ℕ) →
+        IsChecked g → IsLawful g past →
         (answer_to g past (event.Came conn (frame.ResumeOk position)) ≡ answer.Handled)
         ↔ CanGoOn g past conn position }
     ensures agreed { (g : Settings) (past : List Entry) (conn position : ℕ) → Legal g past →
         CanGoOn g past conn position → resumption_agreed g past ≡ true }
+{}
+
+/// A connection that waits for RESUME_OK has its RESUME in the queue at most, so the queue has room
+/// for what answers a frame.
+pub fn resume_ok_always_finds_room()
+    ensures due { (g : Settings) (past : List Entry) → IsLawful g past → IsWaiting g past →
+        IsResumeAlone g (due g past (live past)) }
+    ensures room { (g : Settings) (past : List Entry) (position : ℕ) →
+        IsChecked g → IsLawful g past → IsWaiting g past →
+        queued g past + length_of (frame.ResumeOk position) + ANSWER_ROOM ≤ out_limit_of g }
 {}

@@ -6,18 +6,18 @@
 //! ([`what_came_before_is_lawful`]). So each law holds at every moment of a session, not at its end
 //! alone.
 
-ghost use Rattle.std.specs.Prelude.{◌≡◌, ◌≤◌, ◌++◌, ℕ, List, [], ◌∷◌, Some};
+ghost use Rattle.std.specs.Prelude.{◌≡◌, ◌≤◌, ◌++◌, ℕ, false, true, List, [], ◌∷◌, Some};
 ghost use Rattle.rs_wire.specs.declared.settings.Settings.{Settings};
 ghost use Rattle.rs_wire.specs.declared.words.Way.{Way};
 ghost use Rattle.tape.specs.declared.entry.Entry.{Entry};
 ghost use Rattle.stream_model.specs.Laws.{IsOver, OneEnd, OneResponse, TakenFirst};
-ghost use Rattle.stream_model.specs.Laws.{UsedWithinGranted};
-ghost use Rattle.stream_model.specs.Streams.{jobs, jobs_waiting, live, turn};
+ghost use Rattle.stream_model.specs.Laws.{UsedWithinGranted, own_end};
+ghost use Rattle.stream_model.specs.Streams.{highest, jobs, jobs_waiting, live, turn};
 ghost use Rattle.stream_model.specs.Turns.{Turn, delivered, granted, items, over, taken, waiting};
 ghost use Rattle.session_model.specs.Frames.{seen};
 ghost use Rattle.session_model.specs.Lists.{IsPrefix};
 ghost use Rattle.session_model.specs.Streams.{words};
-ghost use Rattle.session_laws.specs.Jobs.{jobs_got, jobs_on};
+ghost use Rattle.session_laws.specs.Jobs.{jobs_got, jobs_on, requests};
 ghost use Rattle.session_laws.specs.Read.{framed, framed_words, read};
 ghost use Rattle.session_laws.specs.Streams.{EndsReceiving, IsLawful, IsStream, stream};
 
@@ -33,8 +33,8 @@ pub fn what_came_before_is_lawful()
 /// said (RSocket 1.0, "Stream Sequences and Lifetimes"). Fragments are joined as they are read:
 /// those that this end made to the frame that they were cut from, and those that came, on streams
 /// where messages are taken in, to their message (RSocket 1.0, "Fragmentation and Reassembly"). So
-/// whether a way is over, its items, and how many were granted are read off the frames, and so is
-/// how many streams are open.
+/// whether a way is over, its items, and how many were granted are read off the frames, and so are
+/// how many streams are open, the highest ids, and the requests that the peer made.
 pub fn streams_are_what_frames_say()
     ensures streams { (g : Settings) (past : List Entry) (s : ℕ) → IsLawful g past →
         turn g.max_streams (read g.max_streams (seen g past)) s ≡ framed (stream g past s) }
@@ -47,6 +47,25 @@ pub fn streams_are_what_frames_say()
     ensures open { (g : Settings) (past : List Entry) → IsLawful g past →
         live g.max_streams (read g.max_streams (seen g past))
         ≡ live g.max_streams (words g past) }
+    ensures highest { (g : Settings) (past : List Entry) (parity : ℕ) → IsLawful g past →
+        highest parity (read g.max_streams (seen g past)) ≡ highest parity (words g past) }
+    ensures requests { (g : Settings) (past : List Entry) → IsLawful g past →
+        requests (jobs g.max_streams (read g.max_streams (seen g past)))
+        ≡ requests (jobs g.max_streams (words g past)) }
+{}
+
+/// What a stream delivers is what its frames say, until this end itself ends the way on which it
+/// receives, which the frames say too. From then on it has delivered what was taken, and no frame
+/// tells that.
+pub fn deliveries_are_what_frames_say()
+    ensures own_end { (t : Turn) →
+        own_end t.opening (framed_words t.opening t.words) ≡ own_end t.opening t.words }
+    ensures delivered { (t : Turn) → own_end t.opening t.words ≡ false →
+        delivered t.opening (framed_words t.opening t.words)
+        ≡ delivered t.opening t.words }
+    ensures taken { (g : Settings) (past : List Entry) (s : ℕ) (t : Turn) →
+        IsStream g past s t → own_end t.opening t.words ≡ true →
+        delivered t.opening t.words ≡ taken t.words }
 {}
 
 /// On each way of a stream or a channel no more items were used than were granted, by this end or
