@@ -28,7 +28,7 @@ two_tapes s fresh b b' b'' b3 t u same one two client server =
     record { tapes = t ∷ u ∷ []; of_sessions = (client, (server, tt)); back = both_back b b'' b3 t u (one ∙ ap (λ (x : List (Option (List Entry))). x ++ t ∷ []) same) two }
 
 -- an empty tape is that of a session of which nothing happened yet
-no_entries : (fresh : Option (List Entry)) (n : ℕ) → IfSome fresh (λ (entries : List Entry). length entries ≡ n) → n ≡ 0 → fresh ≡ told_by (is_some fresh) []
+pub no_entries : (fresh : Option (List Entry)) (n : ℕ) → IfSome fresh (λ (entries : List Entry). length entries ≡ n) → n ≡ 0 → fresh ≡ told_by (is_some fresh) []
 no_entries None n counted none = refl
 no_entries (Some []) n counted none = refl
 no_entries (Some (x ∷ entries)) n counted none = absurd (omega (arith, counted, none))
