@@ -1,17 +1,11 @@
 -- Where nothing is wrong with the input, nothing of it is told as wrong.
-use Rattle.std.proofs.Common.{true, false, not, append_assoc, refl, ◌≡◌, ℕ, ◌+◌, ◌≤◌, List, [], ◌∷◌, ◌++◌, length, map, Option, inl, inr, sym, ap, subst, ◌∙◌, arith}
-use Rattle.std.specs.List.{AllByRecursion}
+use Rattle.std.proofs.Common.{true, false, ◌≡◌, ℕ, ◌+◌, ◌≤◌, List, length, Option, inl, inr, sym, ap, subst, arith}
 use Rattle.std.proofs.lemmas.List.{length-append}
-use Rattle.cable_script.specs.declared.line.Line.{Line}
 use Rattle.cable_script.specs.declared.script.ScriptFault.TheVariants.{Line as WrongLine}
-use Rattle.cable_script.specs.Line.{IsLine, text_of}
-use Rattle.cable_script.specs.declared.setting.SettingLine.{SettingLine}
-use Rattle.cable_script.specs.Setting.{IsSettingLine, setting_text}
 use Rattle.cable_script.specs.Scripted.{Scripted}
 use Rattle.cable_script.specs.Script.{IsFault, IsScript}
 use Rattle.cable_script.proofs.OneScript.{none_wrong}
 use Rattle.plain_text.specs.Lines.{lines_of}
-use Rattle.std.proofs.lemmas.List.Elements.{filter-append}
 use Rattle.capture.specs.declared.lines.BadFrame.{BadFrame}
 use Rattle.capture.specs.Captured.{IsBadAt}
 use Rattle.capture.specs.Text.{IsWrongLine}
