@@ -1,6 +1,7 @@
 -- A script that is played over a shelf of tapes.
-use Rattle.std.specs.Prelude.{◌≡◌, ℕ, ◌≤◌, List, [], ◌∷◌, ◌++◌, length, Option, is_some}
+use Rattle.std.specs.Prelude.{◌≡◌, ℕ, Bool, List, [], ◌∷◌, ◌++◌, Option, is_some}
 use Rattle.rs_wire.specs.declared.settings.Settings.{Settings}
+use Rattle.rs_wire.specs.Settings.{IsChecked}
 use Rattle.rs_wire.specs.declared.words.Side.TheVariants.{Client, Server}
 use Rattle.tape.specs.declared.entry.Entry.{Entry}
 use Rattle.session_core.specs.Seen.{Seen, told_by}
@@ -8,6 +9,7 @@ use Rattle.session_model.specs.Lists.{IsPrefix}
 use Rattle.session_model.specs.Frames.{made, handled}
 use Rattle.session_model.specs.Legal.{Fair, Legal}
 use Rattle.session_model.specs.Joined.{Joined}
+use Rattle.session_laws.specs.Headline.{HasHeadline}
 use Rattle.honest_laws.specs.Accusing.{AccusesNobody}
 use Rattle.cable_script.specs.declared.line.Line.{Line}
 use Rattle.cable.specs.Played.{Played, Sides, pair_of}
@@ -28,14 +30,20 @@ IsEnd g fresh entries v = v ≡ record (end_of g fresh entries) { spare = v.spar
 abbrev pub sides_by : List SettingLine → Sides
 sides_by lines = record { client = settings_by Client lines; server = settings_by Server lines }
 
--- the two ends of a run of these lines under these settings, their entries the newest first: each list is a session's, the bytes of
--- the two crossed, what each end has handled is a prefix of what the other made, and neither accuses the other
+-- the two ends of a run of these lines under these settings, their entries the newest first: each list is a session's and has the headline,
+-- the bytes of the two crossed, what each end has handled is a prefix of what the other made, and neither accuses the other
 pub record EndsOf (s : Sides) (lines : List Line) (client server : List Entry) : Type 0 where
   pub played : Played s lines client server
+  pub client_side : s.client.side ≡ Client
+  pub server_side : s.server.side ≡ Server
+  pub client_checked : IsChecked s.client
+  pub server_checked : IsChecked s.server
   pub client_legal : Legal s.client client
   pub server_legal : Legal s.server server
   pub client_fair : Fair s.client client
   pub server_fair : Fair s.server server
+  pub client_headline : HasHeadline s.client client
+  pub server_headline : HasHeadline s.server server
   pub pairs : List ℕ
   pub joined : Joined s.client s.server client server (pair_of pairs)
   pub server_handled : IsPrefix (handled server) (made s.client client)
@@ -52,8 +60,21 @@ pub record Reports (script : Scripted) (fresh : Option (List Entry)) (shelf shel
   pub put_back : shelf' ≡ shelf ++ told_by (is_some fresh) client ∷ told_by (is_some fresh) server ∷ []
   pub reported : text ≡ report_of (end_of (settings_by Client script.settings) fresh client) (end_of (settings_by Server script.settings) fresh server)
 
--- a shelf got at most that many tapes back
-pub record GotTapes (most : ℕ) (shelf shelf' : List (Option (List Entry))) : Type 0 where
+-- a tape of a session under these settings shows this: the entries of the session, or nothing
+pub record IsOfSession (g : Settings) (tells : Bool) (tape : Option (List Entry)) : Type 0 where
+  pub past : List Entry
+  pub legal : Legal g past
+  pub fair : Fair g past
+  pub told : tape ≡ told_by tells past
+
+-- each of these tapes is of a session under the settings in its place; the last ones may be missing
+abbrev pub AreOfSessions : Bool → List Settings → List (Option (List Entry)) → Type 0
+AreOfSessions tells settings [] = Unit {0}
+AreOfSessions tells [] (tape ∷ tapes) = ⊥
+AreOfSessions tells (g ∷ settings) (tape ∷ tapes) = IsOfSession g tells tape × AreOfSessions tells settings tapes
+
+-- a shelf got back the tapes of a client and of a server under these settings, in this order: both, the client's, or none
+pub record GotTapes (s : Sides) (fresh : Option (List Entry)) (shelf shelf' : List (Option (List Entry))) : Type 0 where
   pub tapes : List (Option (List Entry))
-  pub few : length tapes ≤ most
+  pub of_sessions : AreOfSessions (is_some fresh) (s.client ∷ s.server ∷ []) tapes
   pub back : shelf' ≡ shelf ++ tapes

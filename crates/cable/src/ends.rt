@@ -1,59 +1,70 @@
 //! The two ends of a run, over tapes that a shelf lends.
 
-ghost use Rattle.std.specs.Prelude.{◌≡◌, ◌+◌, ◌<◌, [], IfOk, IfSome, OnErr, OnOk};
+ghost use Rattle.std.specs.Prelude.{◌≡◌, ◌+◌, [], IfErr, IfOk, OnErr, OnOk, is_some};
 ghost use Rattle.rs_wire.specs.Settings.{IsChecked};
+ghost use Rattle.session_core.specs.Seen.{told_by};
 ghost use Rattle.cable_script.specs.Setting.{settings_by};
-ghost use Rattle.cable.specs.Shelves.{GotTapes, IsEnd};
+ghost use Rattle.cable.specs.Played.{Sides};
+ghost use Rattle.cable.specs.Shelves.{GotTapes, IsEnd, sides_by};
 
 use cable_script::Script;
-use rs_wire::{Checked, OutOfMemory, Settings, Side, check};
+use rs_wire::{Checked, OutOfMemory, Side};
 use session_core::Session;
 use std::alloc::Global;
-use tape::Shelf;
+use tape::{Shelf, Tape};
 
-/// The settings of an end under this script.
-pub fn settings_of(alloc: Global, script: &Script, side: Side) -> Result<Checked, OutOfMemory>
-    ensures settings { IfOk result (λ c. c ≡ settings_by side script.now.settings) }
-    ensures checked { IfOk result IsChecked }
-{
-    let mut settings = Settings::usual(alloc, side)?;
-    for line in script.settings() {
-        line.apply(alloc, side, &mut settings)?;
-    }
-    match check(settings) {
-        Ok(settings) => Ok(settings),
-        Err(_) => unreachable!(),
-    }
-}
-
-/// An end of a run of this script, which is not begun, over a tape that the shelf lends. Where
-/// memory runs out, as many tapes are lent as before.
-pub fn end<H: Shelf>(
-    alloc: Global,
-    script: &Script,
-    shelf: &mut H,
-    side: Side,
-) -> Result<Session<H::Tape>, OutOfMemory>
-    ensures fresh { IfOk result
-        (IsEnd (settings_by side script.now.settings) H.fresh []) }
-    ensures checked { IfOk result (λ s. IsChecked s.settings) }
+// A tape for the client, and one for the server. Where memory runs out, none is lent.
+fn lend_both<H: Shelf>(shelf: &mut H) -> Result<(H::Tape, H::Tape), OutOfMemory>
+    ensures empty { IfOk result (λ tapes.
+        (H.Tape.count tapes.0 ≡ 0) × (H.Tape.count tapes.1 ≡ 0)) }
+    ensures fresh { IfOk result (λ tapes.
+        (H.Tape.told tapes.0 ≡ H.fresh) × (H.Tape.told tapes.1 ≡ H.fresh)) }
     ensures back { OnOk result (H.back shelf.new ≡ H.back shelf.old) }
-    ensures lent { OnOk result (H.lent shelf.new ≡ H.lent shelf.old + 1) }
+    ensures lent { OnOk result (H.lent shelf.new ≡ H.lent shelf.old + 2) }
     ensures err { OnErr result (H.lent shelf.new ≡ H.lent shelf.old) }
-    ensures few { OnErr result (GotTapes 1 (H.back shelf.old) (H.back shelf.new)) }
+    ensures got { (s : Sides) →
+        OnErr result (GotTapes s H.fresh (H.back shelf.old) (H.back shelf.new)) }
 {
-    let settings = settings_of(alloc, script, side)?;
-    let tape = shelf.lend(side)?;
-    match Session::new(alloc, settings, tape) {
-        Ok(session) => Ok(session),
-        Err((tape, OutOfMemory)) => {
-            shelf.put_back(tape);
+    let client = shelf.lend(Side::Client)?;
+    match shelf.lend(Side::Server) {
+        Ok(server) => Ok((client, server)),
+        Err(OutOfMemory) => {
+            shelf.put_back(client);
             Err(OutOfMemory)
         }
     }
 }
 
-/// The client and the server of a run of this script.
+// Sessions of a client and of a server over these empty tapes. Where memory runs out, the tapes come
+// back.
+fn sessions<T: Tape>(
+    alloc: Global,
+    client: Checked,
+    server: Checked,
+    tapes: (T, T),
+) -> Result<(Session<T>, Session<T>), (T, T)>
+    requires client { IsChecked client }
+    requires server { IsChecked server }
+    requires empty { (T.count tapes.0 ≡ 0) × (T.count tapes.1 ≡ 0) }
+    ensures client { IfOk result (λ ends. IsEnd client (T.told tapes.0) [] ends.0) }
+    ensures server { IfOk result (λ ends. IsEnd server (T.told tapes.1) [] ends.1) }
+    ensures back { IfErr result (λ e.
+        (T.told e.0 ≡ told_by (is_some (T.told tapes.0)) []) ×
+        (T.told e.1 ≡ told_by (is_some (T.told tapes.1)) [])) }
+{
+    let (client_tape, server_tape) = tapes;
+    let client = match Session::new(alloc, client, client_tape) {
+        Ok(client) => client,
+        Err((client_tape, OutOfMemory)) => return Err((client_tape, server_tape)),
+    };
+    match Session::new(alloc, server, server_tape) {
+        Ok(server) => Ok((client, server)),
+        Err((server_tape, OutOfMemory)) => Err((client.into_tape(), server_tape)),
+    }
+}
+
+/// The client and the server of a run of this script, of which nothing happened yet. Where memory
+/// runs out, as many tapes are lent as before.
 pub fn both_ends<H: Shelf>(
     alloc: Global,
     script: &Script,
@@ -68,13 +79,17 @@ pub fn both_ends<H: Shelf>(
     ensures back { OnOk result (H.back shelf.new ≡ H.back shelf.old) }
     ensures lent { OnOk result (H.lent shelf.new ≡ H.lent shelf.old + 2) }
     ensures err { OnErr result (H.lent shelf.new ≡ H.lent shelf.old) }
-    ensures few { OnErr result (GotTapes 2 (H.back shelf.old) (H.back shelf.new)) }
+    ensures got { OnErr result (GotTapes (sides_by script.now.settings) H.fresh
+        (H.back shelf.old) (H.back shelf.new)) }
 {
-    let client = end(alloc, script, shelf, Side::Client)?;
-    match end(alloc, script, shelf, Side::Server) {
-        Ok(server) => Ok((client, server)),
-        Err(OutOfMemory) => {
-            shelf.put_back(client.into_tape());
+    let client = script.settings(alloc, Side::Client)?;
+    let server = script.settings(alloc, Side::Server)?;
+    let tapes = lend_both(shelf)?;
+    match sessions(alloc, client, server, tapes) {
+        Ok(ends) => Ok(ends),
+        Err((client, server)) => {
+            shelf.put_back(client);
+            shelf.put_back(server);
             Err(OutOfMemory)
         }
     }

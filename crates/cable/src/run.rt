@@ -7,6 +7,7 @@ ghost use Rattle.session_model.specs.Lists.{IsPrefix};
 ghost use Rattle.session_model.specs.Frames.{handled, made};
 ghost use Rattle.session_model.specs.Joined.{Joined};
 ghost use Rattle.session_model.specs.Legal.{Fair, Legal};
+ghost use Rattle.session_laws.specs.Headline.{HasHeadline};
 ghost use Rattle.honest_laws.specs.Accusing.{AccusesNobody};
 ghost use Rattle.cable.specs.Played.{Played, pair_of};
 
@@ -14,6 +15,7 @@ use crate::cable::Cable;
 use crate::laws::played_laws;
 use cable_script::Script;
 use session_core::Session;
+use session_laws::a_session_has_the_headline;
 use std::alloc::Global;
 use tape::Tape;
 
@@ -60,11 +62,13 @@ pub fn scheduled<T: Tape>(
     ensures client_accuses_nobody { result.want ≡ false → AccusesNobody result.client.entries }
     ensures server_accuses_nobody { result.want ≡ false → AccusesNobody result.server.entries }
 
-    // Where memory ran out too, both ends are as their answers say.
+    // Where memory ran out too, both ends are as their answers say, and have the headline.
     ensures client_legal { Legal client.settings result.client.entries }
     ensures server_legal { Legal server.settings result.server.entries }
     ensures client_fair { Fair client.settings result.client.entries }
     ensures server_fair { Fair server.settings result.server.entries }
+    ensures client_headline { HasHeadline client.settings result.client.entries }
+    ensures server_headline { HasHeadline server.settings result.server.entries }
     ensures client { result.client ≡
         record client { entries = result.client.entries; spare = result.client.spare } }
     ensures server { result.server ≡
@@ -75,6 +79,7 @@ pub fn scheduled<T: Tape>(
     let (client, server) = cable.into_ends();
     client.legal();
     server.legal();
+    a_session_has_the_headline();
     played_laws();
     Ran {
         client,

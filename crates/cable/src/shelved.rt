@@ -2,7 +2,7 @@
 
 ghost use Rattle.std.specs.Prelude.{◌≡◌, IfOk, OnOk, false};
 ghost use Rattle.cable.specs.Report.{report_of};
-ghost use Rattle.cable.specs.Shelves.{GotTapes, Reports};
+ghost use Rattle.cable.specs.Shelves.{GotTapes, Reports, sides_by};
 
 use crate::ends::both_ends;
 use crate::reports::report;
@@ -12,7 +12,7 @@ use rs_wire::OutOfMemory;
 use std::alloc::Global;
 use tape::{Shelf, Tape};
 
-// The report of a run, unless it stopped for want of memory.
+// The report of a run, unless memory ran out.
 fn report_of<T: Tape>(alloc: Global, ran: &Ran<T>) -> Result<Vec<u8>, OutOfMemory>
     ensures went { OnOk result (ran.now.want ≡ false) }
     ensures reported { IfOk result (λ text. text.items ≡ report_of ran.now.client ran.now.server) }
@@ -31,7 +31,8 @@ pub fn play<H: Shelf>(alloc: Global, script: &Script, shelf: &mut H) -> Result<V
     ensures reports { IfOk result (λ text.
         Reports script.now H.fresh (H.back shelf.old) (H.back shelf.new) text.items) }
     ensures lent { H.lent shelf.new ≡ H.lent shelf.old }
-    ensures got { GotTapes 2 (H.back shelf.old) (H.back shelf.new) }
+    ensures got { GotTapes (sides_by script.now.settings) H.fresh
+        (H.back shelf.old) (H.back shelf.new) }
 {
     let (client, server) = both_ends(alloc, script, shelf)?;
     let ran = scheduled(alloc, script, client, server);

@@ -4,3 +4,4 @@ mod Texts
 mod Reading
 mod OneLine
 pub mod OneScript
+pub mod Settings

@@ -2,11 +2,12 @@
 
 ghost use Rattle.std.specs.Prelude.{◌≡◌, ◌≤◌, ◌∷◌, ◌++◌, [], List, length, IfErr, IfNone, IfOk, IfSome, IsOkAnd, ℕ, false};
 ghost use Rattle.std.specs.List.{AllByRecursion};
+ghost use Rattle.rs_wire.specs.Settings.{IsChecked};
 ghost use Rattle.cable_script.specs.declared.line.Line.{Line as Spoken};
 ghost use Rattle.cable_script.specs.Line.{IsLine, text_of};
 ghost use Rattle.cable_script.specs.Script.{AreRight as AreScripted, IsFault, IsScript, WereRead, is_passed};
 ghost use Rattle.cable_script.specs.Scripted.{and_line, and_setting};
-ghost use Rattle.cable_script.specs.Setting.{IsSettingLine};
+ghost use Rattle.cable_script.specs.Setting.{IsSettingLine, settings_by};
 ghost use Rattle.cable_script.specs.Words.{AreRight, setting_line_of, text_of_words};
 
 use crate::MOST_SCRIPT;
@@ -15,7 +16,7 @@ use crate::setting::SettingLine;
 use crate::setting_words::{SettingWords, setting_words_of};
 use crate::words::{Words, words_of};
 use plain_text::first_line;
-use rs_wire::OutOfMemory;
+use rs_wire::{Checked, OutOfMemory, Settings, Side, check};
 use std::alloc::Global;
 use std::marker::Model;
 use thiserror::Error;
@@ -176,11 +177,26 @@ impl Script {
     }
 
     /// The setting lines, in their order.
-    pub fn settings(&self) -> &[SettingLine]
+    pub fn setting_lines(&self) -> &[SettingLine]
         ensures value { result.now ≡ self.now.settings }
         ensures right { AllByRecursion IsSettingLine self.now.settings }
     {
         self.settings.as_slice()
+    }
+
+    /// The settings of this end: the usual ones of its side, changed by the setting lines.
+    pub fn settings(&self, alloc: Global, side: Side) -> Result<Checked, OutOfMemory>
+        ensures settings { IfOk result (λ c. c ≡ settings_by side self.now.settings) }
+        ensures checked { IfOk result IsChecked }
+    {
+        let mut settings = Settings::usual(alloc, side)?;
+        for line in self.setting_lines() {
+            line.apply(alloc, side, &mut settings)?;
+        }
+        match check(settings) {
+            Ok(settings) => Ok(settings),
+            Err(_) => unreachable!(),
+        }
     }
 
     /// The action lines, in their order.

@@ -12,17 +12,18 @@ use Rattle.capture.specs.declared.lines.CaptureFault.TheVariants as captures
 use Rattle.command_line.specs.declared.task.Task.TheVariants as tasks
 use Rattle.rsocket_run.specs.Run.{HasBadCapture, HasWrongText, RanBack, RanFrames}
 use Rattle.rsocket_run.specs.Stops.{StoppedBy, of_capture, of_text}
+use Rattle.rsocket_run.specs.declared.tasks.TheConstants.{READ_FOR_CAPTURE}
 use Rattle.rsocket_run.specs.Streams.{IsReadTo}
 use Rattle.rsocket_run.proofs.Whole.{whole_text}
 
--- behind a text that is empty stands what was appended
+-- after a text that is empty stands what was appended
 from_empty : (old new more : List ℕ) → old ≡ [] → new ≡ old ++ more → new ≡ more
 from_empty old new more none is = subst (λ (x : List ℕ). new ≡ x ++ more) none is
 
-pub frames_ran : (input bytes given : List ℕ) (left : Option (List ℕ)) (old new : List ℕ) → IsReadTo 67108865 input bytes left → given ≡ bytes → old ≡ [] → ((frames : List Frame) × IsCapture given frames × (new ≡ old ++ all_lines frames)) → RanFrames input left new
+pub frames_ran : (input bytes given : List ℕ) (left : Option (List ℕ)) (old new : List ℕ) → IsReadTo READ_FOR_CAPTURE input bytes left → given ≡ bytes → old ≡ [] → ((frames : List Frame) × IsCapture given frames × (new ≡ old ++ all_lines frames)) → RanFrames input left new
 frames_ran input bytes given left old new r same none (frames, capture, appended) =
     let here : IsCapture bytes frames = subst (λ (b : List ℕ). IsCapture b frames) same capture in
-    let whole = whole_text 67108865 input bytes left r (omega (arith, here.short)) in
+    let whole = whole_text READ_FOR_CAPTURE input bytes left r (omega (arith, here.short)) in
     record {
       to_its_end = whole.1;
       frames = frames;
@@ -30,7 +31,7 @@ frames_ran input bytes given left old new r same none (frames, capture, appended
       lines = from_empty old new (all_lines frames) none appended;
     }
 
-pub frames_bad : (input bytes given : List ℕ) (left : Option (List ℕ)) (old new : List ℕ) (place : ℕ) (bad : BadFrame) → IsReadTo 67108865 input bytes left → given ≡ bytes → old ≡ [] → ((before : List Frame) × IsBadAt given place bad before × (new ≡ old ++ all_lines before)) → HasBadCapture input left place bad new
+pub frames_bad : (input bytes given : List ℕ) (left : Option (List ℕ)) (old new : List ℕ) (place : ℕ) (bad : BadFrame) → IsReadTo READ_FOR_CAPTURE input bytes left → given ≡ bytes → old ≡ [] → ((before : List Frame) × IsBadAt given place bad before × (new ≡ old ++ all_lines before)) → HasBadCapture input left place bad new
 frames_bad input bytes given left old new place bad r same none (before, found, appended) = record {
   read = bytes;
   is_read = r;
@@ -39,10 +40,10 @@ frames_bad input bytes given left old new place bad r same none (before, found, 
   lines_are = from_empty old new (all_lines before) none appended;
 }
 
-pub back_ran : (input bytes given : List ℕ) (left : Option (List ℕ)) (old new : List ℕ) → IsReadTo 67108865 input bytes left → given ≡ bytes → old ≡ [] → (frames : List Frame) → IsTextOf given frames → new ≡ old ++ framed_all frames → RanBack input left new
+pub back_ran : (input bytes given : List ℕ) (left : Option (List ℕ)) (old new : List ℕ) → IsReadTo READ_FOR_CAPTURE input bytes left → given ≡ bytes → old ≡ [] → (frames : List Frame) → IsTextOf given frames → new ≡ old ++ framed_all frames → RanBack input left new
 back_ran input bytes given left old new r same none frames is_text appended =
     let here : IsTextOf bytes frames = subst (λ (b : List ℕ). IsTextOf b frames) same is_text in
-    let whole = whole_text 67108865 input bytes left r (omega (arith, here.short)) in
+    let whole = whole_text READ_FOR_CAPTURE input bytes left r (omega (arith, here.short)) in
     record {
       to_its_end = whole.1;
       frames = frames;
@@ -50,7 +51,7 @@ back_ran input bytes given left old new r same none frames is_text appended =
       bytes = from_empty old new (framed_all frames) none appended;
     }
 
-pub back_wrong : (input bytes given : List ℕ) (left : Option (List ℕ)) (number : ℕ) → IsReadTo 67108865 input bytes left → given ≡ bytes → ((before : List Frame) × IsWrongLine given number before) → HasWrongText input left number
+pub back_wrong : (input bytes given : List ℕ) (left : Option (List ℕ)) (number : ℕ) → IsReadTo READ_FOR_CAPTURE input bytes left → given ≡ bytes → ((before : List Frame) × IsWrongLine given number before) → HasWrongText input left number
 back_wrong input bytes given left number r same (before, wrong) = record {
   read = bytes;
   is_read = r;
@@ -58,13 +59,13 @@ back_wrong input bytes given left number r same (before, wrong) = record {
   wrong = subst (λ (b : List ℕ). IsWrongLine b number before) same wrong;
 }
 
-pub frames_stopped : (e : CaptureFault) (input bytes given : List ℕ) (left : Option (List ℕ)) (old new : List ℕ) → IsReadTo 67108865 input bytes left → given ≡ bytes → old ≡ []
+pub frames_stopped : (e : CaptureFault) (input bytes given : List ℕ) (left : Option (List ℕ)) (old new : List ℕ) → IsReadTo READ_FOR_CAPTURE input bytes left → given ≡ bytes → old ≡ []
     → ((place : ℕ) (bad : BadFrame) → e ≡ captures.Frame place bad → (before : List Frame) × IsBadAt given place bad before × (new ≡ old ++ all_lines before))
     → StoppedBy (tasks.Frames false) input left (of_capture e) new
 frames_stopped (captures.Frame place bad) input bytes given left old new read same none found = frames_bad input bytes given left old new place bad read same none (found place bad refl)
 frames_stopped captures.OutOfMemory input bytes given left old new read same none found = tt
 
-pub back_stopped : (e : LineFault) (input bytes given : List ℕ) (left : Option (List ℕ)) (old new : List ℕ) → IsReadTo 67108865 input bytes left → given ≡ bytes → old ≡ [] → IsLineFault given e → new ≡ old
+pub back_stopped : (e : LineFault) (input bytes given : List ℕ) (left : Option (List ℕ)) (old new : List ℕ) → IsReadTo READ_FOR_CAPTURE input bytes left → given ≡ bytes → old ≡ [] → IsLineFault given e → new ≡ old
     → StoppedBy (tasks.Frames true) input left (of_text e) new
 back_stopped (texts.Line number) input bytes given left old new read same none wrong kept = (back_wrong input bytes given left number read same wrong, kept ∙ none)
 back_stopped texts.OutOfMemory input bytes given left old new read same none wrong kept = tt

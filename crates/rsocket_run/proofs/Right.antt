@@ -1,17 +1,11 @@
 -- Where nothing is wrong with the input, nothing of it is told as wrong.
-use Rattle.std.proofs.Common.{true, false, not, append_assoc, refl, ◌≡◌, ℕ, ◌+◌, ◌≤◌, List, [], ◌∷◌, ◌++◌, length, map, Option, inl, inr, sym, ap, subst, ◌∙◌, arith}
-use Rattle.std.specs.List.{AllByRecursion}
+use Rattle.std.proofs.Common.{true, false, ◌≡◌, ℕ, ◌+◌, ◌≤◌, List, length, Option, inl, inr, sym, ap, subst, arith}
 use Rattle.std.proofs.lemmas.List.{length-append}
-use Rattle.cable_script.specs.declared.line.Line.{Line}
 use Rattle.cable_script.specs.declared.script.ScriptFault.TheVariants.{Line as WrongLine}
-use Rattle.cable_script.specs.Line.{IsLine, text_of}
-use Rattle.cable_script.specs.declared.setting.SettingLine.{SettingLine}
-use Rattle.cable_script.specs.Setting.{IsSettingLine, setting_text}
 use Rattle.cable_script.specs.Scripted.{Scripted}
 use Rattle.cable_script.specs.Script.{IsFault, IsScript}
 use Rattle.cable_script.proofs.OneScript.{none_wrong}
 use Rattle.plain_text.specs.Lines.{lines_of}
-use Rattle.std.proofs.lemmas.List.Elements.{filter-append}
 use Rattle.capture.specs.declared.lines.BadFrame.{BadFrame}
 use Rattle.capture.specs.Captured.{IsBadAt}
 use Rattle.capture.specs.Text.{IsWrongLine}
@@ -20,6 +14,7 @@ use Rattle.capture.proofs.Texts.{either_text}
 use Rattle.command_line.specs.declared.task.Task.{Task}
 use Rattle.command_line.specs.declared.task.Task.TheVariants as tasks
 use Rattle.rsocket_run.specs.Run.{HasBadFrame, HasWrongLine, IsRightInput}
+use Rattle.rsocket_run.specs.declared.tasks.TheConstants.{READ_FOR_CAPTURE, READ_FOR_SCRIPT}
 use Rattle.rsocket_run.specs.Streams.{IsReadTo}
 use Rattle.rsocket_run.proofs.Whole.{whole_text}
 
@@ -34,16 +29,16 @@ no_fault input number script s (inr wrong) = none_wrong script (lines_of input) 
 
 pub no_wrong_line : (task : Task) (input : List ℕ) (left : Option (List ℕ)) (number : ℕ) → IsRightInput task input → HasWrongLine task input left number → ⊥
 no_wrong_line tasks.Cable input left number (script, s) wrong =
-    let same = all_read 16777217 input wrong.read left wrong.is_read (omega (arith, s.short)) in
+    let same = all_read READ_FOR_SCRIPT input wrong.read left wrong.is_read (omega (arith, s.short)) in
     no_fault input number script s (subst (λ (t : List ℕ). IsFault t (WrongLine number)) same wrong.wrong)
 no_wrong_line (tasks.Frames false) input left number right wrong = wrong
 no_wrong_line (tasks.Frames true) input left number (frames, t) wrong =
-    let same = all_read 67108865 input wrong.read left wrong.is_read (omega (arith, t.short)) in
+    let same = all_read READ_FOR_CAPTURE input wrong.read left wrong.is_read (omega (arith, t.short)) in
     either_text input frames number wrong.before t (subst (λ (x : List ℕ). IsWrongLine x number wrong.before) same wrong.wrong)
 
 pub no_bad_frame : (task : Task) (input : List ℕ) (left : Option (List ℕ)) (place : ℕ) (bad : BadFrame) (lines : List ℕ) → IsRightInput task input → HasBadFrame task input left place bad lines → ⊥
 no_bad_frame tasks.Cable input left place bad lines right found = found
 no_bad_frame (tasks.Frames false) input left place bad lines (frames, c) found =
-    let same = all_read 67108865 input found.read left found.is_read (omega (arith, c.short)) in
+    let same = all_read READ_FOR_CAPTURE input found.read left found.is_read (omega (arith, c.short)) in
     either input place bad frames found.before c (subst (λ (x : List ℕ). IsBadAt x place bad found.before) same found.found)
 no_bad_frame (tasks.Frames true) input left place bad lines right found = found

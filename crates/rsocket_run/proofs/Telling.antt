@@ -1,5 +1,5 @@
 -- What a run that stopped has written, by its status.
-use Rattle.std.proofs.Common.{◌⊎◌, ◌≡◌, ◌≢◌, ℕ, ◌^◌, ◌-◌, List, ◌++◌, Option, Err, inl, inr, ⊎_elim, refl, ap, arith}
+use Rattle.std.proofs.Common.{◌⊎◌, ◌≡◌, ◌≢◌, ℕ, ◌^◌, ◌-◌, List, ◌++◌, Option, Err, inl, inr, ⊎_elim, refl, ap, subst, arith}
 use Rattle.std.proofs.lemmas.Bool.{cases_lt}
 use Rattle.std.proofs.lemmas.Grind.{common_steps}
 use Rattle.outside.specs.Causes.{Rose, one_more}
@@ -8,7 +8,7 @@ use Rattle.tape.specs.declared.entry.Entry.{Entry}
 use Rattle.command_line.specs.declared.task.Task.{Task}
 use Rattle.rsocket_run.specs.declared.stop.Stop.{Stop}
 use Rattle.rsocket_run.specs.declared.stop.Stop.TheVariants as stops
-use Rattle.rsocket_run.specs.Run.{IsDue, IsRightInput, TellsBadFrame, TellsWrongLine, bad_frame_line, read_fault_line, wrong_line}
+use Rattle.rsocket_run.specs.Run.{IsDone, IsDue, IsRightInput, TellsBadFrame, TellsWrongLine, bad_frame_line, read_fault_line, wrong_line}
 use Rattle.rsocket_run.specs.Stops.{IsTold, StoppedBy, TellsStop, faults_after_work}
 use Rattle.rsocket_run.specs.Streams.{CutOff, CutsOffSome, WritesSome}
 use Rattle.rsocket_run.proofs.Right.{no_bad_frame, no_wrong_line}
@@ -52,3 +52,15 @@ stop_right task input left (stops.WrongLine number) before after text old new st
 stop_right task input left stops.ReadFault before after text old new status by faults t right quiet = absurd (quiet (rose_once before after faults))
 stop_right task input left stops.OutOfMemory before after text old new status by faults t right quiet = inr t.0
 stop_right task input left (stops.BadFrame place bad) before after text old new status by faults t right quiet = absurd (no_bad_frame task input left place bad text right by)
+
+-- what a run whose work is done has written, where a write failed
+pub done_cut_off : (task : Task) (text : List ℕ) (input input' : ByteStream) (fresh : Option (List Entry)) (shelf shelf' : List (Option (List Entry))) (given out : List ℕ) (old new : ByteStream) (status : ℕ) (W : Type 0)
+    → IsDone task text input'.told fresh shelf shelf' out → given ≡ out → ((status ≡ 0) × W) ⊎ ((status ≡ 5) × CutOff given old new) → status ≡ 5 → CutsOffSome (IsDue task text input input' fresh shelf shelf') old new
+done_cut_off task text input input' fresh shelf shelf' given out old new status W done same (inl zero) five = let z = zero.0 in cc
+done_cut_off task text input input' fresh shelf shelf' given out old new status W done same (inr cut_off) five = (out, inl done, subst (λ (t : List ℕ). CutOff t old new) same cut_off.1)
+
+-- the shelf after a run whose work is done
+pub done_back : (Same Asked Got E W C : Type 0) (status : ℕ) → Same ⊎ (Asked × Got × E) → ((status ≡ 0) × W) ⊎ ((status ≡ 5) × C) → Same ⊎ (Asked × Got × ((status ≡ 0) ⊎ ((status ≡ 5) ⊎ (status ≡ 6))))
+done_back Same Asked Got E W C status (inl same) told = inl same
+done_back Same Asked Got E W C status (inr (asked, got, fine)) (inl zero) = inr (asked, got, inl zero.0)
+done_back Same Asked Got E W C status (inr (asked, got, fine)) (inr five) = inr (asked, got, inr (inl five.0))

@@ -8,7 +8,7 @@ use Rattle.tape.specs.declared.entry.Entry.{Entry}
 use Rattle.cable_script.specs.Scripted.{Scripted}
 use Rattle.cable_script.specs.Script.{IsScript, IsFault}
 use Rattle.cable_script.specs.declared.script.ScriptFault.TheVariants.{Line as WrongLine}
-use Rattle.cable.specs.Shelves.{GotTapes, Reports}
+use Rattle.cable.specs.Shelves.{GotTapes, Reports, sides_by}
 use Rattle.capture.specs.Captured.{IsBadAt, IsCapture, all_lines}
 use Rattle.capture.specs.Text.{IsTextOf, IsWrongLine}
 use Rattle.capture.specs.declared.lines.BadFrame.{BadFrame}
@@ -18,6 +18,7 @@ use Rattle.std.specs.Option.{unwrap_or}
 use Rattle.command_line.specs.Words.{Asks}
 use Rattle.command_line.specs.declared.task.Task.{Task}
 use Rattle.command_line.specs.declared.task.Task.TheVariants as tasks
+use Rattle.rsocket_run.specs.declared.tasks.TheConstants.{READ_FOR_CAPTURE, READ_FOR_SCRIPT}
 use Rattle.rsocket_run.specs.Streams.{IsReadTo}
 
 -- ---- the last lines
@@ -65,6 +66,10 @@ pub record RanBack (input : List ℕ) (left : Option (List ℕ)) (out : List ℕ
   pub text : IsTextOf input frames
   pub bytes : out ≡ framed_all frames
 
+-- `cable` over any input, also one that does not show its text: some script was played, and this is the report of a run of it
+abbrev pub PlayedSome : Option (List Entry) → List (Option (List Entry)) → List (Option (List Entry)) → List ℕ → Type 0
+PlayedSome fresh shelf shelf' out = (script : Scripted) × Reports script fresh shelf shelf' out
+
 abbrev pub IsDone : Task → List ℕ → Option (List ℕ) → Option (List Entry) → List (Option (List Entry)) → List (Option (List Entry)) → List ℕ → Type 0
 IsDone tasks.Cable input left fresh shelf shelf' out = RanCable input left fresh shelf shelf' out
 IsDone (tasks.Frames false) input left fresh shelf shelf' out = RanFrames input left out
@@ -75,13 +80,13 @@ IsDone (tasks.Frames true) input left fresh shelf shelf' out = RanBack input lef
 -- the line of this number is the first that is wrong in the script; 0 where the script is too long
 pub record HasWrongScript (input : List ℕ) (left : Option (List ℕ)) (number : ℕ) : Type 0 where
   pub read : List ℕ
-  pub is_read : IsReadTo 16777217 input read left
+  pub is_read : IsReadTo READ_FOR_SCRIPT input read left
   pub wrong : IsFault read (WrongLine number)
 
 -- the line of this number is the first that is the line of no frame, or that passes the limit
 pub record HasWrongText (input : List ℕ) (left : Option (List ℕ)) (number : ℕ) : Type 0 where
   pub read : List ℕ
-  pub is_read : IsReadTo 67108865 input read left
+  pub is_read : IsReadTo READ_FOR_CAPTURE input read left
   pub before : List Frame
   pub wrong : IsWrongLine read number before
 
@@ -93,7 +98,7 @@ HasWrongLine (tasks.Frames true) input left number = HasWrongText input left num
 -- the frame at this place is the first that can't be read; these are the lines of the frames before it
 pub record HasBadCapture (input : List ℕ) (left : Option (List ℕ)) (place : ℕ) (bad : BadFrame) (lines : List ℕ) : Type 0 where
   pub read : List ℕ
-  pub is_read : IsReadTo 67108865 input read left
+  pub is_read : IsReadTo READ_FOR_CAPTURE input read left
   pub before : List Frame
   pub found : IsBadAt read place bad before
   pub lines_are : lines ≡ all_lines before
@@ -131,8 +136,8 @@ IsDue task text input input' fresh shelf shelf' out =
 -- ---- the task, and how much of the input it reads at most: one byte more than it may have
 
 abbrev pub most_of : Task → ℕ
-most_of tasks.Cable = 16777217
-most_of (tasks.Frames back) = 67108865
+most_of tasks.Cable = READ_FOR_SCRIPT
+most_of (tasks.Frames back) = READ_FOR_CAPTURE
 
 -- the words ask for nothing
 abbrev pub AskNothing : List (List ℕ) → Type 0
@@ -144,20 +149,17 @@ OfTask words input P = (task : Task) (text : List ℕ) → Asks words task → i
 
 -- ---- the shelf
 
--- the input, where it is told, was read to its end and is a script
-abbrev pub WasScript : ByteStream → Option (List ℕ) → Type 0
-WasScript input left = (text : List ℕ) → input.told ≡ Some text → (left ≡ Some []) × ((script : Scripted) × IsScript text script)
+-- a script was read, which is the whole input where that is told, and the shelf got tapes of the two ends of a run of it
+pub record GotEnds (input : ByteStream) (left : Option (List ℕ)) (fresh : Option (List Entry)) (shelf shelf' : List (Option (List Entry))) : Type 0 where
+  pub script : Scripted
+  pub to_its_end : (text : List ℕ) → input.told ≡ Some text → left ≡ Some []
+  pub is_script : (text : List ℕ) → input.told ≡ Some text → IsScript text script
+  pub got : GotTapes (sides_by script.settings) fresh shelf shelf'
 
--- the words ask for `cable`, its script was read, and the shelf got at most the tapes of the two ends
-pub record GotEnds (words : List (List ℕ)) (input : ByteStream) (left : Option (List ℕ)) (shelf shelf' : List (Option (List Entry))) : Type 0 where
-  pub asked : Asks words tasks.Cable
-  pub script : WasScript input left
-  pub got : GotTapes 2 shelf shelf'
-
--- the shelf after a run with this status: it got nothing; or on 0, 5 and 6 it got the tapes of `cable`
-abbrev pub IsShelfAfter : List (List ℕ) → ByteStream → Option (List ℕ) → List (Option (List Entry)) → List (Option (List Entry)) → ℕ → Type 0
-IsShelfAfter words input left shelf shelf' status =
-    (shelf' ≡ shelf) ⊎ (GotEnds words input left shelf shelf' × ((status ≡ 0) ⊎ ((status ≡ 5) ⊎ (status ≡ 6))))
+-- the shelf after a run with this status: it got nothing; or the words ask for `cable`, and on 0, 5 and 6 it got tapes of its ends
+abbrev pub IsShelfAfter : List (List ℕ) → ByteStream → Option (List ℕ) → Option (List Entry) → List (Option (List Entry)) → List (Option (List Entry)) → ℕ → Type 0
+IsShelfAfter words input left fresh shelf shelf' status =
+    (shelf' ≡ shelf) ⊎ (Asks words tasks.Cable × GotEnds input left fresh shelf shelf' × ((status ≡ 0) ⊎ ((status ≡ 5) ⊎ (status ≡ 6))))
 
 -- ---- the status
 

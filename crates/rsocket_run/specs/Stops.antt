@@ -16,8 +16,9 @@ use Rattle.rsocket_run.specs.declared.input.Unread.{Unread}
 use Rattle.rsocket_run.specs.declared.input.Unread.TheVariants as unread
 use Rattle.command_line.specs.declared.task.Task.{Task}
 use Rattle.tape.specs.declared.entry.Entry.{Entry}
-use Rattle.cable.specs.Shelves.{GotTapes}
-use Rattle.rsocket_run.specs.Run.{GotEnds, WasScript, HasBadFrame, HasWrongLine, bad_frame_line, memory_line, read_fault_line, usage_line, wrong_line}
+use Rattle.command_line.specs.Words.{Asks}
+use Rattle.command_line.specs.declared.task.Task.TheVariants as tasks
+use Rattle.rsocket_run.specs.Run.{GotEnds, HasBadFrame, HasWrongLine, bad_frame_line, memory_line, read_fault_line, usage_line, wrong_line}
 use Rattle.rsocket_run.specs.Streams.{CutOff, Writes, WritesLine}
 
 -- what a stop tells of the input, and the text that the run has by then
@@ -62,16 +63,16 @@ abbrev pub faults_after_writing : {X E : Type 0} → Result X E → ℕ → ℕ
 faults_after_writing (Ok done) faults = faults
 faults_after_writing (Err fault) faults = one_more faults
 
--- the shelf after `cable` ended so: it got nothing; or the input is a script, and it got at most the tapes of the two
--- ends, where the work was done or memory ran out in it
-abbrev pub IsShelfAfterCable : ByteStream → Option (List ℕ) → List (Option (List Entry)) → List (Option (List Entry)) → Result Unit Stop → Type 0
-IsShelfAfterCable input left shelf shelf' result =
-    (shelf' ≡ shelf) ⊎ (WasScript input left × GotTapes 2 shelf shelf' × IfErr result (λ stop. stop ≡ stops.OutOfMemory))
+-- the shelf after `cable` ended so: it got nothing; or it got tapes of the ends of a run of its script, where the work was done or memory
+-- ran out in it
+abbrev pub IsShelfAfterCable : ByteStream → Option (List ℕ) → Option (List Entry) → List (Option (List Entry)) → List (Option (List Entry)) → Result Unit Stop → Type 0
+IsShelfAfterCable input left fresh shelf shelf' result =
+    (shelf' ≡ shelf) ⊎ (GotEnds input left fresh shelf shelf' × IfErr result (λ stop. stop ≡ stops.OutOfMemory))
 
 -- the shelf after the work of these words ended so
-abbrev pub IsShelfAfterWork : List (List ℕ) → ByteStream → Option (List ℕ) → List (Option (List Entry)) → List (Option (List Entry)) → Result Unit Stop → Type 0
-IsShelfAfterWork words input left shelf shelf' result =
-    (shelf' ≡ shelf) ⊎ (GotEnds words input left shelf shelf' × IfErr result (λ stop. stop ≡ stops.OutOfMemory))
+abbrev pub IsShelfAfterWork : List (List ℕ) → ByteStream → Option (List ℕ) → Option (List Entry) → List (Option (List Entry)) → List (Option (List Entry)) → Result Unit Stop → Type 0
+IsShelfAfterWork words input left fresh shelf shelf' result =
+    (shelf' ≡ shelf) ⊎ (Asks words tasks.Cable × GotEnds input left fresh shelf shelf' × IfErr result (λ stop. stop ≡ stops.OutOfMemory))
 
 -- the faults of each part as a stop of the run
 abbrev pub of_words : WordsFault → Stop

@@ -4,7 +4,8 @@ ghost use Rattle.std.specs.Prelude.{◌≡◌, ◌⊎◌, [], Err, IfErr, OnOk};
 ghost use Rattle.outside.specs.Causes.{Rose};
 ghost use Rattle.command_line.specs.Words.{Asks};
 ghost use Rattle.command_line.specs.declared.task.Task.{Task};
-ghost use Rattle.rsocket_run.specs.Run.{AskNothing, IsDone, IsDue, IsRightInput, IsShelfAfter, IsStatus, OfTask, TellsBadFrame, TellsWrongLine, memory_line, most_of, read_fault_line, usage_line};
+ghost use Rattle.command_line.specs.declared.task.Task.TheVariants as tasks;
+ghost use Rattle.rsocket_run.specs.Run.{AskNothing, IsDone, IsDue, IsRightInput, IsShelfAfter, IsStatus, OfTask, PlayedSome, TellsBadFrame, TellsWrongLine, memory_line, most_of, read_fault_line, usage_line};
 ghost use Rattle.rsocket_run.specs.Stops.{IsShelfAfterWork, StoppedBy, faults_after_work};
 ghost use Rattle.rsocket_run.specs.Streams.{CutsOffSome, FailedReads, FailedWrites, HasRead, Writes, WritesLine, WritesSome};
 
@@ -29,6 +30,8 @@ fn work<I: Source, H: Shelf>(
     ensures done { OfTask words.now (I.shown input.old) (λ task text. OnOk result
         (IsDone task text (I.shown input.new).told H.fresh (H.back shelf.old)
         (H.back shelf.new) out.new.items)) }
+    ensures played { Asks words.now tasks.Cable → OnOk result
+        (PlayedSome H.fresh (H.back shelf.old) (H.back shelf.new) out.new.items) }
     ensures stopped { OfTask words.now (I.shown input.old) (λ task text.
         IfErr result (λ stop. StoppedBy task text (I.shown input.new).told stop out.new.items)) }
     ensures usage { result ≡ Err Stop.Usage → AskNothing words.now }
@@ -41,7 +44,7 @@ fn work<I: Source, H: Shelf>(
         faults_after_work result (I.shown input.old).faults }
     ensures lent { H.lent shelf.new ≡ H.lent shelf.old }
     ensures back { IsShelfAfterWork words.now (I.shown input.old) (I.shown input.new).told
-        (H.back shelf.old) (H.back shelf.new) result }
+        H.fresh (H.back shelf.old) (H.back shelf.new) result }
 {
     words_laws();
     match read_words(alloc, words)? {
@@ -87,12 +90,16 @@ pub fn run<I: Source, O: Sink, H: Shelf>(
         (I.shown input.old).faults (I.shown input.new).faults result }
 
     // What is written. Status 0: the output of the work, which for `cable` is the report of two ends
-    // that are legal and joined, and whose tapes the shelf has. 3 and 11: what is wrong with the
+    // that are legal and joined and have the headline, and whose tapes the shelf has; so it is too
+    // where the input does not show its text (`played`). 3 and 11: what is wrong with the
     // input, and just that. 5: a prefix of one of these, or of the line of 4. 2 and 6: their line,
     // or where a write failed a prefix of it. A failed write is the last one.
     ensures done { result ≡ 0 → OfTask words.now (I.shown input.old) (λ task text. WritesSome
         (IsDone task text (I.shown input.new).told H.fresh (H.back shelf.old) (H.back shelf.new))
         (O.shown output.old) (O.shown output.new)) }
+    ensures played { result ≡ 0 → Asks words.now tasks.Cable → WritesSome
+        (PlayedSome H.fresh (H.back shelf.old) (H.back shelf.new))
+        (O.shown output.old) (O.shown output.new) }
     ensures usage_line { result ≡ 2 →
         WritesLine usage_line (O.shown output.old) (O.shown output.new) }
     ensures wrong_line { result ≡ 3 → OfTask words.now (I.shown input.old) (λ task text.
@@ -111,11 +118,12 @@ pub fn run<I: Source, O: Sink, H: Shelf>(
     ensures failed_writes { FailedWrites
         (O.shown output.old).faults (O.shown output.new).faults result }
 
-    // The shelf: as many tapes are lent as before, and it gets back at most two, on 0, 5 and 6 alone,
-    // where `cable` has read its script.
+    // The shelf: as many tapes are lent as before. It gets tapes back on 0, 5 and 6 alone, where
+    // `cable` has read its script: those of the two ends, or where memory ran out the client's alone.
+    // Each tape is that of a session.
     ensures lent { H.lent shelf.new ≡ H.lent shelf.old }
     ensures back { IsShelfAfter words.now (I.shown input.old) (I.shown input.new).told
-        (H.back shelf.old) (H.back shelf.new) result }
+        H.fresh (H.back shelf.old) (H.back shelf.new) result }
 {
     let mut text = Vec::new(alloc);
     match work(alloc, words, input, shelf, &mut text) {

@@ -2,24 +2,26 @@
 
 ghost use Rattle.std.specs.Prelude.{◌≡◌, [], ℕ, List, true, false, Some, IfErr, OnOk};
 ghost use Rattle.command_line.specs.declared.task.Task.TheVariants as tasks;
-ghost use Rattle.rsocket_run.specs.Run.{RanCable, RanBack, RanFrames};
+ghost use Rattle.rsocket_run.specs.declared.tasks.TheConstants.{READ_FOR_CAPTURE, READ_FOR_SCRIPT};
+ghost use Rattle.rsocket_run.specs.Run.{PlayedSome, RanBack, RanCable, RanFrames};
 ghost use Rattle.rsocket_run.specs.Stops.{IsShelfAfterCable, StoppedBy, faults_after_work};
 ghost use Rattle.rsocket_run.specs.Streams.{HasRead};
 
 use crate::input::read_to;
 use crate::stop::Stop;
 use cable::play;
-use cable_script::Script;
-use capture::{from_lines, to_lines};
+use cable_script::{MOST_SCRIPT, Script};
+use capture::{MOST_CAPTURE, from_lines, to_lines};
 use outside::Source;
 use std::alloc::Global;
 use tape::Shelf;
 
-/// One byte more than a script may have.
-const SCRIPT: usize = 16_777_217;
+/// How many bytes are read for a script at most: one more than it may have, which shows that it is
+/// too long.
+const READ_FOR_SCRIPT: usize = MOST_SCRIPT + 1;
 
-/// One byte more than a capture may have, or its lines.
-const CAPTURE: usize = 67_108_865;
+/// How many bytes are read for a capture, or for its lines, at most: one more than they may have.
+const READ_FOR_CAPTURE: usize = MOST_CAPTURE + 1;
 
 /// `cable`: reads a script, plays it between a client and a server, and appends the report.
 pub fn cable<I: Source, H: Shelf>(
@@ -32,18 +34,20 @@ pub fn cable<I: Source, H: Shelf>(
     ensures done { (text : List ℕ) → (I.shown input.old).told ≡ Some text →
         OnOk result (RanCable text (I.shown input.new).told H.fresh (H.back shelf.old)
         (H.back shelf.new) out.new.items) }
+    ensures played { OnOk result
+        (PlayedSome H.fresh (H.back shelf.old) (H.back shelf.new) out.new.items) }
     ensures stopped { (text : List ℕ) → (I.shown input.old).told ≡ Some text →
         IfErr result (λ stop. StoppedBy tasks.Cable text
         (I.shown input.new).told stop out.new.items) }
-    ensures read { HasRead 16777217 (I.shown input.old).told (I.shown input.new).told }
+    ensures read { HasRead READ_FOR_SCRIPT (I.shown input.old).told (I.shown input.new).told }
     ensures faults { (I.shown input.new).faults ≡
         faults_after_work result (I.shown input.old).faults }
     ensures words { ¬ (result ≡ Err Stop.Usage) }
     ensures lent { H.lent shelf.new ≡ H.lent shelf.old }
-    ensures back { IsShelfAfterCable (I.shown input.old) (I.shown input.new).told
+    ensures back { IsShelfAfterCable (I.shown input.old) (I.shown input.new).told H.fresh
         (H.back shelf.old) (H.back shelf.new) result }
 {
-    let text = read_to(alloc, input, SCRIPT)?;
+    let text = read_to(alloc, input, READ_FOR_SCRIPT)?;
     let script = Script::read(alloc, &text)?;
     *out = play(alloc, &script, shelf)?;
     Ok(())
@@ -57,12 +61,12 @@ pub fn lines<I: Source>(alloc: Global, input: &mut I, out: &mut Vec<u8>) -> Resu
     ensures stopped { (text : List ℕ) → (I.shown input.old).told ≡ Some text →
         IfErr result (λ stop. StoppedBy (tasks.Frames false) text
         (I.shown input.new).told stop out.new.items) }
-    ensures read { HasRead 67108865 (I.shown input.old).told (I.shown input.new).told }
+    ensures read { HasRead READ_FOR_CAPTURE (I.shown input.old).told (I.shown input.new).told }
     ensures faults { (I.shown input.new).faults ≡
         faults_after_work result (I.shown input.old).faults }
     ensures words { ¬ (result ≡ Err Stop.Usage) }
 {
-    let bytes = read_to(alloc, input, CAPTURE)?;
+    let bytes = read_to(alloc, input, READ_FOR_CAPTURE)?;
     Ok(to_lines(alloc, &bytes, out)?)
 }
 
@@ -74,11 +78,11 @@ pub fn bytes<I: Source>(alloc: Global, input: &mut I, out: &mut Vec<u8>) -> Resu
     ensures stopped { (text : List ℕ) → (I.shown input.old).told ≡ Some text →
         IfErr result (λ stop. StoppedBy (tasks.Frames true) text
         (I.shown input.new).told stop out.new.items) }
-    ensures read { HasRead 67108865 (I.shown input.old).told (I.shown input.new).told }
+    ensures read { HasRead READ_FOR_CAPTURE (I.shown input.old).told (I.shown input.new).told }
     ensures faults { (I.shown input.new).faults ≡
         faults_after_work result (I.shown input.old).faults }
     ensures words { ¬ (result ≡ Err Stop.Usage) }
 {
-    let text = read_to(alloc, input, CAPTURE)?;
+    let text = read_to(alloc, input, READ_FOR_CAPTURE)?;
     Ok(from_lines(alloc, &text, out)?)
 }

@@ -1,6 +1,6 @@
 use super::{Row, fault, is_read_so};
 use cable_script::{Script, ScriptFault};
-use rs_wire::{Settings, Side};
+use rs_wire::Side;
 use std::alloc::Global;
 use std::test::Fail;
 
@@ -153,11 +153,10 @@ const MADE: [Made; 10] = [
 /// Whether the lines make of the settings what the row says.
 fn is_made_so(alloc: Global, row: &Made) -> Result<bool, Fail> {
     let script = Script::read(alloc, row.text).map_err(|_| Fail::from("the script is right"))?;
-    let mut settings = Settings::usual(alloc, row.side).map_err(|_| Fail::from("there is memory"))?;
-    for line in script.settings() {
-        line.apply(alloc, row.side, &mut settings)
-            .map_err(|_| Fail::from("there is memory"))?;
-    }
+    let checked = script
+        .settings(alloc, row.side)
+        .map_err(|_| Fail::from("there is memory"))?;
+    let settings = checked.settings();
     Ok(
         settings.resume == row.resume
             && settings.lease == row.lease

@@ -49,3 +49,9 @@ returns-clause-client_fair g c = (ends_of g c).client_fair
 
 pub returns-clause-server_fair : goal.returns-clause-server_fair
 returns-clause-server_fair g c = (ends_of g c).server_fair
+
+pub returns-clause-client_headline : goal.returns-clause-client_headline
+returns-clause-client_headline g c = let ends = ends_of g c in c.a_session_has_the_headline.ensures _ _ (record { legal = ends.client_legal; fair = ends.client_fair })
+
+pub returns-clause-server_headline : goal.returns-clause-server_headline
+returns-clause-server_headline g c = let ends = ends_of g c in c.a_session_has_the_headline.ensures _ _ (record { legal = ends.server_legal; fair = ends.server_fair })

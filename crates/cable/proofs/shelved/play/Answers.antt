@@ -1,7 +1,7 @@
 use Rattle.std.proofs.Common.{subst}
 use Rattle.cable.specs.Played.{Sides}
 use Rattle.cable.specs.Shelves.{EndsOf}
-use Rattle.cable.proofs.OverShelf.{at_ok, got_both, if_ok, ok_is, report_is, side_is, sides_are, told_of, two_tapes, went_on}
+use Rattle.cable.proofs.OverShelf.{at_ok, got_both, if_ok, ok_is, report_is, session_tape, side_is, sides_are, told_of, two_tapes, went_on}
 use Rattle.cable.proofs.shelved.play.Goals as goal
 
 pub returns-clause-reports : goal.returns-clause-reports
@@ -14,10 +14,16 @@ returns-clause-reports g c = at_ok c.report_of-text.result _ (λ text is.
       server = c.scheduled-ran.result.server.entries;
       ends = subst (λ (s : Sides). EndsOf s c.args.script.now.lines c.scheduled-ran.result.client.entries c.scheduled-ran.result.server.entries) (sides_are _ _ _ _ _ c.in_ok-client.ensures.client c.in_ok-client.ensures.server) (record {
         played = c.scheduled-ran.ensures.played went;
+        client_side = side_is _ _ _ _ c.in_ok-client.ensures.client;
+        server_side = side_is _ _ _ _ c.in_ok-client.ensures.server;
+        client_checked = c.in_ok-client.ensures.checked.0;
+        server_checked = c.in_ok-client.ensures.checked.1;
         client_legal = c.scheduled-ran.ensures.client_legal;
         server_legal = c.scheduled-ran.ensures.server_legal;
         client_fair = c.scheduled-ran.ensures.client_fair;
         server_fair = c.scheduled-ran.ensures.server_fair;
+        client_headline = c.scheduled-ran.ensures.client_headline;
+        server_headline = c.scheduled-ran.ensures.server_headline;
         pairs = (c.scheduled-ran.ensures.joined went).0;
         joined = (c.scheduled-ran.ensures.joined went).1;
         server_handled = c.scheduled-ran.ensures.up went;
@@ -38,4 +44,6 @@ pub scheduled-ran-requires-clause-server_side : goal.scheduled-ran-requires-clau
 scheduled-ran-requires-clause-server_side g c = side_is _ _ _ _ c.in_ok-client.ensures.server
 
 pub returns-clause-got : goal.returns-clause-got
-returns-clause-got g c = two_tapes _ _ _ _ _ _ c.in_ok-client.ensures.back c.put_back.ensures.back c.put_back-2.ensures.back
+returns-clause-got g c = two_tapes _ _ _ _ _ _ _ _ c.in_ok-client.ensures.back c.put_back.ensures.back c.put_back-2.ensures.back
+    (session_tape _ _ _ _ _ c.in_ok-client.ensures.client c.scheduled-ran.ensures.client c.into_tape.ensures.told c.scheduled-ran.ensures.client_legal c.scheduled-ran.ensures.client_fair)
+    (session_tape _ _ _ _ _ c.in_ok-client.ensures.server c.scheduled-ran.ensures.server c.into_tape-2.ensures.told c.scheduled-ran.ensures.server_legal c.scheduled-ran.ensures.server_fair)

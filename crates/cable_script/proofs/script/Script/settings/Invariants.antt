@@ -1,6 +1,6 @@
 use Rattle.std.proofs.Common.{◌≡◌, drop}
 use Rattle.cable_script.specs.Setting.{set_by_all, settings_by}
-use Rattle.cable.proofs.ends.settings_of.Given as goal
+use Rattle.cable_script.proofs.script.Script.settings.Given as goal
 
 abbrev pub invariant-loop-line : goal.invariant-loop-line
 invariant-loop-line l = record {
