@@ -1,0 +1,152 @@
+//! Trials of two ends over the loopback.
+
+use crate::PIECE;
+use bell::Bell;
+use outside::{Given, Link, Taken};
+use std::alloc::Global;
+use std::net::{Ipv4Addr, Net, SocketAddr, TcpListener, TcpStream};
+use std::process::Abort;
+use std::sync::Arc;
+use std::test::Fail;
+use std::thread::{Threads, join};
+use std::time::Duration;
+use std::{io, thread};
+use tcp_end::TcpEnd;
+
+/// How often two ends answer each other.
+const ROUNDS: u64 = 100;
+
+// A socket of the loopback, and the one that answers it.
+fn two_sockets<R: Net<Listener = TcpListener, Stream = TcpStream>>(
+    rt: &R,
+) -> io::Result<(TcpStream, TcpStream)> {
+    let anywhere = SocketAddr::from((Ipv4Addr::LOCALHOST, 0));
+    let listener = TcpListener::bind(rt, anywhere)?;
+    let near = TcpStream::connect(rt, listener.local_addr()?)?;
+    let (far, _) = listener.accept()?;
+    Ok((near, far))
+}
+
+// Two links that are joined.
+fn two_ends<R: Net<Listener = TcpListener, Stream = TcpStream>>(
+    rt: &R,
+    alloc: Global,
+) -> io::Result<(TcpEnd, TcpEnd)> {
+    let (near, far) = two_sockets(rt)?;
+    Ok((TcpEnd::new(rt, alloc, near)?, TcpEnd::new(rt, alloc, far)?))
+}
+
+// Takes until a piece is whole, which comes in a hundred takes of 10 milliseconds.
+fn take_piece<R: Abort>(rt: &R, link: &mut TcpEnd, piece: &mut [u8; PIECE]) {
+    let mut have = 0;
+    for _ in 0..100 {
+        if have >= PIECE {
+            return;
+        }
+        match link.take(&mut piece[have..]) {
+            Taken::Took(count) => have += count,
+            Taken::Lull => {}
+            Taken::End | Taken::Failed => assert!(rt; false),
+        }
+    }
+    assert!(rt; have >= PIECE);
+}
+
+fn answer_all<R: Abort>(rt: &R, link: &mut TcpEnd) {
+    let mut piece = [0; PIECE];
+    for _ in 0..ROUNDS {
+        take_piece(rt, link, &mut piece);
+        assert!(rt; link.give(&piece) == Given::Took(PIECE));
+    }
+}
+
+fn ask_all<R: Abort>(rt: &R, link: &mut TcpEnd) {
+    let mut piece = [0; PIECE];
+    for round in 0..ROUNDS {
+        let asked = [round as u8; PIECE];
+        assert!(rt; link.give(&asked) == Given::Took(PIECE));
+        take_piece(rt, link, &mut piece);
+        assert!(rt; piece == asked);
+    }
+}
+
+#[test]
+fn two_ends_answer_each_other(rt: HostRuntime) -> Result<(), Fail> {
+    let (mut near, mut far) = two_ends(&rt, rt.alloc())?;
+    join(
+        &rt,
+        || ask_all(&rt, &mut near),
+        || answer_all(&rt, &mut far),
+    );
+    Ok(())
+}
+
+#[test]
+fn what_cannot_move_lulls_and_what_is_over_ends(rt: HostRuntime) -> Result<(), Fail> {
+    let (mut near, mut far) = two_ends(&rt, rt.alloc())?;
+    let mut buffer = [0; 8];
+    assert!(rt; near.take(&mut buffer) == Taken::Lull);
+
+    // The far end takes nothing, so the near one stalls in the end, and then there is room again.
+    let piece = [7; 4096];
+    let mut given = 0u64;
+    let mut stalled = false;
+    for _ in 0..100_000 {
+        match near.give(&piece) {
+            Given::Took(count) => given += count as u64,
+            Given::Lull => {
+                stalled = true;
+                break;
+            }
+            Given::Failed => break,
+        }
+    }
+    assert!(rt; stalled);
+    let mut taken = 0u64;
+    let mut large = [0; 65536];
+    for _ in 0..100_000 {
+        if taken >= given {
+            break;
+        }
+        if let Taken::Took(count) = far.take(&mut large) {
+            taken += count as u64;
+        }
+    }
+    assert_eq!(rt; taken, given);
+    assert!(rt; near.take(&mut buffer) == Taken::Lull);
+    assert!(rt; matches!(near.give(&piece), Given::Took(_)));
+
+    // The far end goes away.
+    drop(far);
+    let mut last = Taken::Lull;
+    for _ in 0..10 {
+        last = near.take(&mut buffer);
+        if last != Taken::Lull {
+            break;
+        }
+    }
+    assert!(rt; matches!(last, Taken::End | Taken::Failed));
+    let mut gave = Given::Lull;
+    for _ in 0..10 {
+        gave = near.give(&piece);
+        if gave == Given::Failed {
+            break;
+        }
+        thread::sleep(&rt, Duration::from_millis(1));
+    }
+    assert!(rt; gave == Given::Failed);
+    Ok(())
+}
+
+#[test]
+fn a_ring_ends_a_take(rt: HostRuntime) -> Result<(), Fail> {
+    let (mut near, _far) = two_ends(&rt, rt.alloc())?;
+    let bell = Arc::new(rt.alloc(), Bell::new())?;
+    near.hear(&rt, &bell);
+    let mut buffer = [0; 8];
+    assert!(rt; near.take(&mut buffer) == Taken::Lull);
+    bell.ring();
+    assert!(rt; near.take(&mut buffer) == Taken::Lull);
+    assert!(rt; near.take(&mut buffer) == Taken::Lull);
+    Ok(())
+}
