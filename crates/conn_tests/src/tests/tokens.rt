@@ -5,7 +5,7 @@ ghost use Rattle.std.specs.Prelude.{◌≡◌};
 use super::calls::SETUP;
 use super::ends::{blob, connected, connected_as, open, open_server};
 use conn::{Caller, Connection};
-use rs_wire::{Checked, Settings, Side, check};
+use rs_wire::{Blob, Checked, Settings, Side, check};
 use std::alloc::Global;
 use std::process::Abort;
 use std::sync::Wait;
@@ -21,15 +21,21 @@ const RESUMING_SETUP: &[u8; 74] = b"\
     \x18application/octet-stream\
     \x18application/octet-stream";
 
+// The token of this end: a server has none.
+fn own_token<R: Abort>(rt: &R, alloc: Global, side: Side) -> Blob {
+    match side {
+        Side::Client => blob(rt, alloc, TOKEN),
+        Side::Server => blob(rt, alloc, b""),
+    }
+}
+
 // The usual settings, with resumption.
 fn resuming<R: Abort>(rt: &R, alloc: Global, side: Side) -> Checked
     ensures side { result.side ≡ side }
 {
     let mut settings = Settings::usual(alloc, side).expect(rt, "there is memory");
     settings.resume = true;
-    if side == Side::Client {
-        settings.token = blob(rt, alloc, TOKEN);
-    }
+    settings.token = own_token(rt, alloc, side);
     match check(settings) {
         Ok(settings) => settings,
         Err(_) => panic!(rt; "the settings are right"),
