@@ -69,6 +69,17 @@ fn act<T: Tape>(
     }
 }
 
+// Whether an answer is one to such an event: a session that is closed refuses a call, and answers
+// `Closed` to any other event. In words both are `closed`.
+fn is_answer_to(answer: &Answer, event: &Event) -> bool {
+    match (answer, event) {
+        (Answer::Closed(_), Event::Asked(_)) => false,
+        (Answer::Refused(_), Event::Asked(_)) => true,
+        (Answer::Refused(_), _) => false,
+        _ => true,
+    }
+}
+
 // The answer to a draw. The bytes drawn are appended to those given.
 fn draw<T: Tape>(
     alloc: Global,
@@ -145,6 +156,9 @@ impl<T: Tape + Drop> End<T> {
         };
         let mut out = String::new(alloc);
         put_answer(alloc, &mut out, &answer)?;
+        if !is_answer_to(&answer, event) {
+            out.push_str(", which is no answer to it")?;
+        }
         Ok(out)
     }
 
