@@ -197,6 +197,11 @@ impl<T: Tape + Drop> End<T> {
     }
 
     /// The tape of the session.
+    pub fn tape(&self) -> &T {
+        self.session.tape()
+    }
+
+    /// The tape of the session, which is done.
     pub fn into_tape(self) -> T {
         self.session.into_tape()
     }

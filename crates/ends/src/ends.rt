@@ -57,18 +57,6 @@ fn put_agreed(out: &mut String, stepped: &str, brought: &str, asked: &str) -> Re
     Ok(())
 }
 
-// Appends what is wrong where the two tapes that keep their entries differ, or one of the three has
-// another count.
-fn put_tapes(out: &mut String, stepped: &Kept, brought: &Kept, asked: &Blank) -> Result<()> {
-    if stepped.entries() != brought.entries() {
-        out.push_str(", the tapes differ")?;
-    }
-    if brought.count() != stepped.count() || asked.count() != stepped.count() {
-        out.push_str(", the counts differ")?;
-    }
-    Ok(())
-}
-
 impl Ends {
     /// Three sessions that are not begun, whose settings are changed by these lines.
     pub fn new(alloc: Global, side: Side, lines: &str) -> Result<Ends> {
@@ -96,13 +84,27 @@ impl Ends {
         put_agreed(out, &stepped, &brought, &asked)
     }
 
-    /// Appends what the sessions show of themselves at the end of a list, and what is wrong with their
-    /// tapes.
-    pub fn end(self, alloc: Global, out: &mut String) -> Result<()> {
+    /// Appends what the sessions show of themselves at the end of a list, and what is wrong where the
+    /// two tapes that keep their entries differ.
+    pub fn put_end(&self, alloc: Global, out: &mut String) -> Result<()> {
         self.put_shown(alloc, out)?;
-        let stepped = self.stepped.into_tape();
-        let brought = self.brought.into_tape();
-        let asked = self.asked.into_tape();
-        put_tapes(out, &stepped, &brought, &asked)
+        if self.stepped.tape().entries() != self.brought.tape().entries() {
+            out.push_str(", the tapes differ")?;
+        }
+        Ok(())
+    }
+
+    /// How many entries the three tapes have, of sessions that are done.
+    pub fn into_counts(self) -> [u64; 3] {
+        let Ends {
+            stepped,
+            brought,
+            asked,
+        } = self;
+        [
+            stepped.into_tape().count(),
+            brought.into_tape().count(),
+            asked.into_tape().count(),
+        ]
     }
 }

@@ -34,7 +34,13 @@ impl Player {
 
     fn end(&mut self, alloc: Global, out: &mut String) -> Result<()> {
         let ends = self.ends.take().context("no list")?;
-        ends.end(alloc, out)
+        let shown = ends.put_end(alloc, out);
+        let [stepped, brought, asked] = ends.into_counts();
+        shown?;
+        if brought != stepped || asked != stepped {
+            out.push_str(", the counts differ")?;
+        }
+        Ok(())
     }
 
     fn answer(&mut self, alloc: Global, row: &str, out: &mut String) -> Result<()> {
