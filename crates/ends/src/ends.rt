@@ -2,22 +2,22 @@
 
 use crate::end::{End, Way};
 use crate::row::Row;
-use anyhow::{Result, bail};
+use anyhow::{Context, Result, bail};
 use cable_script::Script;
 use rs_wire::{Checked, Settings, Side, check};
 use std::alloc::Global;
 use std::fmt::Write;
 use tape::{Blank, Kept, Tape};
 
-/// One end as three sessions, whose answers have to be the same.
+/// One end as three sessions, whose answers have to be the same; none of them between two lists.
 #[derive(Drop)]
 pub struct Ends {
     /// Events come by `step`, and the tape keeps them.
-    stepped: End<Kept>,
+    stepped: Option<End<Kept>>,
     /// They come by `bring`, and the tape keeps them.
-    brought: End<Kept>,
+    brought: Option<End<Kept>>,
     /// Calls come by `ask`, and the tape keeps nothing.
-    asked: End<Blank>,
+    asked: Option<End<Blank>>,
 }
 
 // What an end is set to: the defaults, changed by the setting lines of a script with `, ` between two.
@@ -57,54 +57,86 @@ fn put_agreed(out: &mut String, stepped: &str, brought: &str, asked: &str) -> Re
     Ok(())
 }
 
+// The session of a list that is being played.
+fn playing<T: Tape>(end: &mut Option<End<T>>) -> Result<&mut End<T>> {
+    end.as_mut().context("no list")
+}
+
+// How many entries the tape of a session has that is done, where there is one.
+fn count_at_end<T: Tape + Drop>(end: &mut Option<End<T>>) -> u64 {
+    match end.take() {
+        Some(end) => end.into_tape().count(),
+        None => 0,
+    }
+}
+
 impl Ends {
-    /// Three sessions that are not begun, whose settings are changed by these lines.
-    pub fn new(alloc: Global, side: Side, lines: &str) -> Result<Ends> {
+    /// No list is being played.
+    pub fn new() -> Ends {
+        Ends {
+            stepped: None,
+            brought: None,
+            asked: None,
+        }
+    }
+
+    /// Whether a list began and did not end.
+    pub fn is_in_list(&self) -> bool {
+        self.stepped.is_some() || self.brought.is_some() || self.asked.is_some()
+    }
+
+    // Begins a list by sessions that are not begun. What there was is gone.
+    fn set_up(&mut self, alloc: Global, settings: &Checked) -> Result<()> {
+        self.stepped = Some(End::new(alloc, settings, Kept::new(alloc))?);
+        self.brought = Some(End::new(alloc, settings, Kept::new(alloc))?);
+        self.asked = Some(End::new(alloc, settings, Blank::new())?);
+        Ok(())
+    }
+
+    /// Begins a list by sessions that are not begun, whose settings are changed by these lines.
+    pub fn begin(&mut self, alloc: Global, side: Side, lines: &str) -> Result<()> {
+        if self.is_in_list() {
+            bail!("the list before has no end");
+        }
         let settings = checked(alloc, side, lines)?;
-        Ok(Ends {
-            stepped: End::new(alloc, &settings, Kept::new(alloc))?,
-            brought: End::new(alloc, &settings, Kept::new(alloc))?,
-            asked: End::new(alloc, &settings, Blank::new())?,
-        })
+        self.set_up(alloc, &settings)
     }
 
     /// Appends what is answered to a row.
     pub fn answer(&mut self, alloc: Global, row: &Row, out: &mut String) -> Result<()> {
-        let stepped = self.stepped.answer(alloc, Way::Step, row)?;
-        let brought = self.brought.answer(alloc, Way::Bring, row)?;
-        let asked = self.asked.answer(alloc, Way::Ask, row)?;
+        let stepped = playing(&mut self.stepped)?.answer(alloc, Way::Step, row)?;
+        let brought = playing(&mut self.brought)?.answer(alloc, Way::Bring, row)?;
+        let asked = playing(&mut self.asked)?.answer(alloc, Way::Ask, row)?;
         put_agreed(out, &stepped, &brought, &asked)
     }
 
-    // Appends what the sessions show of themselves.
-    fn put_shown(&self, alloc: Global, out: &mut String) -> Result<()> {
-        let stepped = self.stepped.shown(alloc)?;
-        let brought = self.brought.shown(alloc)?;
-        let asked = self.asked.shown(alloc)?;
-        put_agreed(out, &stepped, &brought, &asked)
-    }
-
-    /// Appends what the sessions show of themselves at the end of a list, and what is wrong where the
-    /// two tapes that keep their entries differ.
-    pub fn put_end(&self, alloc: Global, out: &mut String) -> Result<()> {
-        self.put_shown(alloc, out)?;
-        if self.stepped.tape().entries() != self.brought.tape().entries() {
+    // Appends what the sessions show of themselves, and what is wrong where the two tapes that keep
+    // their entries differ.
+    fn put_end(&mut self, alloc: Global, out: &mut String) -> Result<()> {
+        let stepped = playing(&mut self.stepped)?;
+        let brought = playing(&mut self.brought)?;
+        let asked = playing(&mut self.asked)?;
+        put_agreed(
+            out,
+            &stepped.shown(alloc)?,
+            &brought.shown(alloc)?,
+            &asked.shown(alloc)?,
+        )?;
+        if stepped.tape().entries() != brought.tape().entries() {
             out.push_str(", the tapes differ")?;
         }
         Ok(())
     }
 
-    /// How many entries the three tapes have, of sessions that are done.
-    pub fn into_counts(self) -> [u64; 3] {
-        let Ends {
-            stepped,
-            brought,
-            asked,
-        } = self;
-        [
-            stepped.into_tape().count(),
-            brought.into_tape().count(),
-            asked.into_tape().count(),
-        ]
+    /// Ends a list: appends what the sessions show of themselves, and what is wrong with their tapes.
+    pub fn end(&mut self, alloc: Global, out: &mut String) -> Result<()> {
+        self.put_end(alloc, out)?;
+        let stepped = count_at_end(&mut self.stepped);
+        let brought = count_at_end(&mut self.brought);
+        let asked = count_at_end(&mut self.asked);
+        if brought != stepped || asked != stepped {
+            out.push_str(", the counts differ")?;
+        }
+        Ok(())
     }
 }

@@ -11,8 +11,8 @@ mod calls;
 mod end;
 mod ends;
 mod events;
+mod lists;
 mod play;
-mod player;
 mod row;
 
 use crate::play::play;

@@ -1,6 +1,7 @@
 //! A file of rows is played.
 
-use crate::player::Player;
+use crate::ends::Ends;
+use crate::lists::answer_words;
 use anyhow::Result;
 use std::alloc::Global;
 use std::fmt::Write;
@@ -26,9 +27,9 @@ fn parts(line: &str) -> (&str, Option<&str>) {
 }
 
 // What is answered to a row.
-fn given(alloc: Global, player: &mut Player, row: &str) -> Result<String> {
+fn given(alloc: Global, ends: &mut Ends, row: &str) -> Result<String> {
     let mut out = String::new(alloc);
-    if let Err(error) = player.play(alloc, row, &mut out) {
+    if let Err(error) = answer_words(alloc, ends, row, &mut out) {
         write!(out, "{error}")?;
     }
     Ok(out)
@@ -41,14 +42,14 @@ fn play_row(
     place: (&str, usize),
     line: &str,
     counts: &mut Counts,
-    player: &mut Player,
+    ends: &mut Ends,
 ) -> Result<()> {
     let (row, wanted) = parts(line);
     match wanted {
         Some(_) => counts.rows = counts.rows.saturating_add(1),
         None => counts.lists = counts.lists.saturating_add(1),
     }
-    let given = given(alloc, player, row)?;
+    let given = given(alloc, ends, row)?;
     if given.as_str() == wanted.unwrap_or("") {
         return Ok(());
     }
@@ -68,7 +69,7 @@ fn is_row(line: &str) -> bool {
 /// Plays the rows of a file, shows the first that differ, and says how many lists and rows there are.
 /// Answers whether none differs and the last list ended.
 pub fn play(rt: &impl Print, alloc: Global, file: &str, text: &str) -> Result<bool> {
-    let mut player = Player::new();
+    let mut ends = Ends::new();
     let mut counts = Counts {
         lists: 0,
         rows: 0,
@@ -77,13 +78,13 @@ pub fn play(rt: &impl Print, alloc: Global, file: &str, text: &str) -> Result<bo
     for (index, line) in text.lines().enumerate() {
         if is_row(line) {
             let place = (file, index.saturating_add(1));
-            play_row(rt, alloc, place, line, &mut counts, &mut player)?;
+            play_row(rt, alloc, place, line, &mut counts, &mut ends)?;
         }
     }
     let Counts { lists, rows, wrong } = counts;
     println!(rt; "{file}: {lists} lists, {rows} rows, {wrong} differ")?;
-    if player.is_in_list() {
+    if ends.is_in_list() {
         println!(rt; "{file}: the last list has no end")?;
     }
-    Ok(wrong == 0 && !player.is_in_list())
+    Ok(wrong == 0 && !ends.is_in_list())
 }
