@@ -1,5 +1,7 @@
 //! A list that is played in three ways at once.
 
+ghost use Rattle.std.specs.Prelude.{◌≡◌};
+
 use crate::end::{End, Way};
 use crate::row::Row;
 use anyhow::{Context, Result, bail};
@@ -57,6 +59,19 @@ fn put_agreed(out: &mut String, stepped: &str, brought: &str, asked: &str) -> Re
     Ok(())
 }
 
+// Sets up a session that is not begun, in the place of what there was.
+fn set_up<T: Tape + Drop>(
+    alloc: Global,
+    end: &mut Option<End<T>>,
+    settings: &Checked,
+    tape: T,
+) -> Result<()>
+    requires empty { T.count tape ≡ 0 }
+{
+    *end = Some(End::new(alloc, settings, tape)?);
+    Ok(())
+}
+
 // The session of a list that is being played.
 fn playing<T: Tape>(end: &mut Option<End<T>>) -> Result<&mut End<T>> {
     end.as_mut().context("no list")
@@ -85,21 +100,15 @@ impl Ends {
         self.stepped.is_some() || self.brought.is_some() || self.asked.is_some()
     }
 
-    // Begins a list by sessions that are not begun. What there was is gone.
-    fn set_up(&mut self, alloc: Global, settings: &Checked) -> Result<()> {
-        self.stepped = Some(End::new(alloc, settings, Kept::new(alloc))?);
-        self.brought = Some(End::new(alloc, settings, Kept::new(alloc))?);
-        self.asked = Some(End::new(alloc, settings, Blank::new())?);
-        Ok(())
-    }
-
     /// Begins a list by sessions that are not begun, whose settings are changed by these lines.
     pub fn begin(&mut self, alloc: Global, side: Side, lines: &str) -> Result<()> {
         if self.is_in_list() {
             bail!("the list before has no end");
         }
         let settings = checked(alloc, side, lines)?;
-        self.set_up(alloc, &settings)
+        set_up(alloc, &mut self.stepped, &settings, Kept::new(alloc))?;
+        set_up(alloc, &mut self.brought, &settings, Kept::new(alloc))?;
+        set_up(alloc, &mut self.asked, &settings, Blank::new())
     }
 
     /// Appends what is answered to a row.
