@@ -1,25 +1,7 @@
-//! Lists of events whose answers were worked out by hand from the standard. That a session answers
-//! as the definitions say is proved; these lists show that the definitions say what is meant. They
-//! stand above `session_core`, since a crate with tests is proved once more with them.
+//! What a list of events can't say of `session_core`: the ERROR that a server gives on a connection
+//! that it refuses. Lists of events with their answers are rows of files, which the program `ends`
+//! plays.
 #![tactic(auto)]
 
 #[cfg(test)]
-mod client;
-#[cfg(test)]
-mod ends;
-#[cfg(test)]
-mod fragments;
-#[cfg(test)]
-mod leases;
-#[cfg(test)]
-mod moments;
-#[cfg(test)]
-mod play;
-#[cfg(test)]
-mod resumption;
-#[cfg(test)]
-mod server;
-#[cfg(test)]
-mod step;
-#[cfg(test)]
-mod streams;
+mod refusals;
