@@ -1,7 +1,7 @@
 //! Sessions by rows of text: each list sets an end up, and each of its rows brings an event and says
 //! what it is to answer. `docs/development.md` has the grammar.
 //!
-//! Plays the files of a folder, `data` where no word names another one. Writes a line for each file, and
+//! Plays the files of the folder that a word names, or of the one that it is run in. Writes a line for each file, and
 //! before it the first ten of its rows that differ. The status is 1 where one does.
 #![tactic(auto)]
 
@@ -36,7 +36,7 @@ fn main(rt: HostRuntime) -> Result<ExitCode> {
     let alloc = rt.alloc();
     let mut words = env::args(&rt).context("the words cannot be read")?;
     let folder = words.nth(1);
-    let folder = folder.as_deref().unwrap_or("data");
+    let folder = folder.as_deref().unwrap_or(".");
     let mut right = true;
     for file in FILES {
         let path = format!(in alloc; "{folder}/{file}.rows")?;
