@@ -140,7 +140,7 @@ fn run_for<R: Abort + Wait>(rt: &R, alloc: Global, lulls: u64, turns: u64) {
     let link = link(rt, alloc, &[], After::Lulls, MOST, 0);
     let mut end = End::new(rt, alloc, 1, link, 0);
     compare(rt, end.run(rt, lulls), Turned::Lull);
-    assert!(rt; end.count_entries(rt) == 3 + turns);
+    assert!(rt; end.count_entries(rt) == turns.saturating_add(3));
 }
 
 #[test]
