@@ -24,11 +24,11 @@ fn read_lines<R: Wait>(
     alloc: Global,
     consumer: &mut rtrb::Consumer<Item>,
 ) -> Result<u64, Stop> {
-    let mut lines = 0;
+    let mut lines = 0u64;
     for _ in 0..=LINES {
         let mut line = Vec::new(alloc);
         match read_line(rt, consumer, &mut line)? {
-            Mark::Line if line.as_slice() == b"four".as_slice() => lines += 1,
+            Mark::Line if line.as_slice() == b"four".as_slice() => lines = lines.saturating_add(1),
             _ => return Ok(lines),
         }
     }

@@ -93,7 +93,7 @@ fn what_cannot_move_lulls_and_what_is_over_ends(rt: HostRuntime) -> Result<(), F
     let mut stalled = false;
     for _ in 0..100_000 {
         match near.give(&piece) {
-            Given::Took(count) => given += count as u64,
+            Given::Took(count) => given = given.saturating_add(count as u64),
             Given::Lull => {
                 stalled = true;
                 break;
@@ -109,7 +109,7 @@ fn what_cannot_move_lulls_and_what_is_over_ends(rt: HostRuntime) -> Result<(), F
             break;
         }
         if let Taken::Took(count) = far.take(&mut large) {
-            taken += count as u64;
+            taken = taken.saturating_add(count as u64);
         }
     }
     assert_eq!(rt; taken, given);
