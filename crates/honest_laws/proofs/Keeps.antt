@@ -7,7 +7,7 @@ use Rattle.rs_wire.specs.declared.message.Message.{Message}
 use Rattle.stream_model.specs.Marks.{Opening}
 use Rattle.stream_model.specs.Turns.{Word, Turn, needs_credit}
 use Rattle.stream_model.specs.Streams.{goes_on, one_if}
-use Rattle.stream_model.specs.Kept.{first, stream_of}
+use Rattle.stream_model.specs.Kept.{requested, stream_of}
 use Rattle.stream_model.specs.Known.{is_own_parity}
 use Rattle.stream_model.specs.Arriving.{or_zero, ours, theirs}
 use Rattle.stream_model.proofs.Keeping.{stream_first, stream_more}
@@ -23,7 +23,7 @@ pub record OwnRequest (kind : Kind) (initial : ℕ) (m : Counts) : Type 0 where
   pub ended : m.ended ≤ m.parts
 
 pub own_opens : (side : Side) (s high : ℕ) (M H m : Counts) (kind : Kind) (initial : Option ℕ) (message : Message) (complete : Bool) → Bare s M H high → OwnRequest kind (or_zero initial) m → is_own_parity side s ≡ true
-    → Tally side s (plus M m) (plus H none) (first (ours kind initial message complete)) false
+    → Tally side s (plus M m) (plus H none) (requested (ours kind initial message complete)) false
 own_opens side s high M H m kind initial message complete b a own = record {
   part = sym own;
   own_whole = λ mine. refl;
@@ -43,7 +43,7 @@ pub record PeersRequest (kind : Kind) (initial : ℕ) (parts : Bool) (h : Counts
   pub parts_are : h.parts ≡ one_if parts
 
 pub peer_opens : (side : Side) (s high : ℕ) (M H h : Counts) (kind : Kind) (initial : Option ℕ) (whole : Option (Message × Bool)) → Bare s M H high → high < s → PeersRequest kind (or_zero initial) (not (is_some whole)) h
-    → is_own_parity side s ≡ false → Tally side s (plus M none) (plus H h) (first (theirs kind initial whole)) (not (is_some whole))
+    → is_own_parity side s ≡ false → Tally side s (plus M none) (plus H h) (requested (theirs kind initial whole)) (not (is_some whole))
 peer_opens side s high M H h kind initial whole b fresh a own = record {
   part = sym own;
   own_whole = λ mine. absurd (cc);
@@ -75,7 +75,7 @@ keeps_idle side s M H h high high' (Some t) le zero k = tally_idle side s M H h 
 pub keeps_used : (side : Side) (s : ℕ) (M H h : Counts) (high high' : ℕ) → s ≤ high' → Bare s M H high → Keeps side s M (plus H h) high' None
 keeps_used side s M H h high high' used k = record { given = k.given; ended = k.ended; without = k.without; fresh = λ below. absurd (omega arith) }
 
-pub keeps_first : (side : Side) (s : ℕ) (M H : Counts) (high : ℕ) (o : Opening) → Tally side s M H (first o) (not (is_some o.whole)) → Keeps side s M H high (Some (record { opening = o; words = [] }))
+pub keeps_first : (side : Side) (s : ℕ) (M H : Counts) (high : ℕ) (o : Opening) → Tally side s M H (requested o) (not (is_some o.whole)) → Keeps side s M H high (Some (record { opening = o; words = [] }))
 keeps_first side s M H high o t = subst (λ f. Tally side s M H f (not (is_some o.whole))) (sym (stream_first o)) t
 
 said_more : (side : Side) (s : ℕ) (M H m h : Counts) (u : Turn) (x : Word) → Tally side s M H (stream_of u.opening u.words) (not (is_some u.opening.whole)) → Adds (stream_of u.opening u.words) x (not (is_some u.opening.whole)) m h

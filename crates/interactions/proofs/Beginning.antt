@@ -4,7 +4,7 @@ use Rattle.rs_wire.specs.declared.words.Kind.{Kind}
 use Rattle.rs_wire.specs.declared.words.Role.{Role}
 use Rattle.rs_wire.specs.declared.message.Message.{Message}
 use Rattle.stream_model.specs.Marks.{Opening}
-use Rattle.stream_model.specs.Kept.{first}
+use Rattle.stream_model.specs.Kept.{requested}
 use Rattle.interactions.specs.Next.{completes}
 
 no_whole : (w : Option (Message × Bool)) → completes w ≡ None → w ≡ None
@@ -21,12 +21,12 @@ same_opening role role' kind kind' initial initial' whole whole' r k i w = cc
 
 -- where fragments follow
 pub begun_part : (o : Opening) (role : Role) (kind : Kind) (initial : ℕ) → o.role ≡ role → o.kind ≡ kind → o.initial ≡ initial → completes o.whole ≡ None
-    → first (record { role = role; kind = kind; initial = initial; whole = None }) ≡ first o
-begun_part o role kind initial r k i c = ap first (same_opening role o.role kind o.kind initial o.initial None o.whole r k i (no_whole o.whole c))
+    → requested (record { role = role; kind = kind; initial = initial; whole = None }) ≡ requested o
+begun_part o role kind initial r k i c = ap requested (same_opening role o.role kind o.kind initial o.initial None o.whole r k i (no_whole o.whole c))
 
 -- where the message is whole
 pub begun_whole : (o : Opening) (role : Role) (kind : Kind) (initial : ℕ) (complete : Bool) → o.role ≡ role → o.kind ≡ kind → o.initial ≡ initial → completes o.whole ≡ Some complete
-    → (m : Message) × (first (record { role = role; kind = kind; initial = initial; whole = Some (m, complete) }) ≡ first o)
+    → (m : Message) × (requested (record { role = role; kind = kind; initial = initial; whole = Some (m, complete) }) ≡ requested o)
 begun_whole o role kind initial complete r k i c =
     let w = some_whole o.whole complete c in
-    (w.0, ap first (same_opening role o.role kind o.kind initial o.initial (Some (w.0, complete)) o.whole r k i w.1))
+    (w.0, ap requested (same_opening role o.role kind o.kind initial o.initial (Some (w.0, complete)) o.whole r k i w.1))

@@ -11,7 +11,7 @@ use Rattle.stream_model.specs.declared.stream.Stream.{Stream}
 use Rattle.stream_model.specs.Marks.{Mark, Opening, Step, Opens, Passed, Sent, Got, Pushed, Took, TookJob}
 use Rattle.stream_model.specs.Turns.{Said, delivered_first, ends, brings, inbound, is_role, other}
 use Rattle.stream_model.specs.Streams.{turn, live, on, one_if, highest, higher, has_room, is_admitted, is_live, jobs_in, jobs_waiting, jobs, jobs_taken, count_to, brings_job, opening_job}
-use Rattle.stream_model.specs.Kept.{after, first, kept, unless_done}
+use Rattle.stream_model.specs.Kept.{after, requested, kept, unless_done}
 use Rattle.stream_model.specs.Known.{Known, known, over_at, waiting_of}
 use Rattle.stream_model.specs.Fair.{Fair}
 use Rattle.stream_model.proofs.Ids.{fresh, highest_said, highest_opens, highest_passed, others_stay, same_id, turn_job, turn_passed, turn_pushed, is_opening}
@@ -162,11 +162,11 @@ no_jobs admitted false js e = refl
 -- one that is admitted
 pub begun_known : (most : ℕ) (seen : List Mark) (s : ℕ) (o : Opening) (new : Known)
     → Fair most seen → highest (s % 2) seen < s → is_admitted (has_room most seen) o ≡ true
-    → Begins (known most seen) new s (unless_done (first o)) ((known most seen).waits s ++ delivered_first o) (opened_jobs s o) → new ≡ known most (Opens s o ∷ seen)
+    → Begins (known most seen) new s (unless_done (requested o)) ((known most seen).waits s ++ delivered_first o) (opened_jobs s o) → new ≡ known most (Opens s o ∷ seen)
 unfolding known
 begun_known most seen s o new h above ok begins =
     opens_known most seen s o new _ _ _ h above
-    (sym (kept_opened most seen s o above ∙ ap (λ b. cond b (unless_done (first o)) None) ok))
+    (sym (kept_opened most seen s o above ∙ ap (λ b. cond b (unless_done (requested o)) None) ok))
     (ap (λ t. waiting_of t ++ delivered_first o) (fresh most seen s above) ∙ sym (waits_opened most seen s o above ∙ ap (λ b. cond b (delivered_first o) []) ok))
     (jobs_opened _ (is_role o.role Responder) (opening_job s o o.whole) ok) begins
 
@@ -178,7 +178,7 @@ unfolding known
 passed_known most seen s o new h above refused is =
     let none : kept (turn most seen s) ≡ None = ap kept (fresh most seen s above) in
     opens_known most seen s o new None (waiting_of (turn most seen s)) [] h above
-    (sym (kept_opened most seen s o above ∙ ap (λ b. cond b (unless_done (first o)) None) refused))
+    (sym (kept_opened most seen s o above ∙ ap (λ b. cond b (unless_done (requested o)) None) refused))
     (ap waiting_of (fresh most seen s above) ∙ sym (waits_opened most seen s o above ∙ ap (λ b. cond b (delivered_first o) []) refused))
     (no_jobs _ (is_role o.role Responder) (opening_job s o o.whole) refused) (record {
       kept = λ q. ap (λ (t : Known). t.kept q) is ∙ (same s q (Option Stream) (λ q. kept (turn most seen q)) ∙ ap (λ k. cond (nat_eq s q) k (kept (turn most seen q))) none);

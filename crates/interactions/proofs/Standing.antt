@@ -15,7 +15,7 @@ use Rattle.stream_model.specs.declared.stream.Stream.{Stream}
 use Rattle.stream_model.specs.Marks.{Mark, Opening, Step, Opens, Passed, Sent, Got, Pushed}
 use Rattle.stream_model.specs.Turns.{Said, carries, delivered_first, ends, brings, inbound, is_fnf, is_role, item_deliveries, other}
 use Rattle.stream_model.specs.Streams.{higher, highest, is_admitted, live}
-use Rattle.stream_model.specs.Kept.{after, first, is_done, kept, unless_done}
+use Rattle.stream_model.specs.Kept.{after, requested, is_done, kept, unless_done}
 use Rattle.stream_model.specs.Known.{Known, known, highest_at, over_at}
 use Rattle.stream_model.specs.Fair.{Fair, FindsPlace, Fits}
 use Rattle.stream_model.specs.Arriving.{or_zero, ours, theirs}
@@ -122,7 +122,7 @@ live_stands p seen h = subst (λ n. n ≤ most_of p) (sym (live_is p seen h)) (l
 -- one that is admitted
 pub begun_stands : (old new : Parts) (seen : List Mark) (s : ℕ) (o : Opening) → new.table.limits ≡ old.table.limits → highest_in old.table s < s → is_admitted (ltb (length old.table.kept) (most_of old)) o ≡ true
     → o.initial < 2 ^ 31 → FindsPlace (most_of old) seen o o.role
-    → Begins (known_of old) (known_of new) s (unless_done (first o)) (waits_at old.waits s ++ delivered_first o) (opened_jobs s o)
+    → Begins (known_of old) (known_of new) s (unless_done (requested o)) (waits_at old.waits s ++ delivered_first o) (opened_jobs s o)
     → Stands old seen → Stands new (Opens s o ∷ seen)
 unfolding known
 begun_stands old new seen s o l above ok n place begins h =
@@ -130,15 +130,15 @@ begun_stands old new seen s o l above ok n place begins h =
     let fresh' = peer_fresh most seen s (subst (λ (t : Known). highest_at t s < s) h.known above) in
     let ok' = subst (λ (t : Known). is_admitted (ltb t.live most) o ≡ true) h.known ok in
     next_stands old new seen (Opens s o) l h (record { fresh = fresh'; initial = n; place = place }) (begun_known most seen s o (known_of new) h.fair fresh' ok'
-    (subst (λ (t : Known). Begins t (known_of new) s (unless_done (first o)) (t.waits s ++ delivered_first o) (opened_jobs s o)) h.known begins))
+    (subst (λ (t : Known). Begins t (known_of new) s (unless_done (requested o)) (t.waits s ++ delivered_first o) (opened_jobs s o)) h.known begins))
 
 -- one of this end's
 pub requested_stands : (old new : Parts) (seen : List Mark) (s : ℕ) (kind : Kind) (initial : Option ℕ) (m : Message) (complete : Bool) (f : Stream) → new.table.limits ≡ old.table.limits → highest_in old.table s < s
-    → or_zero initial < 2 ^ 31 → (is_fnf kind ≡ false → length old.table.kept < most_of old) → f ≡ first (ours kind initial m complete)
+    → or_zero initial < 2 ^ 31 → (is_fnf kind ≡ false → length old.table.kept < most_of old) → f ≡ requested (ours kind initial m complete)
     → Begins (known_of old) (known_of new) s (unless_done f) (waits_at old.waits s) [] → Stands old seen → Stands new (Opens s (ours kind initial m complete) ∷ seen)
 requested_stands old new seen s kind initial m complete f l above n room is begins h =
     begun_stands old new seen s (ours kind initial m complete) l above refl n (refl, λ fnf. subst (λ n. n < most_of old) (live_is old seen h) (room fnf))
-    (subst (λ ds. Begins (known_of old) (known_of new) s (unless_done (first (ours kind initial m complete))) ds []) (sym (append-nil (waits_at old.waits s)))
+    (subst (λ ds. Begins (known_of old) (known_of new) s (unless_done (requested (ours kind initial m complete))) ds []) (sym (append-nil (waits_at old.waits s)))
     (subst (λ f. Begins (known_of old) (known_of new) s (unless_done f) (waits_at old.waits s) []) is begins)) h
 
 -- one of the peer's that is not admitted
@@ -172,13 +172,13 @@ pushed_stands old new seen metadata l is h =
     (subst (λ (t : Known). known_of new ≡ record t { jobs = t.jobs ++ job.Pushed metadata ∷ [] }) h.known is ∙ pushed_known most seen metadata h.fair)
 
 -- a request whose message is whole is over at once where it is a fire-and-forget
-pub done_first : (role : Role) (kind : Kind) (initial : ℕ) (m : Message × Bool) → is_done (first (record { role = role; kind = kind; initial = initial; whole = Some m })) ≡ is_fnf kind
+pub done_first : (role : Role) (kind : Kind) (initial : ℕ) (m : Message × Bool) → is_done (requested (record { role = role; kind = kind; initial = initial; whole = Some m })) ≡ is_fnf kind
 done_first role Fnf initial m = refl
 done_first role Response initial m = refl
 done_first role Streamed initial m = refl
 done_first role Channel initial m = elim m.1 as (λ v. ((v && true) && (v && false)) ≡ false) [ true ↦ refl | false ↦ refl ]
 
-pub not_fnf : (role : Role) (kind : Kind) (initial : ℕ) (m : Message × Bool) (f : Stream) → f ≡ first (record { role = role; kind = kind; initial = initial; whole = Some m }) → is_done f ≡ false → is_fnf kind ≡ false
+pub not_fnf : (role : Role) (kind : Kind) (initial : ℕ) (m : Message × Bool) (f : Stream) → f ≡ requested (record { role = role; kind = kind; initial = initial; whole = Some m }) → is_done f ≡ false → is_fnf kind ≡ false
 not_fnf role kind initial m f is d = sym (done_first role kind initial m) ∙ (ap is_done (sym is) ∙ d)
 
 pub no_first : (kind : Kind) (initial : Option ℕ) → [] ≡ delivered_first (theirs kind initial None)

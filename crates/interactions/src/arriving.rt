@@ -5,7 +5,7 @@ ghost use Rattle.rs_wire.specs.declared.message.Message.{Message as Content};
 ghost use Rattle.rs_wire.specs.declared.words.Role.TheVariants.{Responder};
 ghost use Rattle.stream_model.specs.Marks.{Mark, Opens, Passed, Got, Pushed, Payload, RequestN, Cancel as Cancels, Fail as Fails};
 ghost use Rattle.stream_model.specs.Turns.{carries, delivered_first, inbound, is_fnf, is_role, other};
-ghost use Rattle.stream_model.specs.Kept.{first as first_of, is_done, unless_done, FitsCredit};
+ghost use Rattle.stream_model.specs.Kept.{requested as first_of, is_done, unless_done, FitsCredit};
 ghost use Rattle.stream_model.specs.Known.{is_peers_next, over_at};
 ghost use Rattle.stream_model.specs.Streams.{if_amount};
 ghost use Rattle.stream_model.specs.Arriving.{CanArrive, MayGrant, asked_effect, effect_by, heard, message_effect, or_zero, passed_effect, step_effect, stream_in, theirs};

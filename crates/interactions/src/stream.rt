@@ -4,7 +4,7 @@ ghost use Rattle.std.specs.Prelude.{◌≡◌, ◌<◌, ◌≤◌, ◌^◌, ℕ,
 ghost use Rattle.std.specs.Prelude.{◌&&◌, ◌||◌, not, if◌then◌else◌};
 ghost use Rattle.rs_wire.specs.declared.message.Message.{Message as Content};
 ghost use Rattle.stream_model.specs.Arriving.{or_zero, over_credit, MayGrant};
-ghost use Rattle.stream_model.specs.Kept.{after, credit_after, first, is_done, FitsCredit};
+ghost use Rattle.stream_model.specs.Kept.{after, credit_after, requested, is_done, FitsCredit};
 ghost use Rattle.stream_model.specs.Marks.{Cancel as Cancels, Fail as Fails, Opening, Payload};
 ghost use Rattle.stream_model.specs.Marks.{RequestN};
 ghost use Rattle.stream_model.specs.Known.{credit_at, over_at};
@@ -188,7 +188,7 @@ fn first_credit(kind: Kind, initial: u32) -> Credit
 // A stream after its request, whose message is whole with it.
 fn first_whole(role: Role, kind: Kind, initial: u32, complete: bool) -> Stream
     requires { initial < 2 ^ 31 }
-    ensures first { (message : Content) → result ≡ first (record {
+    ensures first { (message : Content) → result ≡ requested (record {
       role = role;
       kind = kind;
       initial = initial;
@@ -211,7 +211,7 @@ fn first_whole(role: Role, kind: Kind, initial: u32, complete: bool) -> Stream
 // A stream after its request, whose fragments follow.
 fn first_part(role: Role, kind: Kind, initial: u32) -> Stream
     requires { initial < 2 ^ 31 }
-    ensures first { result ≡ first (record {
+    ensures first { result ≡ requested (record {
       role = role;
       kind = kind;
       initial = initial;
@@ -236,7 +236,7 @@ fn first_part(role: Role, kind: Kind, initial: u32) -> Stream
 pub fn begun(role: Role, kind: Kind, initial: u32, whole: Option<bool>) -> Stream
     requires { initial < 2 ^ 31 }
     ensures first { (o : Opening) → o.role ≡ role → o.kind ≡ kind → o.initial ≡ initial →
-        completes o.whole ≡ whole → result ≡ first o }
+        completes o.whole ≡ whole → result ≡ requested o }
     ensures fits { FitsCredit result }
 {
     match whole {

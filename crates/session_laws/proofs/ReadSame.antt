@@ -11,11 +11,11 @@ use Rattle.stream_model.specs.Turns.{Taken, Turn, is_role}
 use Rattle.stream_model.specs.Streams.{brings_job, count_to, highest, higher, is_admitted, is_live, jobs, late_job, live, on, opening_job, top, turn}
 use Rattle.stream_model.proofs.Ids.{highest_opens, highest_passed, highest_said, others_stay, same_id, still_none, turn_got, turn_job, turn_opened, turn_passed, turn_pushed, turn_sent, turn_took}
 use Rattle.session_laws.specs.Jobs.{requests}
-use Rattle.session_laws.specs.Read.{framed, framed_step, framed_words}
+use Rattle.session_laws.specs.Read.{turn_read, framed_step, framed_words}
 use Rattle.session_laws.proofs.ReadWords.{framed_own, framed_peers, framed_taken, same_live, same_over, same_whole}
 
 pub record Same (most : ℕ) (W R : List Mark) : Type 0 where
-  pub turns : (s : ℕ) → turn most R s ≡ framed (turn most W s)
+  pub turns : (s : ℕ) → turn most R s ≡ turn_read (turn most W s)
   pub ids : (parity : ℕ) → highest parity R ≡ highest parity W
   pub asked : requests (jobs most R) ≡ requests (jobs most W)
 
@@ -45,7 +45,7 @@ asked_none : (most : ℕ) (W : List Mark) (m : Mark) → requests (brings_job mo
 unfolding jobs
 asked_none most W m none = requests_both (jobs most W) (brings_job most W m) ∙ (ap (λ (l : List Job). requests (jobs most W) ++ l) none ∙ append-nil (requests (jobs most W)))
 
-late_same : (s : ℕ) (step : Step) (t : Option Turn) → late_job s step (framed t) ≡ late_job s step t
+late_same : (s : ℕ) (step : Step) (t : Option Turn) → late_job s step (turn_read t) ≡ late_job s step t
 late_same s (Payload message complete next) None = refl
 late_same s (Payload message complete next) (Some t) = rw (same_whole t.opening t.words, same_over t.opening t.words way.Request) refl
 late_same s (RequestN n) t = refl
@@ -55,12 +55,12 @@ late_same s (Fail code content) t = refl
 -- ---- one mark more
 
 -- one mark more on a stream, in each: where it tells the same on that stream, it does on all
-turns_more : (most : ℕ) (W R : List Mark) (m n : Mark) (s q : ℕ) (same : Bool) → (s == q) ≡ same → Same most W R → on s m ≡ true → on s n ≡ true → turn most (n ∷ R) s ≡ framed (turn most (m ∷ W) s)
-    → turn most (n ∷ R) q ≡ framed (turn most (m ∷ W) q)
-turns_more most W R m n s q true is h here there now = subst (λ (i : ℕ). turn most (n ∷ R) i ≡ framed (turn most (m ∷ W) i)) (eqb-true s q is) now
-turns_more most W R m n s q false is h here there now = others_stay most R n s q there is ∙ (h.turns q ∙ sym (ap framed (others_stay most W m s q here is)))
+turns_more : (most : ℕ) (W R : List Mark) (m n : Mark) (s q : ℕ) (same : Bool) → (s == q) ≡ same → Same most W R → on s m ≡ true → on s n ≡ true → turn most (n ∷ R) s ≡ turn_read (turn most (m ∷ W) s)
+    → turn most (n ∷ R) q ≡ turn_read (turn most (m ∷ W) q)
+turns_more most W R m n s q true is h here there now = subst (λ (i : ℕ). turn most (n ∷ R) i ≡ turn_read (turn most (m ∷ W) i)) (eqb-true s q is) now
+turns_more most W R m n s q false is h here there now = others_stay most R n s q there is ∙ (h.turns q ∙ sym (ap turn_read (others_stay most W m s q here is)))
 
-opened_framed : (b : Bool) (o : Opening) → cond b (Some (record { opening = o; words = [] })) None ≡ framed (cond b (Some (record { opening = o; words = [] })) None)
+opened_framed : (b : Bool) (o : Opening) → cond b (Some (record { opening = o; words = [] })) None ≡ turn_read (cond b (Some (record { opening = o; words = [] })) None)
 unfolding framed_words
 opened_framed true o = refl
 opened_framed false o = refl
@@ -69,7 +69,7 @@ pub same_opens : (most : ℕ) (W R : List Mark) (s : ℕ) (o : Opening) → high
 same_opens most W R s o below h =
     let there = subst (λ (n : ℕ). n < s) (sym (h.ids (s % 2))) below in
     let room = ap (λ (n : ℕ). is_admitted (ltb n most) o) (room_same most W R h) in
-    let now : turn most (Opens s o ∷ R) s ≡ framed (turn most (Opens s o ∷ W) s) =
+    let now : turn most (Opens s o ∷ R) s ≡ turn_read (turn most (Opens s o ∷ W) s) =
     rw (turn_opened most R s o there, turn_opened most W s o below, room) (opened_framed (is_admitted (ltb (live most W) most) o) o) in
     record {
       turns = λ q. turns_more most W R (Opens s o) (Opens s o) s q (s == q) refl h (same_id s) (same_id s) now;
@@ -79,7 +79,7 @@ same_opens most W R s o below h =
 
 pub same_sent : (most : ℕ) (W R : List Mark) (s : ℕ) (step step' : Step) → ((u : Turn) → turn most W s ≡ Some u → step' ≡ framed_step u.opening u.opening.role step) → Same most W R → Same most (Sent s step ∷ W) (Sent s step' ∷ R)
 same_sent most W R s step step' steps h =
-    let now : turn most (Sent s step' ∷ R) s ≡ framed (turn most (Sent s step ∷ W) s) =
+    let now : turn most (Sent s step' ∷ R) s ≡ turn_read (turn most (Sent s step ∷ W) s) =
     rw (turn_sent most R s step', turn_sent most W s step, h.turns s) (framed_own (turn most W s) step step' steps) in
     record {
       turns = λ q. turns_more most W R (Sent s step) (Sent s step') s q (s == q) refl h (same_id s) (same_id s) now;
@@ -89,7 +89,7 @@ same_sent most W R s step step' steps h =
 
 pub same_got : (most : ℕ) (W R : List Mark) (s : ℕ) (step : Step) → Same most W R → Same most (Got s step ∷ W) (Got s step ∷ R)
 same_got most W R s step h =
-    let now : turn most (Got s step ∷ R) s ≡ framed (turn most (Got s step ∷ W) s) =
+    let now : turn most (Got s step ∷ R) s ≡ turn_read (turn most (Got s step ∷ W) s) =
     rw (turn_got most R s step, turn_got most W s step, h.turns s) (framed_peers (turn most W s) step) in
     record {
       turns = λ q. turns_more most W R (Got s step) (Got s step) s q (s == q) refl h (same_id s) (same_id s) now;
@@ -98,12 +98,12 @@ same_got most W R s step h =
     }
 
 -- what a caller takes stands in no frame
-took_turns : (most : ℕ) (W : List Mark) (s q : ℕ) (d : Delivery) (same : Bool) → (s == q) ≡ same → framed (turn most W q) ≡ framed (turn most (Took s d ∷ W) q)
+took_turns : (most : ℕ) (W : List Mark) (s q : ℕ) (d : Delivery) (same : Bool) → (s == q) ≡ same → turn_read (turn most W q) ≡ turn_read (turn most (Took s d ∷ W) q)
 unfolding framed_words
 took_turns most W s q d true is =
-    subst (λ (i : ℕ). framed (turn most W i) ≡ framed (turn most (Took s d ∷ W) i)) (eqb-true s q is)
-    (framed_taken (turn most W s) (λ role. Taken d) (λ role o xs. refl) ∙ sym (ap framed (turn_took most W s d)))
-took_turns most W s q d false is = sym (ap framed (others_stay most W (Took s d) s q (same_id s) is))
+    subst (λ (i : ℕ). turn_read (turn most W i) ≡ turn_read (turn most (Took s d ∷ W) i)) (eqb-true s q is)
+    (framed_taken (turn most W s) (λ role. Taken d) (λ role o xs. refl) ∙ sym (ap turn_read (turn_took most W s d)))
+took_turns most W s q d false is = sym (ap turn_read (others_stay most W (Took s d) s q (same_id s) is))
 
 pub same_took : (most : ℕ) (W R : List Mark) (s : ℕ) (d : Delivery) → Same most W R → Same most (Took s d ∷ W) R
 same_took most W R s d h = record {
@@ -114,7 +114,7 @@ same_took most W R s d h = record {
 
 pub same_job : (most : ℕ) (W R : List Mark) → Same most W R → Same most (TookJob ∷ W) R
 same_job most W R h = record {
-  turns = λ q. h.turns q ∙ sym (ap framed (turn_job most W q));
+  turns = λ q. h.turns q ∙ sym (ap turn_read (turn_job most W q));
   ids = λ p. h.ids p ∙ sym (highest_said p W TookJob refl);
   asked = h.asked ∙ sym (asked_none most W TookJob refl);
 }
@@ -122,7 +122,7 @@ same_job most W R h = record {
 -- metadata that is pushed stands in no frame that counts
 pub same_pushed : (most : ℕ) (W R : List Mark) (metadata : List ℕ) → Same most W R → Same most (Pushed metadata ∷ W) R
 same_pushed most W R metadata h = record {
-  turns = λ q. h.turns q ∙ sym (ap framed (turn_pushed most W metadata q));
+  turns = λ q. h.turns q ∙ sym (ap turn_read (turn_pushed most W metadata q));
   ids = λ p. h.ids p ∙ sym (highest_said p W (Pushed metadata) refl);
   asked = h.asked ∙ sym (asked_none most W (Pushed metadata) refl);
 }
@@ -139,7 +139,7 @@ same_came most W R metadata h =
 -- a request that is passed over
 pub same_passed : (most : ℕ) (W R : List Mark) (s : ℕ) → Same most W R → Same most (Passed s ∷ W) (Passed s ∷ R)
 same_passed most W R s h = record {
-  turns = λ q. turn_passed most R s q ∙ (h.turns q ∙ sym (ap framed (turn_passed most W s q)));
+  turns = λ q. turn_passed most R s q ∙ (h.turns q ∙ sym (ap turn_read (turn_passed most W s q)));
   ids = λ p. highest_passed p R s ∙ (ap (higher p s) (h.ids p) ∙ sym (highest_passed p W s));
   asked = asked_more most W R (Passed s) (Passed s) h refl;
 }
@@ -153,7 +153,7 @@ stray_turns most R s q step false is none = others_stay most R (Sent s step) s q
 
 pub same_stray : (most : ℕ) (W R : List Mark) (s : ℕ) (step : Step) → turn most W s ≡ None → Same most W R → Same most W (Sent s step ∷ R)
 same_stray most W R s step none h = record {
-  turns = λ q. stray_turns most R s q step (s == q) refl (h.turns s ∙ ap framed none) ∙ h.turns q;
+  turns = λ q. stray_turns most R s q step (s == q) refl (h.turns s ∙ ap turn_read none) ∙ h.turns q;
   ids = λ p. highest_said p R (Sent s step) refl ∙ h.ids p;
   asked = asked_none most R (Sent s step) refl ∙ h.asked;
 }

@@ -42,7 +42,7 @@ use Rattle.session_model.proofs.Meaning.{last_means}
 use Rattle.session_model.proofs.Refusals.{names, unrefused}
 use Rattle.session_laws.specs.Jobs.{requests}
 use Rattle.session_laws.specs.Streams.{IsLawful, stream}
-use Rattle.session_laws.specs.Read.{Reading, framed, framed_step, more_read, nothing_read, own_in, read, reading, reads}
+use Rattle.session_laws.specs.Read.{Reading, turn_read, framed_step, more_read, nothing_read, own_in, read, reading, reads}
 use Rattle.session_laws.proofs.ReadFragments.{IsMasked, Says, frame_says}
 use Rattle.session_laws.proofs.ReadSame.{Same, room_same, same_came, same_got, same_job, same_opens, same_passed, same_pushed, same_sent, same_stray, same_took}
 use Rattle.session_laws.proofs.ReadWords.{same_hears}
@@ -283,7 +283,7 @@ frames_read g (x ∷ past) h =
 
 -- ---- the law
 
-pub read_streams : (g : Settings) (past : List Entry) (s : ℕ) → IsLawful g past → turn g.max_streams (read g.max_streams (seen g past)) s ≡ framed (stream g past s)
+pub read_streams : (g : Settings) (past : List Entry) (s : ℕ) → IsLawful g past → turn g.max_streams (read g.max_streams (seen g past)) s ≡ turn_read (stream g past s)
 read_streams g past s h = (frames_read g past h).told.turns s
 
 pub read_live : (g : Settings) (past : List Entry) → IsLawful g past → live g.max_streams (read g.max_streams (seen g past)) ≡ live g.max_streams (words g past)

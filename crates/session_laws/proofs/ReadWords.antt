@@ -10,7 +10,7 @@ use Rattle.stream_model.specs.Streams.{is_live, goes_on}
 use Rattle.stream_model.specs.declared.stream.Stream.{Stream}
 use Rattle.stream_model.specs.Kept.{kept, stream_of}
 use Rattle.stream_model.specs.Known.{hears, hears_on}
-use Rattle.session_laws.specs.Read.{framed, framed_step, framed_words}
+use Rattle.session_laws.specs.Read.{turn_read, framed_step, framed_words}
 
 pub same_ends : (o : Opening) (by : Role) (step : Step) (w : Way) → ends o.kind w (Said by (framed_step o by step)) ≡ ends o.kind w (Said by step)
 same_ends o by step w = grind (arith, common_steps)
@@ -61,7 +61,7 @@ same_granted o [] w = refl
 same_granted o (Said by step ∷ xs) w = rw (same_granted o xs w, same_grant o by step w) refl
 same_granted o (Taken d ∷ xs) w = let before = same_granted o xs w in omega (arith, before)
 
-pub same_live : (t : Option Turn) → is_live (framed t) ≡ is_live t
+pub same_live : (t : Option Turn) → is_live (turn_read t) ≡ is_live t
 same_live None = refl
 same_live (Some t) = rw (same_over t.opening t.words way.Request, same_over t.opening t.words way.Reply) refl
 
@@ -73,7 +73,7 @@ unless_over : (over : Bool) (f f' : Stream) → hears f ≡ hears f' → hears_o
 unless_over true f f' same = refl
 unless_over false f f' same = same
 
-pub same_hears : (t : Option Turn) → hears_on (kept (framed t)) ≡ hears_on (kept t)
+pub same_hears : (t : Option Turn) → hears_on (kept (turn_read t)) ≡ hears_on (kept t)
 same_hears None = refl
 same_hears (Some t) =
     rw (same_over t.opening t.words way.Request, same_over t.opening t.words way.Reply)
@@ -82,7 +82,7 @@ same_hears (Some t) =
 -- ---- one word more
 
 -- an own step
-pub framed_own : (t : Option Turn) (step step' : Step) → ((u : Turn) → t ≡ Some u → step' ≡ framed_step u.opening u.opening.role step) → goes_on (framed t) (λ role. Said role step') ≡ framed (goes_on t (λ role. Said role step))
+pub framed_own : (t : Option Turn) (step step' : Step) → ((u : Turn) → t ≡ Some u → step' ≡ framed_step u.opening u.opening.role step) → goes_on (turn_read t) (λ role. Said role step') ≡ turn_read (goes_on t (λ role. Said role step))
 unfolding framed_words
 framed_own None step step' same = refl
 framed_own (Some t) step step' same = rw (same t refl) refl
@@ -91,11 +91,11 @@ peers_step : (o : Opening) (step : Step) → framed_step o (other o.role) step �
 peers_step o step = grind (arith, common_steps)
 
 -- a step of the peer's
-pub framed_peers : (t : Option Turn) (step : Step) → goes_on (framed t) (λ role. Said (other role) step) ≡ framed (goes_on t (λ role. Said (other role) step))
+pub framed_peers : (t : Option Turn) (step : Step) → goes_on (turn_read t) (λ role. Said (other role) step) ≡ turn_read (goes_on t (λ role. Said (other role) step))
 unfolding framed_words
 framed_peers None step = refl
 framed_peers (Some t) step = rw (peers_step t.opening step) refl
 
-pub framed_taken : (t : Option Turn) (word : Role → Word) → ((role : Role) (o : Opening) (xs : List Word) → framed_words o (word role ∷ xs) ≡ framed_words o xs) → framed t ≡ framed (goes_on t word)
+pub framed_taken : (t : Option Turn) (word : Role → Word) → ((role : Role) (o : Opening) (xs : List Word) → framed_words o (word role ∷ xs) ≡ framed_words o xs) → turn_read t ≡ turn_read (goes_on t word)
 framed_taken None word same = refl
 framed_taken (Some t) word same = rw (same t.opening.role t.opening t.words) refl

@@ -79,6 +79,6 @@ framed_words o [] = []
 framed_words o (Said by step ∷ xs) = Said by (framed_step o by step) ∷ framed_words o xs
 framed_words o (Taken d ∷ xs) = framed_words o xs
 
-abbrev pub framed : Option Turn → Option Turn
-framed None = None
-framed (Some t) = Some (record { opening = t.opening; words = framed_words t.opening t.words })
+abbrev pub turn_read : Option Turn → Option Turn
+turn_read None = None
+turn_read (Some t) = Some (record { opening = t.opening; words = framed_words t.opening t.words })

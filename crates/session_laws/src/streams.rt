@@ -18,7 +18,7 @@ ghost use Rattle.session_model.specs.Frames.{seen};
 ghost use Rattle.session_model.specs.Lists.{IsPrefix};
 ghost use Rattle.session_model.specs.Streams.{words};
 ghost use Rattle.session_laws.specs.Jobs.{jobs_got, jobs_on, requests};
-ghost use Rattle.session_laws.specs.Read.{framed, framed_words, read};
+ghost use Rattle.session_laws.specs.Read.{turn_read, framed_words, read};
 ghost use Rattle.session_laws.specs.Streams.{EndsReceiving, IsLawful, IsStream, stream};
 
 /// What came before any entry of a lawful list is lawful.
@@ -37,7 +37,7 @@ pub fn what_came_before_is_lawful()
 /// how many streams are open, the highest ids, and the requests that the peer made.
 pub fn streams_are_what_frames_say()
     ensures streams { (g : Settings) (past : List Entry) (s : ℕ) → IsLawful g past →
-        turn g.max_streams (read g.max_streams (seen g past)) s ≡ framed (stream g past s) }
+        turn g.max_streams (read g.max_streams (seen g past)) s ≡ turn_read (stream g past s) }
     ensures over { (t : Turn) (w : Way) →
         over t.opening (framed_words t.opening t.words) w ≡ over t.opening t.words w }
     ensures items { (t : Turn) (w : Way) →

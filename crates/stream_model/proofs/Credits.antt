@@ -9,7 +9,7 @@ use Rattle.stream_model.specs.declared.stream.Stream.{Stream as Kept}
 use Rattle.stream_model.specs.Marks.{Opening, Step, Payload, RequestN, Cancel, Fail, Mark}
 use Rattle.stream_model.specs.Turns.{Word, Said, carries, needs_credit, may_grant, used, granted}
 use Rattle.stream_model.specs.Streams.{turn, one_if}
-use Rattle.stream_model.specs.Kept.{stream_of, credit_of, kept, first, after, FitsCredit}
+use Rattle.stream_model.specs.Kept.{stream_of, credit_of, kept, requested, after, FitsCredit}
 use Rattle.stream_model.specs.Arriving.{MayGrant}
 use Rattle.stream_model.specs.Fair.{Fair, FairWords}
 use Rattle.stream_model.proofs.Words.{used_within}
@@ -123,5 +123,5 @@ first_granted true n lt = omega arith
 first_granted false n lt = omega arith
 
 -- and after the request
-pub first_fits : (o : Opening) → o.initial < 2 ^ 31 → FitsCredit (first o)
+pub first_fits : (o : Opening) → o.initial < 2 ^ 31 → FitsCredit (requested o)
 first_fits o lt = record { request_granted = omega arith; request_used = omega arith; reply_granted = first_granted (needs_credit o.kind) o.initial lt; reply_used = omega arith }

@@ -12,7 +12,7 @@ use Rattle.stream_model.specs.declared.stream.Stream.{Stream}
 use Rattle.stream_model.specs.Marks.{Opening, Step, Payload, Mark, Opens, Sent, Got, Took}
 use Rattle.stream_model.specs.Turns.{Turn, Word, Said, Taken, carries, needs_credit, over, is_over, ends, is_whole, item_next, items, used, granted, other}
 use Rattle.stream_model.specs.Streams.{turn, highest, goes_on, is_admitted, is_live, has_room, one_if}
-use Rattle.stream_model.specs.Kept.{stream_of, credit_of, credit_after, kept, first, after, kept_after, items_in, unless_done}
+use Rattle.stream_model.specs.Kept.{stream_of, credit_of, credit_after, kept, requested, after, kept_after, items_in, unless_done}
 use Rattle.stream_model.proofs.Ids.{turn_opened, turn_sent, turn_got, turn_took}
 
 -- ---- one stream
@@ -63,7 +63,7 @@ no_credit : (needs : Bool) → ◌≡◌ {A = Credit} (cond needs (record { gran
 no_credit true = refl
 no_credit false = refl
 
-pub stream_first : (o : Opening) → stream_of o [] ≡ first o
+pub stream_first : (o : Opening) → stream_of o [] ≡ requested o
 unfolding stream_of over is_whole granted used items
 stream_first o = rw (no_credit (needs_credit o.kind), first_credit (needs_credit o.kind) o.initial) refl
 
@@ -82,7 +82,7 @@ kept_said o xs x =
     ] refl
 
 -- and after the request
-pub kept_first : (o : Opening) → kept (Some (record { opening = o; words = [] })) ≡ unless_done (first o)
+pub kept_first : (o : Opening) → kept (Some (record { opening = o; words = [] })) ≡ unless_done (requested o)
 unfolding over stream_of
 kept_first o = ap unless_done (stream_first o)
 
@@ -124,10 +124,10 @@ pub kept_on : (t : Option Turn) (word : Role → Word) → kept (goes_on t word)
 kept_on None word = refl
 kept_on (Some t) word = kept_said t.opening t.words (word t.opening.role) ∙ by_role t.opening t.words word
 
-pub kept_opened : (most : ℕ) (seen : List Mark) (s : ℕ) (o : Opening) → highest (s % 2) seen < s → kept (turn most (Opens s o ∷ seen) s) ≡ cond (is_admitted (has_room most seen) o) (unless_done (first o)) None
+pub kept_opened : (most : ℕ) (seen : List Mark) (s : ℕ) (o : Opening) → highest (s % 2) seen < s → kept (turn most (Opens s o ∷ seen) s) ≡ cond (is_admitted (has_room most seen) o) (unless_done (requested o)) None
 kept_opened most seen s o h =
     ap kept (turn_opened most seen s o h)
-    ∙ elim (is_admitted (has_room most seen) o) as (λ v. kept (cond v (Some (record { opening = o; words = [] })) None) ≡ cond v (unless_done (first o)) None) [ true ↦ kept_first o | false ↦ refl ]
+    ∙ elim (is_admitted (has_room most seen) o) as (λ v. kept (cond v (Some (record { opening = o; words = [] })) None) ≡ cond v (unless_done (requested o)) None) [ true ↦ kept_first o | false ↦ refl ]
 
 pub kept_sent : (most : ℕ) (seen : List Mark) (s : ℕ) (step : Step) → kept (turn most (Sent s step ∷ seen) s) ≡ kept_going (kept (turn most seen s)) (λ role. Said role step)
 kept_sent most seen s step = ap kept (turn_sent most seen s step) ∙ kept_on (turn most seen s) (λ role. Said role step)

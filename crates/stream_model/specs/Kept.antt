@@ -34,8 +34,8 @@ kept (Some t) = if is_over t then None else Some (stream_of t.opening t.words)
 -- ---- from word to word
 
 -- what is kept after the request
-abbrev pub first : Opening → Stream
-first o = record {
+abbrev pub requested : Opening → Stream
+requested o = record {
   role = o.role;
   kind = o.kind;
   initial = o.initial;
