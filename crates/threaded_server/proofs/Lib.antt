@@ -1,5 +1,7 @@
-pub mod Parts
+pub mod Items
 pub mod Entries
 pub mod Adding
 pub mod Moving
 pub mod Opening
+pub mod Carried
+pub mod Handing

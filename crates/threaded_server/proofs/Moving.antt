@@ -20,46 +20,47 @@ use Rattle.ring.specs.declared.item.Item.{Item}
 use Rattle.ring.specs.declared.item.Item.TheVariants as item
 use Rattle.ring.specs.Parts.{bytes_of, cuts, part}
 use Rattle.threaded_model.specs.Handed.{IsReadOn}
-use Rattle.threaded_server.specs.Serving.{HasAccepted, HasRefused, HasServed, IsAt, IsServed, KnowsNothing, linked}
-use Rattle.threaded_server.proofs.Parts.{cuts_bytes, cuts_more, part_former, part_line_back}
+use Rattle.threaded_server.specs.Serving.{HasAccepted, HasRefused, HasServed, IsAt, IsServed, KnowsNothing}
+use Rattle.threaded_server.specs.Alone.{linked}
+use Rattle.threaded_server.proofs.Items.{Cuts, Grows}
 
 -- ---- the bytes of a part
 
-parts_served : (h : Settings) (S : List Entry) (d k : ℕ) (s s' r r' : List Item) → part k s' ≡ part k s → part k r' ≡ part k r → IsServed h S d k s r → IsServed h S d k s' r'
+pub parts_served : (h : Settings) (S : List Entry) (d k : ℕ) (s s' r r' : List Item) → part k s' ≡ part k s → part k r' ≡ part k r → IsServed h S d k s r → IsServed h S d k s' r'
 parts_served h S d k s s' r r' es er v = record {
   gave = subst (λ (l : List ℕ). IsPrefix l (offered h S d)) (sym es) v.gave;
   read = subst (IsReadOn h S d) (sym er) v.read;
   first = v.first;
 }
 
-some_or_none : (S : List Entry) (place : ℕ → ℕ) (k : ℕ) (s s' : List Item) → part k s' ≡ part k s → ((d : ℕ) × IsOpening S d × (place d ≡ k)) ⊎ (part k s ≡ []) → ((d : ℕ) × IsOpening S d × (place d ≡ k)) ⊎ (part k s' ≡ [])
+pub some_or_none : (S : List Entry) (place : ℕ → ℕ) (k : ℕ) (s s' : List Item) → part k s' ≡ part k s → ((d : ℕ) × IsOpening S d × (place d ≡ k)) ⊎ (part k s ≡ []) → ((d : ℕ) × IsOpening S d × (place d ≡ k)) ⊎ (part k s' ≡ [])
 some_or_none S place k s s' e (inl some) = inl some
 some_or_none S place k s s' e (inr none) = inr (e ∙ none)
 
 -- ---- the connections before
 
 -- items were pushed, none of which is a cut
-pub served_sent : (h : Settings) (S : List Entry) (number : ℕ) (place : ℕ → ℕ) (told : List ℕ) (sent received ys : List Item) → cuts ys ≡ 0 → HasServed h S number place told sent received → HasServed h S number place told (sent ++ ys) received
-served_sent h S number place told sent received ys none s =
-    let same : cuts (sent ++ ys) ≡ cuts sent = omega (arith, cuts_more sent ys, none) in
+pub served_sent : (h : Settings) (S : List Entry) (number : ℕ) (place : ℕ → ℕ) (told : List ℕ) (sent sent' received : List Item) (piece : List ℕ) → Grows piece sent sent' → HasServed h S number place told sent received → HasServed h S number place told sent' received
+served_sent h S number place told sent sent' received piece g s =
+    let same = g.same_cuts in
     record {
       apart = s.apart;
       within = λ d o. let w = s.within d o in omega (arith, w, same);
-      served = λ d o lt. let le : place d < cuts sent = omega (arith, lt, same) in parts_served h S d (place d) sent (sent ++ ys) received received (part_former (place d) sent ys le) refl (s.served d o le);
-      silent = λ k lt. let le : k < cuts sent = omega (arith, lt, same) in some_or_none S place k sent (sent ++ ys) (part_former k sent ys le) (s.silent k le);
+      served = λ d o lt. let le : place d < cuts sent = omega (arith, lt, same) in parts_served h S d (place d) sent sent' received received (g.before (place d) le) refl (s.served d o le);
+      silent = λ k lt. let le : k < cuts sent = omega (arith, lt, same) in some_or_none S place k sent sent' (g.before k le) (s.silent k le);
       cut = s.cut;
       ticks = s.ticks;
       unasked = s.unasked;
     }
 
 -- items were read
-pub served_received : (h : Settings) (S : List Entry) (number : ℕ) (place : ℕ → ℕ) (told : List ℕ) (sent received ys : List Item) → cuts sent ≤ cuts received → HasServed h S number place told sent received → HasServed h S number place told sent (received ++ ys)
-served_received h S number place told sent received ys within s = record {
+pub served_received : (h : Settings) (S : List Entry) (number : ℕ) (place : ℕ → ℕ) (told : List ℕ) (sent received received' : List Item) → ((k : ℕ) → k < cuts received → part k received' ≡ part k received) → cuts received ≤ cuts received' → cuts sent ≤ cuts received → HasServed h S number place told sent received → HasServed h S number place told sent received'
+served_received h S number place told sent received received' before more within s = record {
   apart = s.apart;
   within = s.within;
-  served = λ d o lt. let le : place d < cuts received = omega (arith, lt, within) in parts_served h S d (place d) sent sent received (received ++ ys) refl (part_former (place d) received ys le) (s.served d o lt);
+  served = λ d o lt. let le : place d < cuts received = omega (arith, lt, within) in parts_served h S d (place d) sent sent received received' refl (before (place d) le) (s.served d o lt);
   silent = s.silent;
-  cut = λ d is. let was = s.cut d is in (was.0, (let lt = was.1 in omega (arith, cuts_more received ys, lt)));
+  cut = λ d is. let was = s.cut d is in (was.0, (let lt = was.1 in omega (arith, more, lt)));
   ticks = s.ticks;
   unasked = s.unasked;
 }
@@ -69,29 +70,28 @@ pub record IsOver (h : Settings) (S : List Entry) (place : ℕ → ℕ) (k : ℕ
   pub served : (d : ℕ) → IsOpening S d → place d ≡ k → IsServed h S d k sent received
   pub silent : ((d : ℕ) × IsOpening S d × (place d ≡ k)) ⊎ (part k sent ≡ [])
 
-last_or : (n k : ℕ) → k < suc n → (k < n) ⊎ (k ≡ n)
+pub last_or : (n k : ℕ) → k < suc n → (k < n) ⊎ (k ≡ n)
 last_or n k lt = elim (cases_lt k n) [
   | inl le ↦ inl le
   | inr le ↦ inr (omega (arith, lt, le))
 ]
 
 -- a cut was pushed
-pub served_cut : (h : Settings) (S : List Entry) (number : ℕ) (place : ℕ → ℕ) (told : List ℕ) (sent received : List Item) → IsOver h S place (cuts sent) sent received → HasServed h S number place told sent received → HasServed h S number place told (sent ++ item.Mark mark.Cut ∷ []) received
-unfolding cuts
-served_cut h S number place told sent received over s =
-    let more = item.Mark mark.Cut ∷ [] in
-    let one : cuts (sent ++ more) ≡ suc (cuts sent) = omega (arith, cuts_more sent more) in
+pub served_cut : (h : Settings) (S : List Entry) (number : ℕ) (place : ℕ → ℕ) (told : List ℕ) (sent sent' received : List Item) → Cuts [] sent sent' → IsOver h S place (cuts sent) sent received → HasServed h S number place told sent received → HasServed h S number place told sent' received
+served_cut h S number place told sent sent' received c over s =
+    let one = c.one_more in
+    let last : part (cuts sent) sent' ≡ part (cuts sent) sent = c.last ∙ append-nil (part (cuts sent) sent) in
     record {
       apart = s.apart;
       within = λ d o. let w = s.within d o in omega (arith, w, one);
       served = λ d o lt. elim (last_or (cuts sent) (place d) (omega (arith, lt, one))) [
-        | inl le ↦ parts_served h S d (place d) sent (sent ++ more) received received (part_line_back (place d) sent mark.Cut) refl (s.served d o le)
-        | inr is ↦ subst (λ (k : ℕ). IsServed h S d k (sent ++ more) received) (sym is) (parts_served h S d (cuts sent) sent (sent ++ more) received received (part_line_back (cuts sent) sent mark.Cut) refl (over.served d o is))
+        | inl le ↦ parts_served h S d (place d) sent sent' received received (c.before (place d) le) refl (s.served d o le)
+        | inr is ↦ subst (λ (k : ℕ). IsServed h S d k sent' received) (sym is) (parts_served h S d (cuts sent) sent sent' received received last refl (over.served d o is))
       ];
-      silent = λ k lt. some_or_none S place k sent (sent ++ more) (part_line_back k sent mark.Cut) (elim (last_or (cuts sent) k (omega (arith, lt, one))) [
-        | inl le ↦ s.silent k le
-        | inr is ↦ subst (λ (j : ℕ). ((d : ℕ) × IsOpening S d × (place d ≡ j)) ⊎ (part j sent ≡ [])) (sym is) over.silent
-      ]);
+      silent = λ k lt. elim (last_or (cuts sent) k (omega (arith, lt, one))) [
+        | inl le ↦ some_or_none S place k sent sent' (c.before k le) (s.silent k le)
+        | inr is ↦ subst (λ (j : ℕ). ((d : ℕ) × IsOpening S d × (place d ≡ j)) ⊎ (part j sent' ≡ [])) (sym is) (some_or_none S place (cuts sent) sent sent' last over.silent)
+      ];
       cut = s.cut;
       ticks = s.ticks;
       unasked = s.unasked;

@@ -31,7 +31,8 @@ use Rattle.ring.specs.declared.item.Item.{Item}
 use Rattle.ring.specs.Parts.{cuts, part}
 use Rattle.threaded_model.specs.Handed.{IsReadOn}
 use Rattle.threaded_model.specs.Threaded.{cuts_in, has_cut, is_asked, made_by, moment_in, moments}
-use Rattle.threaded_server.specs.Serving.{HasAccepted, HasRefused, HasServed, IsAt, IsServed, KnowsNothing, linked}
+use Rattle.threaded_server.specs.Serving.{HasAccepted, HasRefused, HasServed, IsAt, IsServed, KnowsNothing}
+use Rattle.threaded_server.specs.Alone.{linked}
 use Rattle.threaded_server.proofs.Entries.{opened_by, opening_back, opening_on, served_on}
 use Rattle.threaded_server.proofs.Adding.{IsSpare, accepted_spared, legal_last, same_cuts, same_moments}
 

@@ -1,2 +1,4 @@
+pub mod Fake
 pub mod Alone
 pub mod Serving
+pub mod Carrying

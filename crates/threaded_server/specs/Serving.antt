@@ -1,9 +1,7 @@
 -- What the server's carrier keeps of its end, by what it knows of the connection that joins the ends. Entries are the newest first, items the oldest.
-use Rattle.std.specs.Prelude.{◌≡◌, ◌≢◌, ◌<◌, ◌≤◌, ◌⊎◌, ℕ, true, false, List, [], length, take, Some}
-use Rattle.std.specs.List.{AllByRecursion}
+use Rattle.std.specs.Prelude.{◌≡◌, ◌≢◌, ◌<◌, ◌≤◌, ◌⊎◌, ℕ, true, false, List, [], length, take}
 use Rattle.rs_wire.specs.declared.settings.Settings.{Settings}
 use Rattle.rs_frame.specs.Framed.{framed_all}
-use Rattle.outside.specs.Links.{Shown, no_counts}
 use Rattle.tape.specs.declared.entry.Entry.{Entry}
 use Rattle.session_model.specs.Lists.{IsPrefix}
 use Rattle.session_model.specs.Life.{is_live, live}
@@ -13,11 +11,8 @@ use Rattle.link_model.specs.Carrying.{Between, Keeps}
 use Rattle.ring.specs.declared.item.Item.{Item}
 use Rattle.ring.specs.Parts.{cuts, part}
 use Rattle.threaded_model.specs.Handed.{IsReadOn}
-use Rattle.threaded_model.specs.Threaded.{has_cut, is_asked, moments}
-
--- the link that shows these bytes: those pushed, and those read
-abbrev pub linked : List ℕ → List ℕ → Shown
-linked given taken = record { taken = Some taken; given = Some given; counts = no_counts }
+use Rattle.threaded_model.specs.Threaded.{has_cut, moments}
+use Rattle.threaded_server.specs.Alone.{NeverAsks, linked}
 
 -- opening d is the connection after k cuts: what was pushed and read there, and that its first frame came
 pub record IsServed (h : Settings) (S : List Entry) (d k : ℕ) (sent received : List Item) : Type 0 where
@@ -36,7 +31,7 @@ pub record HasServed (h : Settings) (S : List Entry) (number : ℕ) (place : ℕ
   -- it ticked with these moments
   pub ticks : moments S ≡ told
   -- it asked nothing
-  pub unasked : AllByRecursion (λ (x : Entry). x.who ≡ number → is_asked x.event ≡ false) S
+  pub unasked : NeverAsks number S
 
 -- opening d is the connection after k cuts
 pub record IsAt (S : List Entry) (place : ℕ → ℕ) (k d : ℕ) : Type 0 where

@@ -1,0 +1,4 @@
+//! Laws of the server's carrier.
+
+/// Nothing.
+pub fn server_laws() {}
