@@ -18,7 +18,7 @@ use Rattle.link_model.proofs.Kept.{keeps_other}
 use Rattle.ring.specs.declared.item.Item.{Item}
 use Rattle.ring.specs.Parts.{cuts, part}
 use Rattle.threaded_model.specs.Threaded.{cuts_in, has_cut, is_asked, moment_in, moments}
-use Rattle.threaded_server.specs.Alone.{IsOurs, linked}
+use Rattle.carriers.specs.Alone.{IsOurs, linked}
 use Rattle.threaded_server.specs.Serving.{HasAccepted, HasRefused, HasServed, IsAt, IsServed, KnowsNothing}
 use Rattle.threaded_server.proofs.Entries.{first_on, off_on, opened_by, opening_back, opening_on, read_on, refused_on, served_on}
 

@@ -22,12 +22,12 @@ use Rattle.ring.specs.declared.item.Item.{Item}
 use Rattle.ring.specs.declared.item.Item.TheVariants as item
 use Rattle.ring.specs.Parts.{bytes_of, cuts, ends, part}
 use Rattle.threaded_model.specs.Threaded.{is_asked, made_by, told_by, told_in}
-use Rattle.threaded_server.specs.Alone.{IsOurs, linked}
-use Rattle.threaded_server.specs.Fake.{Knows}
-use Rattle.threaded_server.specs.Fake as knows
+use Rattle.carriers.specs.Alone.{IsOurs, linked}
+use Rattle.threaded_server.specs.declared.knows.Knows.{Knows}
+use Rattle.threaded_server.specs.declared.knows.Knows.TheVariants as knows
 use Rattle.threaded_server.specs.Serving.{HasAccepted, HasRefused, HasServed, IsAt, KnowsNothing}
 use Rattle.threaded_server.specs.Carrying.{IsHere, ServerCarries}
-use Rattle.threaded_server.proofs.Items.{Cuts, Grows, cuts_at_once, cuts_both, grows_bytes, grows_mark, part_former, part_later, part_marked, part_read, no_cuts}
+use Rattle.carriers.proofs.Items.{Cuts, Grows, cuts_at_once, cuts_both, grows_bytes, grows_mark, part_former, part_later, part_marked, part_read, no_cuts}
 use Rattle.threaded_server.proofs.Adding.{IsNew, IsSpare, accepted_spared, at_more, first_more, legal_before, nothing_spared, refused_more, refused_spared, served_more, spare_asked}
 use Rattle.threaded_server.proofs.Moving.{IsOver, accepted_over, accepted_parts, nothing_over, nothing_parts, nothing_read, refused_over, refused_parts, refused_read, refused_sent, served_cut, served_received, served_sent}
 use Rattle.threaded_server.proofs.Opening.{Begins, IsFirst, accepted_first, placed, refused_at, served_cutting, served_opened, served_ticking, spare_cut, spare_tick}

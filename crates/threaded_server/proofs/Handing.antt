@@ -12,12 +12,12 @@ use Rattle.ring.specs.declared.item.Item.TheVariants as item
 use Rattle.ring.specs.Parts.{cuts, part}
 use Rattle.threaded_model.specs.Handed.{IsReadOn}
 use Rattle.threaded_model.specs.Threaded.{told_by}
-use Rattle.threaded_server.specs.Alone.{linked}
-use Rattle.threaded_server.specs.Fake.{Knows}
-use Rattle.threaded_server.specs.Fake as knows
+use Rattle.carriers.specs.Alone.{linked}
+use Rattle.threaded_server.specs.declared.knows.Knows.{Knows}
+use Rattle.threaded_server.specs.declared.knows.Knows.TheVariants as knows
 use Rattle.threaded_server.specs.Serving.{HasServed, IsServed}
 use Rattle.threaded_server.specs.Carrying.{IsHere, ServerCarries, ServerHands}
-use Rattle.threaded_server.proofs.Items.{cuts_both, part_later, part_marked}
+use Rattle.carriers.proofs.Items.{cuts_both, part_later, part_marked}
 use Rattle.threaded_server.proofs.Moving.{IsOver, last_or, parts_served, some_or_none}
 use Rattle.threaded_server.proofs.Carried.{here_over}
 

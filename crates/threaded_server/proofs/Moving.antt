@@ -21,8 +21,8 @@ use Rattle.ring.specs.declared.item.Item.TheVariants as item
 use Rattle.ring.specs.Parts.{bytes_of, cuts, part}
 use Rattle.threaded_model.specs.Handed.{IsReadOn}
 use Rattle.threaded_server.specs.Serving.{HasAccepted, HasRefused, HasServed, IsAt, IsServed, KnowsNothing}
-use Rattle.threaded_server.specs.Alone.{linked}
-use Rattle.threaded_server.proofs.Items.{Cuts, Grows}
+use Rattle.carriers.specs.Alone.{linked}
+use Rattle.carriers.proofs.Items.{Cuts, Grows}
 
 -- ---- the bytes of a part
 

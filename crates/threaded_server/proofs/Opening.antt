@@ -31,8 +31,9 @@ use Rattle.ring.specs.declared.item.Item.{Item}
 use Rattle.ring.specs.Parts.{cuts, part}
 use Rattle.threaded_model.specs.Handed.{IsReadOn}
 use Rattle.threaded_model.specs.Threaded.{cuts_in, has_cut, is_asked, made_by, moment_in, moments}
+use Rattle.threaded_server.specs.Begun.{Passes}
 use Rattle.threaded_server.specs.Serving.{HasAccepted, HasRefused, HasServed, IsAt, IsServed, KnowsNothing}
-use Rattle.threaded_server.specs.Alone.{linked}
+use Rattle.carriers.specs.Alone.{linked}
 use Rattle.threaded_server.proofs.Entries.{opened_by, opening_back, opening_on, served_on}
 use Rattle.threaded_server.proofs.Adding.{IsSpare, accepted_spared, legal_last, same_cuts, same_moments}
 
@@ -141,7 +142,7 @@ at_first S x f place k i = record {
 -- the first frame stands in front of the bytes, and this rest follows it
 pub record Begins (f : Frame) (bytes rest : List ℕ) : Type 0 where
   pub spells : Spells f (first_frame bytes)
-  pub passes : (fed : List ℕ) (passed : List (List ℕ)) → IsCut fed passed bytes → IsCut fed (passed ++ first_frame bytes ∷ []) rest
+  pub passes : Passes bytes rest
 
 read_first : (most : ℕ) (f : Frame) (bytes rest : List ℕ) → Begins f bytes rest → HasRead (f ∷ []) None most rest bytes
 read_first most f bytes rest b = record {

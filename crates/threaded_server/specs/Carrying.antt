@@ -6,11 +6,14 @@ use Rattle.cable_script.specs.declared.line.Line.{Line}
 use Rattle.ring.specs.declared.item.Item.{Item}
 use Rattle.ring.specs.Parts.{IsEnded, cuts, ends, part}
 use Rattle.session_model.specs.Joined.{IsOpening}
+use Rattle.session_model.specs.Legal.{Legal}
+use Rattle.conn_shared.specs.Members.{Knowledge}
+use Rattle.pump.specs.Turns.{IsEmptied}
 use Rattle.threaded_model.specs.Handed.{ServerKeeps}
 use Rattle.threaded_model.specs.Threaded.{has_cut, moments, told_by}
-use Rattle.threaded_server.specs.Alone.{NeverAsks}
-use Rattle.threaded_server.specs.Fake.{Knows}
-use Rattle.threaded_server.specs.Fake as knows
+use Rattle.carriers.specs.Alone.{NeverAsks, OthersAsk}
+use Rattle.threaded_server.specs.declared.knows.Knows.{Knows}
+use Rattle.threaded_server.specs.declared.knows.Knows.TheVariants as knows
 use Rattle.threaded_server.specs.Serving.{HasAccepted, HasRefused, HasServed, KnowsNothing}
 
 -- the limit of its reader is that of the settings, its number that of its pump, and no more of a refusal was pushed than there is
@@ -49,3 +52,20 @@ pub record ServerHands (h : Settings) (S : List Entry) (number : ℕ) (lines : L
   pub cuts_down : cuts down ≡ n
   pub cuts_up : cuts up ≡ n
   pub ended : IsEnded down
+
+-- what is kept of the server's carrier, by what its caller knows, where so many cuts are not answered: where the other callers only ask
+abbrev pub IsReading : ℕ → List Line → Knowledge → Knows → List Item → List Item → Type 0
+IsReading unanswered lines me knows sent received = OthersAsk me → Legal me.of.settings me.front → ServerCarries me.of.settings me.front me.number lines unanswered knows sent received
+
+-- and each is answered
+abbrev pub IsCarrying : Knowledge → List Line → Knows → List Item → List Item → Type 0
+IsCarrying me lines knows sent received = IsReading 0 lines me knows sent received
+
+-- that goes on, over no line
+abbrev pub KeepsOn : ℕ → ℕ → Knowledge → Knowledge → Knows → Knows → List Item → List Item → List Item → List Item → Type 0
+KeepsOn u u' was now k k' s s' r r' = (lines : List Line) → IsReading u lines was k s r → IsReading u' lines now k' s' r'
+
+-- nothing stands in front that can come, where the connection was accepted
+abbrev pub IsEmptiedOn : Knows → Type 0
+IsEmptiedOn (knows.Accepted conn b) = IsEmptied b
+IsEmptiedOn _ = Unit {0}

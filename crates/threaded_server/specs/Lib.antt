@@ -1,4 +1,4 @@
-pub mod Fake
-pub mod Alone
 pub mod Serving
 pub mod Carrying
+pub mod Begun
+pub mod Moves

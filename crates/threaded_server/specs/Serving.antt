@@ -12,7 +12,7 @@ use Rattle.ring.specs.declared.item.Item.{Item}
 use Rattle.ring.specs.Parts.{cuts, part}
 use Rattle.threaded_model.specs.Handed.{IsReadOn}
 use Rattle.threaded_model.specs.Threaded.{has_cut, moments}
-use Rattle.threaded_server.specs.Alone.{NeverAsks, linked}
+use Rattle.carriers.specs.Alone.{NeverAsks, linked}
 
 -- opening d is the connection after k cuts: what was pushed and read there, and that its first frame came
 pub record IsServed (h : Settings) (S : List Entry) (d k : ℕ) (sent received : List Item) : Type 0 where

@@ -1,5 +1,9 @@
 //! The carrier, and how it begins.
 
+ghost use Rattle.std.specs.Prelude.{◌≡◌, []};
+ghost use Rattle.rtrb.specs.Ring.{received, sent};
+ghost use Rattle.threaded_server.specs.Carrying.{IsCarrying, IsSound};
+
 use crate::knows::Knows;
 use conn::{Caller, Connection};
 use ring::Item;
@@ -30,7 +34,16 @@ impl<T: Tape> ServerCarrier<T> {
         caller: Caller<T>,
         out: Producer<Item>,
         from: Consumer<Item>,
-    ) -> ServerCarrier<T> {
+    ) -> ServerCarrier<T>
+        ensures caller { result.caller ≡ caller }
+        ensures out { result.out ≡ out }
+        ensures from { result.from ≡ from }
+        ensures sound { IsSound connection.now.settings result.knows }
+
+        // Where nothing happened yet, it has followed no line.
+        ensures begun { caller.front ≡ [] → sent out ≡ [] → received from ≡ [] →
+            IsCarrying caller [] result.knows [] [] }
+    {
         ServerCarrier {
             caller,
             out,
