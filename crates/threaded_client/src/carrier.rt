@@ -1,5 +1,9 @@
 //! The carrier, and how it begins.
 
+ghost use Rattle.std.specs.Prelude.{◌≡◌, [], None};
+ghost use Rattle.rtrb.specs.Ring.{received, sent};
+ghost use Rattle.threaded_client.specs.Carrying.{IsCarrying};
+
 use conn::Caller;
 use pump::Pump;
 use ring::Item;
@@ -24,7 +28,17 @@ pub struct ClientCarrier<T: Tape> {
 
 impl<T: Tape> ClientCarrier<T> {
     /// A carrier that has done nothing yet.
-    pub fn new(caller: Caller<T>, out: Producer<Item>, from: Consumer<Item>) -> ClientCarrier<T> {
+    pub fn new(caller: Caller<T>, out: Producer<Item>, from: Consumer<Item>) -> ClientCarrier<T>
+        ensures value { result ≡ record {
+          caller = caller;
+          out = out;
+          from = from;
+          conn = 0;
+          pump = None;
+        } }
+        ensures carries { caller.front ≡ [] → sent out ≡ [] → received from ≡ [] →
+            IsCarrying caller [] None (sent out) (received from) }
+    {
         ClientCarrier {
             caller,
             out,
