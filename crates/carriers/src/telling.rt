@@ -1,7 +1,7 @@
 //! What a carrier tells its session, and when it stops.
 
 ghost use Rattle.std.specs.Prelude.{◌≡◌, IfOk, OnOk};
-ghost use Rattle.session_model.specs.Legal.{CanBring};
+ghost use Rattle.session_model.specs.Legal.{CanBring, Legal};
 ghost use Rattle.session_core.specs.Seen.{IsNoDrawEvent};
 ghost use Rattle.carriers.specs.Moves.{HasTold};
 
@@ -37,8 +37,10 @@ pub fn tell<T: Tape, R: Wait>(
     } }
     ensures told { IfOk result (λ a.
         HasTold connection.now.settings caller.old caller.new event.now a) }
+    ensures legal { Legal caller.new.of.settings caller.new.front }
 {
     let answer = connection.event(rt, caller, event);
+    caller.legal();
     if !answer.leaves_entry() {
         return Err(Stop::OutOfMemory);
     }
