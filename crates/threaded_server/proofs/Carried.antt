@@ -1,5 +1,5 @@
 -- What the server's carrier keeps goes on, step by step.
-use Rattle.std.proofs.Common.{◌≡◌, ◌≢◌, ◌<◌, ◌≤◌, ◌+◌, ◌⊎◌, inl, inr, ℕ, suc, true, false, List, [], ◌∷◌, ◌++◌, take, drop, None, Some, refl, ap, sym, ◌∙◌, subst, arith, append-nil, append_assoc}
+use Rattle.std.proofs.Common.{◌≡◌, ◌≢◌, ◌<◌, ◌≤◌, ◌+◌, ◌⊎◌, inl, inr, ℕ, suc, true, false, List, [], ◌∷◌, ◌++◌, take, drop, None, Some, refl, ap, sym, ◌∙◌, subst, arith, append-nil, append_assoc, true≢false}
 use Rattle.std.specs.List.{AllByRecursion}
 use Rattle.rs_wire.specs.declared.settings.Settings.{Settings}
 use Rattle.rs_frame.specs.declared.frame.Frame.{Frame}
@@ -21,7 +21,7 @@ use Rattle.ring.specs.declared.item.Mark.TheVariants as mark
 use Rattle.ring.specs.declared.item.Item.{Item}
 use Rattle.ring.specs.declared.item.Item.TheVariants as item
 use Rattle.ring.specs.Parts.{bytes_of, cuts, ends, part}
-use Rattle.threaded_model.specs.Threaded.{is_asked, made_by, told_by, told_in}
+use Rattle.threaded_model.specs.Threaded.{has_cut, is_asked, made_by, moments, told_by, told_in}
 use Rattle.carriers.specs.Alone.{IsOurs, linked}
 use Rattle.threaded_server.specs.declared.knows.Knows.{Knows}
 use Rattle.threaded_server.specs.declared.knows.Knows.TheVariants as knows
@@ -29,8 +29,8 @@ use Rattle.threaded_server.specs.Serving.{HasAccepted, HasRefused, HasServed, Is
 use Rattle.threaded_server.specs.Carrying.{IsHere, ServerCarries}
 use Rattle.carriers.proofs.Items.{Cuts, Grows, cuts_at_once, cuts_both, grows_bytes, grows_mark, part_former, part_later, part_marked, part_read, no_cuts}
 use Rattle.threaded_server.proofs.Adding.{IsNew, IsSpare, accepted_spared, at_more, first_more, legal_before, nothing_spared, refused_more, refused_spared, served_more, spare_asked}
-use Rattle.threaded_server.proofs.Moving.{IsOver, accepted_over, accepted_parts, nothing_over, nothing_parts, nothing_read, refused_over, refused_parts, refused_read, refused_sent, served_cut, served_received, served_sent}
-use Rattle.threaded_server.proofs.Opening.{Begins, IsFirst, accepted_first, placed, refused_at, served_cutting, served_opened, served_ticking, spare_cut, spare_tick}
+use Rattle.threaded_server.proofs.Bytes.{IsOver, accepted_over, accepted_parts, nothing_over, nothing_parts, nothing_read, refused_over, refused_parts, refused_read, refused_sent, served_cut, served_received, served_sent}
+use Rattle.threaded_server.proofs.OwnEntries.{Begins, IsFirst, accepted_first, placed, refused_at, served_cutting, served_opened, served_ticking, spare_cut, spare_tick}
 
 -- ---- entries of others
 
@@ -298,3 +298,26 @@ refused_here h S x f number lines u reader rest bytes sent received i legal none
   empty = s.empty;
   open_end = s.open_end;
 }
+
+-- at first nothing happened
+pub carries_none : (h : Settings) (number : ℕ) (reader : Rest) → reader.bytes ≡ [] → ServerCarries h [] number [] 0 (knows.Nothing reader) [] []
+unfolding cuts ends part openings moments has_cut told_by
+carries_none h number reader none = record {
+  place = λ d. 0;
+  served = record {
+    apart = λ d e od oe same. absurd (no_opening d od);
+    within = λ d o. omega arith;
+    served = λ d o lt. absurd (no_opening d o);
+    silent = λ k lt. inr refl;
+    cut = λ d is. absurd (true≢false (sym is));
+    ticks = refl;
+    unasked = tt;
+  };
+  here = record { unopened = λ d o. absurd (no_opening d o); rest_is = none; silent = refl };
+  both = refl;
+  empty = refl;
+  open_end = refl;
+}
+  where
+    no_opening : (d : ℕ) → IsOpening [] d → ⊥
+    no_opening d o = let a = o.above in let w = o.within in absurd (omega (arith, a, w))

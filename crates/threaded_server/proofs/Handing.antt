@@ -1,24 +1,29 @@
 -- What the server's carrier hands back.
-use Rattle.std.proofs.Common.{◌≡◌, ◌<◌, ◌≤◌, ◌+◌, ◌⊎◌, inl, inr, ℕ, suc, List, [], ◌∷◌, ◌++◌, refl, ap, sym, ◌∙◌, subst, arith}
+use Rattle.std.proofs.Common.{◌≡◌, ◌<◌, ◌≤◌, ◌+◌, ◌⊎◌, inl, inr, ℕ, suc, true, List, [], ◌∷◌, ◌++◌, length, Option, None, refl, ap, sym, ◌∙◌, subst, arith, append-nil}
+use Rattle.std.proofs.lemmas.List.{take_all}
 use Rattle.std.proofs.lemmas.Bool.{cases_lt}
 use Rattle.rs_wire.specs.declared.settings.Settings.{Settings}
 use Rattle.tape.specs.declared.entry.Entry.{Entry}
+use Rattle.rs_chunk.specs.Stream.{IsTooLong, IsWhole}
+use Rattle.session_model.specs.Life.{closed, is_live, live}
+use Rattle.session_model.specs.Frames.{came, first_bad, given, queued}
 use Rattle.session_model.specs.Joined.{IsOpening}
-use Rattle.link_model.specs.Carrying.{Keeps}
+use Rattle.link_model.specs.Carrying.{Between, Keeps}
+use Rattle.link_model.specs.Reading.{HasRead, IsPart}
 use Rattle.cable_script.specs.declared.line.Line.{Line}
 use Rattle.ring.specs.declared.item.Mark.TheVariants as mark
 use Rattle.ring.specs.declared.item.Item.{Item}
 use Rattle.ring.specs.declared.item.Item.TheVariants as item
 use Rattle.ring.specs.Parts.{cuts, part}
-use Rattle.threaded_model.specs.Handed.{IsReadOn}
+use Rattle.threaded_model.specs.Handed.{IsCarried, IsReadOn, IsReadOut, IsRefused, IsUnknown}
 use Rattle.threaded_model.specs.Threaded.{told_by}
 use Rattle.carriers.specs.Alone.{linked}
 use Rattle.threaded_server.specs.declared.knows.Knows.{Knows}
 use Rattle.threaded_server.specs.declared.knows.Knows.TheVariants as knows
-use Rattle.threaded_server.specs.Serving.{HasServed, IsServed}
+use Rattle.threaded_server.specs.Serving.{HasAccepted, HasRefused, HasServed, IsServed, KnowsNothing}
 use Rattle.threaded_server.specs.Carrying.{IsHere, ServerCarries, ServerHands}
 use Rattle.carriers.proofs.Items.{cuts_both, part_later, part_marked}
-use Rattle.threaded_server.proofs.Moving.{IsOver, last_or, parts_served, some_or_none}
+use Rattle.threaded_server.proofs.Bytes.{IsOver, last_or, parts_served, some_or_none}
 use Rattle.threaded_server.proofs.Carried.{here_over}
 
 -- each opening was served
@@ -79,6 +84,39 @@ hands h S number lines kn sent received s =
       unasked = s.served.unasked;
       here = here_marked h S s.place (cuts sent) sent down received up kn (part_marked (cuts sent) sent mark.End) (part_marked (cuts sent) received mark.End) s.here;
       cuts_down = let a = cuts_both sent (item.Mark mark.End ∷ []) in let e = one_end in omega (arith, a, e);
-      cuts_up = let a = cuts_both received (item.Mark mark.End ∷ []) in let e = one_end in let b = s.both in omega (arith, a, e, b);
+      both = let a = cuts_both received (item.Mark mark.End ∷ []) in let e = one_end in let b = s.both in omega (arith, a, e, b);
       ended = (sent, refl, s.open_end);
     }
+
+-- ---- what is done on the connection that joins the ends
+
+-- a length that is too long stands in front of what was read
+pub done_unknown : (h : Settings) (S : List Entry) (place : ℕ → ℕ) (n : ℕ) (down up : List Item) (bytes : List ℕ) → KnowsNothing S place n down up bytes → IsTooLong bytes h.max_in → IsUnknown h S place n up
+done_unknown h S place n down up bytes k long = record { unopened = k.unopened; long = subst (λ (l : List ℕ). IsTooLong l h.max_in) k.rest_is long }
+
+-- all that was drawn was pushed
+pub done_gave : (h : Settings) (S : List Entry) (place : ℕ → ℕ) (n : ℕ) (down up : List Item) (b : Between) → HasAccepted h S place n down up b → part n down ≡ given h S b.conn
+done_gave h S place n down up b a = sym (append-nil (part n down)) ∙ (ap (λ (l : List ℕ). part n down ++ l) (sym a.none_left) ∙ a.kept.given.all)
+
+pub done_accepted : (g h : Settings) (C S : List Entry) (place : ℕ → ℕ) (n c : ℕ) (down up : List Item) (read_down : List ℕ) (b : Between) → HasAccepted h S place n down up b
+    → (is_live (live S) b.conn ≡ true → (queued h S ≡ 0) × (closed h S ≡ None → IsReadOut h S b.conn (part n up)) × (closed g C ≡ None → IsReadOut g C c read_down))
+    → IsCarried g h C S c b.conn (part n up) (part n down) read_down
+done_accepted g h C S place n c down up read_down b a all = record { accepted = a.unrefused; gave = done_gave h S place n down up b a; all = all }
+
+-- nothing stands in front that can come: all that was read there came
+pub done_read : (h : Settings) (S : List Entry) (place : ℕ → ℕ) (n : ℕ) (down up : List Item) (b : Between) → HasAccepted h S place n down up b → first_bad S b.conn ≡ None → b.max_in ≡ h.max_in → IsPart b.rest b.max_in → IsReadOut h S b.conn (part n up)
+done_read h S place n down up b a good limit p = record {
+  good = good;
+  rest = b.rest;
+  read = subst (λ (o : Option ℕ). HasRead (came S b.conn) o h.max_in b.rest (part n up)) good a.kept.taken;
+  no_frame = λ w. absurd (p.0 (subst (IsWhole b.rest) (sym limit) w));
+  no_length = λ l. absurd (p.1 (subst (IsTooLong b.rest) (sym limit) l));
+}
+
+-- the refusal was pushed whole
+pub done_refused : (g h : Settings) (C S : List Entry) (place : ℕ → ℕ) (n c : ℕ) (down up : List Item) (read_down bytes : List ℕ) (pushed : ℕ) → (r : HasRefused h S place n down up bytes pushed) → pushed ≡ length bytes → IsReadOut g C c read_down → IsRefused g C S c r.d (part n down) read_down
+done_refused g h C S place n c down up read_down bytes pushed r whole heard = record {
+  never_live = r.never_live;
+  sent = r.sent_are ∙ (take_all pushed bytes (omega (arith, whole)) ∙ r.bytes_are);
+  heard = heard;
+}

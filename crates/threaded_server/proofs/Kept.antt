@@ -17,11 +17,12 @@ use Rattle.session_model.specs.Legal.{Legal}
 use Rattle.session_model.specs.Life.{openings}
 use Rattle.session_model.specs.Means.{Means}
 use Rattle.session_model.proofs.Meaning.{last_means}
-use Rattle.conn_lock.specs.Callers.{times}
-use Rattle.conn_shared.specs.Members.{Follows, Knowledge}
+use Rattle.conn_lock.specs.Callers.{IsOthers, calls, once, times}
+use Rattle.conn_shared.specs.Lines.{who_of}
+use Rattle.conn_shared.specs.Members.{Follows, Knowledge, SharedId}
 use Rattle.link_model.specs.Carrying.{Between, Keeps, is_of}
 use Rattle.pump.specs.Turns.{Arrives, GoesOn, MovesAlone, Names}
-use Rattle.pump.proofs.Adding.{IsOn, IsOwn, all_split, goes_as, goes_follows}
+use Rattle.pump.proofs.Adding.{IsOn, all_split, goes_as}
 use Rattle.pump.proofs.Events.{arrives_names}
 use Rattle.cable_script.specs.declared.line.Line.{Line}
 use Rattle.cable_script.specs.declared.line.Line.TheVariants as line
@@ -33,65 +34,26 @@ use Rattle.ring.specs.Parts.{bytes_of, cuts, part}
 use Rattle.threaded_model.specs.Threaded.{is_asked, told_in}
 use Rattle.carriers.specs.Alone.{IsOurs, OthersAsk, linked}
 use Rattle.carriers.specs.Moves.{HasGiven, HasHeard, HasTaken, HasTold}
-use Rattle.carriers.proofs.Blocks.{moves_asked}
+use Rattle.carriers.proofs.Alone.{IsNone, asks_back, gained, gained_others, moves_alone}
 use Rattle.carriers.proofs.Items.{Grows, grows_bytes}
 use Rattle.threaded_server.specs.declared.knows.Knows.{Knows}
 use Rattle.threaded_server.specs.declared.knows.Knows.TheVariants as knows
-use Rattle.threaded_server.specs.Carrying.{IsReading, ServerCarries}
+use Rattle.threaded_server.specs.Carrying.{IsCarrying, IsReading, ServerCarries, ServerHands}
 use Rattle.threaded_server.specs.Begun.{HasBegun, IsBegun}
-use Rattle.threaded_server.proofs.Opening.{Begins}
+use Rattle.threaded_server.proofs.OwnEntries.{Begins}
 use Rattle.threaded_server.proofs.Adding.{legal_before, legal_last}
-use Rattle.threaded_server.proofs.Carried.{HasMoved, IsOther, IsReadTo, answered, cut_here, filled, followed, gave_more, heard_more, marked, opened_here, over_others, passed_over, pushed_more, read_to, refused_here, ticked, took_more}
+use Rattle.threaded_server.proofs.Handing.{hands}
+use Rattle.threaded_server.proofs.Carried.{HasMoved, IsOther, answered, carries_none, cut_here, filled, followed, gave_more, heard_more, marked, opened_here, over_others, passed_over, pushed_more, read_to, refused_here, ticked, took_more}
 
 -- ---- a caller, and what it was
 
 number_on : (was now : Knowledge) → IsOn was now → now.number ≡ was.number
 number_on was now on = ap (λ (x : Knowledge). x.number) on
 
-names_on : (was now : Knowledge) → IsOn was now → now.names ≡ was.names
-names_on was now on = ap (λ (x : Knowledge). x.names) on
-
 settings_on : (was now : Knowledge) → IsOn was now → now.of.settings ≡ was.of.settings
 settings_on was now on = ap (λ (x : Knowledge). x.of.settings) on
 
--- what is asked of the others goes back to earlier entries
-asks_before : (was now : Knowledge) (more : List Entry) → IsOn was now → now.front ≡ more ++ was.front → OthersAsk now → OthersAsk was
-asks_before was now more on is a = record {
-  named = subst (λ (n : ℕ). 0 < times n was.names) (number_on was now on) (subst (λ (ns : List ℕ). 0 < times now.number ns) (names_on was now on) a.named);
-  ask = (all_split (λ (x : Entry). is_asked x.event ≡ false → x.who ≡ was.number) more was.front
-      (subst (λ (n : ℕ). AllByRecursion (λ (x : Entry). is_asked x.event ≡ false → x.who ≡ n) (more ++ was.front)) (number_on was now on) (subst (λ (es : List Entry). AllByRecursion (λ (x : Entry). is_asked x.event ≡ false → x.who ≡ now.number) es) is a.ask))).1;
-}
-
-asks_more : (was now : Knowledge) (more : List Entry) → IsOn was now → now.front ≡ more ++ was.front → OthersAsk now → AllByRecursion (λ (x : Entry). is_asked x.event ≡ false → x.who ≡ was.number) more
-asks_more was now more on is a = (all_split (λ (x : Entry). is_asked x.event ≡ false → x.who ≡ was.number) more was.front
-    (subst (λ (n : ℕ). AllByRecursion (λ (x : Entry). is_asked x.event ≡ false → x.who ≡ n) (more ++ was.front)) (number_on was now on) (subst (λ (es : List Entry). AllByRecursion (λ (x : Entry). is_asked x.event ≡ false → x.who ≡ now.number) es) is a.ask))).0
-
-all_moves : (c n : ℕ) (es : List Entry) → AllByRecursion (λ (x : Entry). is_asked x.event ≡ false → x.who ≡ n) es → AllByRecursion (λ (x : Entry). is_of c x.event ≡ true → x.who ≡ n) es
-all_moves c n [] h = tt
-all_moves c n (x ∷ es) h = (λ moves. h.0 (moves_asked c x.event moves), all_moves c n es h.1)
-
-moves_alone : (me : Knowledge) (c : ℕ) → OthersAsk me → MovesAlone me c
-moves_alone me c a = record { named = a.named; alone = all_moves c me.number me.front a.ask }
-
-asks_or : (b : Bool) → b ≢ false → b ≡ true
-asks_or true h = refl
-asks_or false h = absurd (h refl)
-
--- an entry added is of this caller with such an event, or of another, who asks
-ours_is : (P : Event → Type 0) (names : List ℕ) (n : ℕ) (x : Entry) → 0 < times n names → IsOwn P names n x → (is_asked x.event ≡ false → x.who ≡ n) → IsOurs P n x
-ours_is P names n x named own asks = elim (eqb_tells x.who n) [
-  | inl same ↦ inl (own (subst (λ (k : ℕ). 0 < times k names) (sym same.1) named))
-  | inr other ↦ let apart : x.who ≢ n = (λ is. absurd (let no = other.0 in grind (arith, nat_tests, is, no))) in inr (apart, asks_or (is_asked x.event) (λ no. apart (asks no)))
-]
-
-ours_are : (P : Event → Type 0) (names : List ℕ) (n : ℕ) (more : List Entry) → 0 < times n names → AllByRecursion (IsOwn P names n) more → AllByRecursion (λ (x : Entry). is_asked x.event ≡ false → x.who ≡ n) more → AllByRecursion (IsOurs P n) more
-ours_are P names n [] named own asks = tt
-ours_are P names n (x ∷ more) named own asks = (ours_is P names n x named own.0 asks.0, ours_are P names n more named own.1 asks.1)
-
-gained : (P : Event → Type 0) (was now : Knowledge) → IsOn was now → (h : GoesOn P was now.front) → OthersAsk now → AllByRecursion (IsOurs P was.number) h.more
-gained P was now on h a = ours_are P was.names was.number h.more (asks_before was now h.more on h.on a).named h.own (asks_more was now h.more on h.on a)
-
-none_ours : (n : ℕ) (more : List Entry) → AllByRecursion (IsOurs (λ e. ⊥) n) more → AllByRecursion (IsOther n) more
+none_ours : (n : ℕ) (more : List Entry) → AllByRecursion (IsOurs IsNone n) more → AllByRecursion (IsOther n) more
 none_ours n [] h = tt
 none_ours n (x ∷ more) h = (elim h.0 [ | inl own ↦ absurd own.1 | inr other ↦ other ], none_ours n more h.1)
 
@@ -105,7 +67,7 @@ onward was now more u u' lines lines' kn kn' s s' r r' on is step k asks legal =
     let g = settings_on was now on in
     let n = number_on was now on in
     let legal' : Legal was.of.settings (more ++ was.front) = subst (λ (t : Settings). Legal t (more ++ was.front)) g (subst (Legal now.of.settings) is legal) in
-    let before = k (asks_before was now more on is asks) (legal_before was.of.settings more was.front legal') in
+    let before = k (asks_back was now on more is asks) (legal_before was.of.settings more was.front legal') in
     let after = step asks legal' before in
     subst (λ (t : Settings). ServerCarries t now.front now.number lines' u' kn' s' r') (sym g)
     (subst (λ (i : ℕ). ServerCarries was.of.settings now.front i lines' u' kn' s' r') (sym n)
@@ -116,7 +78,7 @@ still : (me : Knowledge) (u u' : ℕ) (lines lines' : List Line) (kn kn' : Knows
 still me u u' lines lines' kn kn' s s' r r' step k asks legal = step (k asks legal)
 
 others_of : (was now : Knowledge) → IsOn was now → (f : Follows was.names was.front now.front) → OthersAsk now → AllByRecursion (IsOther was.number) f.0
-others_of was now on f asks = none_ours was.number f.0 (gained (λ e. ⊥) was now on (goes_follows (λ e. ⊥) was now.front f) asks)
+others_of was now on f asks = none_ours was.number f.0 (gained_others was now on f asks)
 
 -- it looked
 pub kept_looked : (was now : Knowledge) (u : ℕ) (lines : List Line) (kn : Knows) (s r : List Item) → IsOn was now → Follows was.names was.front now.front → IsReading u lines was kn s r → IsReading u lines now kn s r
@@ -124,15 +86,11 @@ kept_looked was now u lines kn s r on f = onward was now f.0 u u lines lines kn 
 
 -- ---- it told the session something
 
--- the caller before its own entry
-at_before : (was : Knowledge) (before : List Entry) → Knowledge
-at_before was before = record was { front = before }
-
 told_others : (g : Settings) (was now : Knowledge) (e : Event) (a : Answer) → IsOn was now → (t : HasTold g was now e a) → OthersAsk now → AllByRecursion (IsOther was.number) t.follows.0
 told_others g was now e a on t asks =
     let mid : Knowledge = record was { front = t.before } in
     let off : IsOn mid now = on in
-    let back : OthersAsk mid = asks_before mid now (entry_of was.number e a ∷ []) off t.is asks in
+    let back : OthersAsk mid = asks_back mid now off (entry_of was.number e a ∷ []) t.is asks in
     others_of was mid refl t.follows back
 
 kept_told : (g : Settings) (was now : Knowledge) (e : Event) (a : Answer) (u u' : ℕ) (lines lines' : List Line) (kn kn' : Knows) (s s' r r' : List Item) → IsOn was now → (t : HasTold g was now e a)
@@ -237,3 +195,46 @@ kept_answered me lines kn reader s s' r is none = still me 1 0 lines lines kn (k
 
 pub kept_followed : (me : Knowledge) (l : Line) (lines : List Line) (kn : Knows) (s r : List Item) → told_in l ≡ [] → IsReading 0 lines me kn s r → IsReading 0 (lines ++ l ∷ []) me kn s r
 kept_followed me l lines kn s r none = still me 0 0 lines (lines ++ l ∷ []) kn kn s s r r (λ c. followed me.of.settings me.front me.number lines l 0 kn s r none c)
+
+-- ---- another caller was joined in
+
+-- entries of callers of other numbers only ask
+asked_others : (me now : Knowledge) (others : List Entry) → now.number ≡ me.number → 0 < times me.number me.names → IsOthers who_of me.names others → AllByRecursion (λ (x : Entry). is_asked x.event ≡ false → x.who ≡ now.number) others → AllByRecursion (IsOther me.number) others
+asked_others me now [] same named o ask = tt
+asked_others me now (x ∷ others) same named o ask =
+    let here : once x.who me.number + calls who_of me.number others ≡ 0 = o me.number named in
+    let other : x.who ≢ me.number = λ is. absurd (let one = once_is x.who me.number is in omega (arith, here, one)) in
+    ((other, asks_or (is_asked x.event) (λ no. other (ask.0 no ∙ same))), asked_others me now others same named (λ y y_named. (let sum : once x.who y + calls who_of y others ≡ 0 = o y y_named in omega (arith, sum))) ask.1)
+  where
+    once_is : (a b : ℕ) → a ≡ b → once a b ≡ 1
+    once_is a b is = grind (arith, nat_tests, is)
+    asks_or : (b : Bool) → (b ≡ false → ⊥) → b ≡ true
+    asks_or true h = refl
+    asks_or false h = absurd (h refl)
+
+-- what is kept goes on where another caller was joined in, whose entries are on top
+pub server_joined : (me now : Knowledge) (lines : List Line) (kn : Knows) (s r : List Item) → now.of ≡ me.of → now.number ≡ me.number → 0 < times me.number me.names → Follows me.names me.front now.front → IsCarrying me lines kn s r → IsCarrying now lines kn s r
+server_joined me now lines kn s r of number named f k asks legal =
+    let g : now.of.settings ≡ me.of.settings = ap (λ (i : SharedId). i.settings) of in
+    let same : now.front ≡ f.0 ++ me.front = f.1 in
+    let all = all_split (λ (x : Entry). is_asked x.event ≡ false → x.who ≡ now.number) f.0 me.front (subst (λ (es : List Entry). AllByRecursion (λ (x : Entry). is_asked x.event ≡ false → x.who ≡ now.number) es) same asks.ask) in
+    let legal' : Legal me.of.settings (f.0 ++ me.front) = subst (λ (t : Settings). Legal t (f.0 ++ me.front)) g (subst (Legal now.of.settings) same legal) in
+    let before = k (record { named = named; ask = subst (λ (n : ℕ). AllByRecursion (λ (x : Entry). is_asked x.event ≡ false → x.who ≡ n) me.front) number all.1 }) (legal_before me.of.settings f.0 me.front legal') in
+    let after = over_others me.of.settings f.0 me.front me.number lines 0 kn s r (asked_others me now f.0 number named f.2 all.0) legal' before in
+    subst (λ (t : Settings). ServerCarries t now.front now.number lines 0 kn s r) (sym g)
+    (subst (λ (i : ℕ). ServerCarries me.of.settings now.front i lines 0 kn s r) (sym number)
+    (subst (λ (es : List Entry). ServerCarries me.of.settings es me.number lines 0 kn s r) (sym same) after))
+
+-- ---- at the end
+
+-- what the carrier hands back, where both ends have said that the script is over
+pub server_hands : (me : Knowledge) (lines : List Line) (kn : Knows) (sent received down up : List Item) → OthersAsk me → Legal me.of.settings me.front → down ≡ sent ++ item.Mark mark.End ∷ [] → up ≡ received ++ item.Mark mark.End ∷ [] → IsCarrying me lines kn sent received
+    → ServerHands me.of.settings me.front me.number lines kn (cuts sent) down up
+server_hands me lines kn sent received down up asks legal is_down is_up k =
+    subst (λ (l : List Item). ServerHands me.of.settings me.front me.number lines kn (cuts sent) l up) (sym is_down)
+    (subst (λ (l : List Item). ServerHands me.of.settings me.front me.number lines kn (cuts sent) (sent ++ item.Mark mark.End ∷ []) l) (sym is_up)
+    (hands me.of.settings me.front me.number lines kn sent received (k asks legal)))
+
+-- at first
+pub begun : (me : Knowledge) (reader : Rest) → me.front ≡ [] → reader.bytes ≡ [] → IsCarrying me [] (knows.Nothing reader) [] []
+begun me reader none empty asks legal = subst (λ (es : List Entry). ServerCarries me.of.settings es me.number [] 0 (knows.Nothing reader) [] []) (sym none) (carries_none me.of.settings me.number reader empty)

@@ -1,7 +1,7 @@
 pub mod Entries
 pub mod Adding
-pub mod Moving
-pub mod Opening
+pub mod Bytes
+pub mod OwnEntries
 pub mod Carried
 pub mod Handing
 pub mod Kept

@@ -50,7 +50,7 @@ pub record ServerHands (h : Settings) (S : List Entry) (number : ℕ) (lines : L
   -- the connection after the last cut
   pub here : IsHere h S place n down up knows
   pub cuts_down : cuts down ≡ n
-  pub cuts_up : cuts up ≡ n
+  pub both : cuts up ≡ n
   pub ended : IsEnded down
 
 -- what is kept of the server's carrier, by what its caller knows, where so many cuts are not answered: where the other callers only ask
