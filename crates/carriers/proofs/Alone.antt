@@ -61,3 +61,13 @@ IsNone e = ⊥
 -- where nothing of this caller was added
 pub gained_others : (me me' : Knowledge) → IsOn me me' → (f : Follows me.names me.front me'.front) → OthersAsk me' → AllByRecursion (IsOurs IsNone me.number) f.0
 gained_others me me' on f o = gained IsNone me me' on (goes_follows IsNone me me'.front f) o
+
+-- where other callers were joined into this one, whose entries follow
+pub joined_others : (me me' : Knowledge) → me'.number ≡ me.number → 0 < times me.number me.names → (f : Follows me.names me.front me'.front) → OthersAsk me' → OthersAsk me × AllByRecursion (IsOurs IsNone me.number) f.0
+joined_others me me' number named f o =
+    let all : AllByRecursion (λ (x : Entry). is_asked x.event ≡ false → x.who ≡ me.number) (f.0 ++ me.front) =
+    subst (λ (es : List Entry). AllByRecursion (λ (x : Entry). is_asked x.event ≡ false → x.who ≡ me.number) es) f.1 (subst (λ (n : ℕ). AllByRecursion (λ (x : Entry). is_asked x.event ≡ false → x.who ≡ n) me'.front) number o.ask) in
+    let parts = all_split (λ (x : Entry). is_asked x.event ≡ false → x.who ≡ me.number) f.0 me.front all in (
+      record { named = named; ask = parts.1 },
+      all_ours IsNone me.number me.names f.0 named (goes_follows IsNone me me'.front f).own parts.0,
+    )
