@@ -1,6 +1,6 @@
 -- What several entries leave as it was. Entries stand newest first.
 use Rattle.std.proofs.lemmas.Bool.Decides.{nat_tests}
-use Rattle.std.proofs.Common.{◌≡◌, ◌≢◌, ◌⊎◌, inl, inr, ◌∙◌, ℕ, Bool, true, false, List, [], ◌∷◌, ◌++◌, Option, Some, None, refl, ap, sym, subst, arith, append-nil}
+use Rattle.std.proofs.Common.{◌≡◌, ◌≢◌, inl, inr, ◌∙◌, ℕ, Bool, true, false, List, [], ◌∷◌, ◌++◌, Some, None, refl, arith, append-nil}
 use Rattle.std.specs.List.{AllByRecursion}
 use Rattle.rs_wire.specs.declared.settings.Settings.{Settings}
 use Rattle.outside.specs.Links.{Shown}
@@ -100,11 +100,11 @@ moves_asked c (event.Asked call) h = absurd (cc h)
 -- each is what an entry of ours is, and of those who ask
 pub ours_are : (P Q : Event → Type 0) (n : ℕ) → ((e : Event) → P e → Q e) → ((e : Event) → is_asked e ≡ true → Q e) → (more : List Entry) → AllByRecursion (IsOurs P n) more → AllByRecursion (λ (x : Entry). Q x.event) more
 ours_are P Q n f a [] h = tt
-ours_are P Q n f a (x ∷ more) h = (elim h.0 [ | inl own ↦ f x.event own.1 | inr other ↦ a x.event other.1 ], ours_are P Q n f a more h.1)
+ours_are P Q n f a (x ∷ more) h = (elim h.0 [ inl own ↦ f x.event own.1 | inr other ↦ a x.event other.1 ], ours_are P Q n f a more h.1)
 
 pub never_asks_block : (P : Event → Type 0) (n : ℕ) → ((e : Event) → P e → is_asked e ≡ false) → (more past : List Entry) → AllByRecursion (IsOurs P n) more → NeverAsks n past → NeverAsks n (more ++ past)
 never_asks_block P n f [] past h k = k
-never_asks_block P n f (x ∷ more) past h k = (elim h.0 [ | inl own ↦ λ is. f x.event own.1 | inr other ↦ λ is. absurd (other.0 is) ], never_asks_block P n f more past h.1 k)
+never_asks_block P n f (x ∷ more) past h k = (elim h.0 [ inl own ↦ λ is. f x.event own.1 | inr other ↦ λ is. absurd (other.0 is) ], never_asks_block P n f more past h.1 k)
 
 pub keeps_block : (g : Settings) (more past : List Entry) (s : Shown) (b : Between) → AllByRecursion (λ (x : Entry). is_of b.conn x.event ≡ false) more → Keeps g past s b → Keeps g (more ++ past) s b
 keeps_block g [] past s b h k = k

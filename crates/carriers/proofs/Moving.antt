@@ -8,10 +8,10 @@ use Rattle.tape.specs.declared.answer.Answer.{Answer}
 use Rattle.tape.specs.declared.entry.Entry.{Entry}
 use Rattle.rs_wire.specs.declared.settings.Settings.{Settings}
 use Rattle.conn_shared.specs.Members.{Follows, Knowledge}
-use Rattle.link_model.specs.Carrying.{Between, is_of}
+use Rattle.link_model.specs.Carrying.{Between}
 use Rattle.pump.specs.Halves.{and_given}
-use Rattle.pump.specs.Turns.{Arrives, DrawsSo, DrawsWhere, GoesOn, IsKept, Names, drawn_by}
-use Rattle.pump.proofs.Adding.{IsOn, goes_both, goes_called, goes_follows, goes_none, on_both}
+use Rattle.pump.specs.Turns.{DrawsWhere, GoesOn, IsKept, Names}
+use Rattle.pump.proofs.Adding.{IsOn, goes_both, goes_called, goes_follows, goes_none}
 use Rattle.pump.proofs.Keeping.{kept_follows}
 use Rattle.ring.specs.declared.item.Item.{Item}
 use Rattle.ring.specs.declared.item.Item.TheVariants as item
@@ -64,3 +64,7 @@ gives_both me mid now a b c x y z on h k = record {
   goes = goes_both (Names a.conn) me mid now.front on h.goes (subst (λ n. GoesOn (Names n) mid now.front) h.conn k.goes);
   kept = λ s kept. subst (λ (t : Shown). IsKept now t c) (given_both s h.piece k.piece) (k.kept (and_given s h.piece) (h.kept s kept));
 }
+
+-- a caller that has its note no more
+pub on_noted : (was now : Knowledge) → now ≡ record was { front = now.front; note = None } → IsOn was now
+on_noted was now e = e ∙ ap (λ (n : Option ℕ). record was { front = now.front; note = n }) (sym (ap (λ (x : Knowledge). x.note) e))

@@ -7,7 +7,7 @@ ghost use Rattle.pump.specs.Halves.{and_taken};
 ghost use Rattle.pump.specs.Turns.{Arrives, GoesOn, IsEmptied, IsKept};
 ghost use Rattle.rtrb.specs.Ring.{SameConsumer, received};
 ghost use Rattle.ring.specs.declared.item.Item.TheVariants as item;
-ghost use Rattle.carriers.specs.Moves.{HasHeard, HasLost, HasTaken, IfPlain, mark_for};
+ghost use Rattle.carriers.specs.Moves.{HasHeard, HasLost, HasTaken, mark_for};
 
 use crate::telling::stop_at;
 use conn::{Caller, Connection};

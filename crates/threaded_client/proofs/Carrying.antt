@@ -10,7 +10,8 @@ use Rattle.tape.specs.declared.answer.Answer.{Answer}
 use Rattle.tape.specs.declared.answer.Answer.TheVariants as answer
 use Rattle.session_model.specs.Joined.{is_accepted}
 use Rattle.session_model.specs.Legal.{Legal}
-use Rattle.conn_shared.specs.Members.{Knowledge}
+use Rattle.conn_lock.specs.Callers.{times}
+use Rattle.conn_shared.specs.Members.{Follows, Knowledge, SharedId}
 use Rattle.link_model.specs.Carrying.{Between, Keeps, is_of}
 use Rattle.pump.specs.Turns.{Arrives, GoesOn, IsKept, Names}
 use Rattle.pump.proofs.Adding.{IsOn}
@@ -27,7 +28,7 @@ use Rattle.carriers.specs.Alone.{IsOurs, OthersAsk, linked}
 use Rattle.carriers.specs.Moves.{HasGiven, HasHeard, HasLost, HasTaken, HasTold}
 use Rattle.carriers.proofs.Items.{Cuts, Grows, IsPlain, cuts_at_once, cuts_now, grows_bytes, grows_mark, grows_none, grows_read}
 use Rattle.carriers.proofs.Blocks.{accepted_block, asked_spares, keeps_block, ours_are}
-use Rattle.carriers.proofs.Alone.{IsNone, asks_back, gained, gained_others, moves_alone}
+use Rattle.carriers.proofs.Alone.{IsNone, asks_back, gained, gained_others, joined_others, moves_alone}
 use Rattle.threaded_client.specs.Carrying.{ClientCarries, IsCarrying, Joining, Joins, conn_of}
 use Rattle.threaded_client.proofs.Client.{client_adds, client_idle}
 use Rattle.threaded_client.specs.Handing.{ClientHands}
@@ -168,6 +169,17 @@ carrying_cut g me me' a lines b b' sent sent' received received' on h is lost k 
   where
     on_at : (me me' : Knowledge) (es : List Entry) → IsOn me me' → IsOn me (record me' { front = es })
     on_at me me' es on = ap (λ (y : Knowledge). record y { front = es }) on
+
+-- others were joined into the caller, whose entries follow
+pub client_joined : (me me' : Knowledge) (lines : List Line) (p : Option Between) (sent received : List Item) → me'.of ≡ me.of → me'.number ≡ me.number → 0 < times me.number me.names → Follows me.names me.front me'.front → IsCarrying me lines p sent received → IsCarrying me' lines p sent received
+client_joined me me' lines p sent received of number named f k o =
+    let both = joined_others me me' number named f o in
+    let others = f.0 in
+    let g : me'.of.settings ≡ me.of.settings = ap (λ (x : SharedId). x.settings) of in
+    subst (λ (t : Settings). ClientCarries t me'.front me'.number lines p sent received) (sym g) (subst (λ (n : ℕ). ClientCarries me.of.settings me'.front n lines p sent received) (sym number)
+        (subst (λ (es : List Entry). ClientCarries me.of.settings es me.number lines p sent received) (sym f.1)
+            (client_adds me.of.settings me.front others me.number lines p p IsNone [] [] sent sent received received (grows_none sent) (grows_none received) refl both.1 (λ v none. absurd none)
+                (λ given taken j. joins_same me.of.settings (others ++ me.front) p given taken (joins_block me.of.settings others me.front me.number p given taken both.1 j)) (k both.0))))
 
 -- it begins
 pub carrying_begun : (me : Knowledge) (sent received : List Item) → me.front ≡ [] → sent ≡ [] → received ≡ [] → IsCarrying me [] None sent received

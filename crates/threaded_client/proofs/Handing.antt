@@ -176,12 +176,13 @@ no_cut = refl
 one_mark : (xs : List Item) → cuts (xs ++ item.Mark mark.End ∷ []) ≡ cuts xs
 one_mark xs = let a = cuts_both xs (item.Mark mark.End ∷ []) in omega (arith, a, no_cut)
 
-present_is : (g : Settings) (past : List Entry) (p : Option Between) (conns : ℕ → ℕ) (m : ℕ) (gave took : List ℕ) (down : List Item) → conns m ≡ now_of p → part m down ≡ took → Joins g past p gave took → IfSome p (λ b. IsPresent g past conns m b down)
-present_is g past None conns m gave took down is same j = tt
-present_is g past (Some b) conns m gave took down is same j = record {
+present_is : (g : Settings) (past : List Entry) (p : Option Between) (conns : ℕ → ℕ) (m : ℕ) (gave took : List ℕ) (up down : List Item) → conns m ≡ now_of p → part m up ≡ gave → part m down ≡ took → Joins g past p gave took → IfSome p (λ b. IsPresent g past conns m b up down)
+present_is g past None conns m gave took up down is same also j = tt
+present_is g past (Some b) conns m gave took up down is same also j = record {
   is = is;
   some = above past b.conn j.keeps.opened;
-  read = subst (λ (l : List ℕ). HasRead (came past b.conn) (first_bad past b.conn) g.max_in b.rest l) (sym same) j.keeps.taken;
+  left = j.left;
+  keeps = subst (λ (l : List ℕ). Keeps g past (linked l (part m down)) b) (sym same) (subst (λ (l : List ℕ). Keeps g past (linked gave l) b) (sym also) j.keeps);
 }
 
 -- all that it hands back, once the end was pushed and read
@@ -198,7 +199,8 @@ client_hands g past n lines p sent received c =
       acts = acts_of None lines (acts past) (conn_of p) c.follows;
       cut = λ k lt. let less : k < m = omega (arith, lt, same) in subst (λ (d : ℕ). has_cut past d ≡ true) (sym (is_before m p c.conn k less)) (c.former k less).cut;
       never_asks = c.never_asks;
-      present = subst (λ (j : ℕ). IfSome p (λ b. IsPresent g past conns j b down)) (sym same) (present_is g past p conns m (part m sent) (part m received) down (is_here m p c.conn) (part_marked m received mark.End) c.here);
+      present = subst (λ (j : ℕ). IfSome p (λ b. IsPresent g past conns j b up down)) (sym same) (present_is g past p conns m (part m sent) (part m received) up down (is_here m p c.conn) (part_marked m sent mark.End) (part_marked m received mark.End) c.here);
+      both = one_mark received ∙ (c.both ∙ sym same);
       none = λ is. ap conns same ∙ (is_here m p c.conn ∙ ap now_of is);
       ended = (sent, refl, c.not_ended);
       finished = (received, refl);
