@@ -5,3 +5,4 @@ pub mod OwnEntries
 pub mod Carried
 pub mod Handing
 pub mod Kept
+pub mod Steps

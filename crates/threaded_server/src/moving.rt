@@ -6,6 +6,7 @@ ghost use Rattle.rtrb.specs.Ring.{SameConsumer, SameProducer, received, sent};
 ghost use Rattle.ring.specs.declared.item.Item.TheVariants as item;
 ghost use Rattle.ring.specs.declared.item.Mark.TheVariants as mark;
 ghost use Rattle.ring.specs.Parts.{bytes_of, cuts};
+ghost use Rattle.carriers.specs.Moves.{mark_for};
 ghost use Rattle.threaded_server.specs.Carrying.{IsEmptiedOn, IsSound, KeepsOn};
 ghost use Rattle.threaded_server.specs.Moves.{HasFilled, HasPassed, HasPushed};
 
@@ -84,6 +85,13 @@ fn push_refusal<R: Wait>(
         }
         Err(_) => Err(Stop::Gone),
     }
+}
+
+// The mark between two halves of a round.
+fn between(more: bool) -> Mark
+    ensures { result ≡ mark_for more }
+{
+    if more { Mark::More } else { Mark::Line }
 }
 
 impl<T: Tape> ServerCarrier<T> {
@@ -271,7 +279,7 @@ impl<T: Tape> ServerCarrier<T> {
             self.old.knows self.new.knows (sent self.old.out) (sent self.new.out)
             (received self.old.from) (received self.new.from)) }
     {
-        push_mark(rt, &mut self.out, if more { Mark::More } else { Mark::Line })
+        push_mark(rt, &mut self.out, between(more))
     }
 
     // A round: whether another is due.

@@ -1,6 +1,6 @@
 //! The first frame of a connection.
 
-ghost use Rattle.std.specs.Prelude.{◌≡◌, ◌<◌, ◌^◌, ◌∷◌, [], IfOk, IfSome, None};
+ghost use Rattle.std.specs.Prelude.{◌≡◌, ◌<◌, ◌^◌, [], false, IfOk, IfSome, None, Some};
 ghost use Rattle.rs_wire.specs.declared.words.Side.TheVariants.{Server};
 ghost use Rattle.rs_frame.specs.Framed.{framed_all};
 ghost use Rattle.rs_chunk.specs.Stream.{IsWhole};
@@ -11,7 +11,7 @@ ghost use Rattle.session_core.specs.Seen.{IsNoDrawEvent};
 ghost use Rattle.tape.specs.declared.event.Event.TheVariants as events;
 ghost use Rattle.threaded_model.specs.Threaded.{made_by};
 ghost use Rattle.threaded_server.specs.Begun.{HasBegun, HasOpened, IsBegun, IsFirst, Passes};
-ghost use Rattle.threaded_server.specs.Carrying.{IsSound};
+
 
 use crate::knows::Knows;
 use carriers::tell;
