@@ -15,7 +15,6 @@ use Rattle.session_model.specs.Frames.{refusal}
 use Rattle.session_model.specs.Joined.{IsOpening, only, refused}
 use Rattle.link_model.specs.Carrying.{Between, Keeps, is_of}
 use Rattle.cable_script.specs.declared.line.Line.{Line}
-use Rattle.cable_script.specs.declared.line.Line.TheVariants as line
 use Rattle.ring.specs.declared.item.Mark.{Mark}
 use Rattle.ring.specs.declared.item.Mark.TheVariants as mark
 use Rattle.ring.specs.declared.item.Item.{Item}
@@ -252,11 +251,11 @@ unfolding told_by
 told_last [] l = append-nil (told_in l)
 told_last (x ∷ lines) l = ap (λ (t : List ℕ). told_in x ++ t) (told_last lines l) ∙ sym (append_assoc (told_in x) (told_by lines) (told_in l))
 
--- it ticked
-pub ticked : (h : Settings) (S : List Entry) (x : Entry) (number now : ℕ) (lines : List Line) (u : ℕ) (kn : Knows) (sent received : List Item) → x.event ≡ event.Tick now → Legal h (x ∷ S) → ServerCarries h S number lines u kn sent received → ServerCarries h (x ∷ S) number (lines ++ line.Tick now ∷ []) u kn sent received
-ticked h S x number now lines u kn sent received is legal s = record {
+-- it ticked, by a line that tells this moment
+pub ticked : (h : Settings) (S : List Entry) (x : Entry) (number now : ℕ) (lines : List Line) (l : Line) (u : ℕ) (kn : Knows) (sent received : List Item) → x.event ≡ event.Tick now → told_in l ≡ now ∷ [] → Legal h (x ∷ S) → ServerCarries h S number lines u kn sent received → ServerCarries h (x ∷ S) number (lines ++ l ∷ []) u kn sent received
+ticked h S x number now lines l u kn sent received is tells legal s = record {
   place = s.place;
-  served = subst (λ (t : List ℕ). HasServed h (x ∷ S) number s.place t sent received) (sym (told_last lines (line.Tick now))) (served_ticking h S x number now s.place (told_by lines) sent received is s.served);
+  served = subst (λ (t : List ℕ). HasServed h (x ∷ S) number s.place t sent received) (sym (told_last lines l ∙ ap (λ (t : List ℕ). told_by lines ++ t) tells)) (served_ticking h S x number now s.place (told_by lines) sent received is s.served);
   here = here_spared h (x ∷ []) S s.place (cuts sent) sent received kn (spare_tick x now is, tt) legal s.here;
   both = s.both;
   empty = s.empty;

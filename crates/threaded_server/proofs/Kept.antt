@@ -25,7 +25,6 @@ use Rattle.pump.specs.Turns.{Arrives, GoesOn, MovesAlone, Names}
 use Rattle.pump.proofs.Adding.{IsOn, all_split, goes_as}
 use Rattle.pump.proofs.Events.{arrives_names}
 use Rattle.cable_script.specs.declared.line.Line.{Line}
-use Rattle.cable_script.specs.declared.line.Line.TheVariants as line
 use Rattle.ring.specs.declared.item.Mark.{Mark}
 use Rattle.ring.specs.declared.item.Mark.TheVariants as mark
 use Rattle.ring.specs.declared.item.Item.{Item}
@@ -104,8 +103,8 @@ kept_told g was now e a u u' lines lines' kn kn' s s' r r' on t step =
     subst (λ (es : List Entry). ServerCarries was.of.settings (x ∷ es) was.number lines' u' kn' s' r') same
     (step (subst (λ (es : List Entry). Legal was.of.settings (x ∷ es)) (sym same) legal) (subst (λ (es : List Entry). ServerCarries was.of.settings es was.number lines u kn s r) (sym same) over)))
 
-pub kept_tick : (g : Settings) (was now : Knowledge) (moment : ℕ) (a : Answer) (u : ℕ) (lines : List Line) (kn : Knows) (s r : List Item) → IsOn was now → HasTold g was now (event.Tick moment) a → IsReading u lines was kn s r → IsReading u (lines ++ line.Tick moment ∷ []) now kn s r
-kept_tick g was now moment a u lines kn s r on t = kept_told g was now (event.Tick moment) a u u lines (lines ++ line.Tick moment ∷ []) kn kn s s r r on t (λ legal c. ticked was.of.settings t.before (entry_of was.number (event.Tick moment) a) was.number moment lines u kn s r refl legal c)
+pub kept_tick : (g : Settings) (was now : Knowledge) (moment : ℕ) (a : Answer) (u : ℕ) (lines : List Line) (l : Line) (kn : Knows) (s r : List Item) → IsOn was now → told_in l ≡ moment ∷ [] → HasTold g was now (event.Tick moment) a → IsReading u lines was kn s r → IsReading u (lines ++ l ∷ []) now kn s r
+kept_tick g was now moment a u lines l kn s r on tells t = kept_told g was now (event.Tick moment) a u u lines (lines ++ l ∷ []) kn kn s s r r on t (λ legal c. ticked was.of.settings t.before (entry_of was.number (event.Tick moment) a) was.number moment lines l u kn s r refl tells legal c)
 
 pub kept_cut : (g : Settings) (was now : Knowledge) (conn : ℕ) (b : Between) (a : Answer) (u : ℕ) (lines : List Line) (s r : List Item) → IsOn was now → b.conn ≡ conn → HasTold g was now (event.Cut conn) a → IsReading (suc u) lines was (knows.Accepted conn b) s r → IsReading (suc u) lines now (knows.Accepted conn b) s r
 kept_cut g was now conn b a u lines s r on same t = kept_told g was now (event.Cut conn) a (suc u) (suc u) lines lines (knows.Accepted conn b) (knows.Accepted conn b) s s r r on t (λ legal c. cut_here was.of.settings t.before (entry_of was.number (event.Cut conn) a) was.number lines u conn b s r (ap event.Cut (sym same)) legal c)

@@ -1,6 +1,8 @@
 -- What is kept goes on over each call, in the words of the contracts.
-use Rattle.std.proofs.Common.{◌≡◌, ◌∙◌, ◌+◌, ℕ, suc, Bool, true, false, List, [], ◌∷◌, ◌++◌, take, drop, Result, Ok, Err, OnOk, refl, ap, sym, subst}
+use Rattle.std.proofs.lemmas.List.{take_all, take_more}
+use Rattle.std.proofs.Common.{◌≡◌, ◌<◌, ◌≤◌, ◌∙◌, ◌+◌, append_assoc, get_or, length, ℕ, suc, Bool, true, false, List, [], ◌∷◌, ◌++◌, take, drop, Option, Some, IfSome, Result, Ok, Err, OnOk, refl, ap, sym, subst}
 use Rattle.rs_wire.specs.declared.settings.Settings.{Settings}
+use Rattle.rs_frame.specs.declared.frame.Frame.{Frame}
 use Rattle.rs_chunk.specs.Rest.{Rest}
 use Rattle.tape.specs.declared.event.Event.TheVariants as event
 use Rattle.tape.specs.declared.answer.Answer.{Answer}
@@ -9,7 +11,6 @@ use Rattle.conn_shared.specs.Members.{Follows, Knowledge}
 use Rattle.link_model.specs.Carrying.{Between}
 use Rattle.pump.proofs.Adding.{IsOn}
 use Rattle.cable_script.specs.declared.line.Line.{Line}
-use Rattle.cable_script.specs.declared.line.Line.TheVariants as line
 use Rattle.ring.specs.declared.item.Mark.{Mark}
 use Rattle.ring.specs.declared.item.Mark.TheVariants as mark
 use Rattle.ring.specs.declared.item.Item.{Item}
@@ -20,10 +21,10 @@ use Rattle.carriers.specs.Moves.{HasGiven, HasHeard, HasTaken, HasTold, mark_for
 use Rattle.carriers.proofs.Items.{Grows, grows_mark}
 use Rattle.threaded_server.specs.declared.knows.Knows.{Knows}
 use Rattle.threaded_server.specs.declared.knows.Knows.TheVariants as knows
-use Rattle.threaded_server.specs.Begun.{HasBegun}
-use Rattle.threaded_server.specs.Carrying.{IsCarrying, IsReading, KeepsOn}
+use Rattle.threaded_server.specs.Begun.{HasBegun, HasOpened, IsBegun, IsFirst, Passes}
+use Rattle.threaded_server.specs.Carrying.{IsCarrying, IsReading, IsSound, KeepsOn}
 use Rattle.threaded_server.specs.Moves.{HasFilled, HasPassed, HasPushed}
-use Rattle.threaded_server.proofs.Kept.{kept_answered, kept_begun, kept_cut, kept_filled, kept_followed, kept_given, kept_heard, kept_looked, kept_marked, kept_passed, kept_pushed, kept_taken, kept_tick}
+use Rattle.threaded_server.proofs.Kept.{kept_answered, kept_begun, kept_cut, kept_filled, kept_followed, kept_given, kept_heard, kept_looked, kept_marked, kept_passed, kept_pushed, kept_taken}
 
 -- ---- results
 
@@ -34,6 +35,9 @@ on_ok (Err e) P Q f h = tt
 pub if_on : {X E : Type 0} (r : Result X E) (Q : Type 0) → Q → OnOk r Q
 if_on (Ok x) Q q = q
 if_on (Err e) Q q = tt
+
+pub at_some : {X : Type 0} (o : Option X) (x : X) (P : X → Type 0) → o ≡ Some x → IfSome o P → P x
+at_some {X} o x P is h = subst (λ (v : Option X). IfSome v P) is h
 
 -- ---- steps
 
@@ -95,3 +99,31 @@ cuts_there g u was now kn conn b a s r on is same t = subst (λ (k : Knows). Kee
 -- a line that tells no moment
 pub follows : (was now : Knowledge) (l : Line) (lines : List Line) (kn kn' : Knows) (s s' r r' : List Item) → told_in l ≡ [] → KeepsOn 0 0 was now kn kn' s s' r r' → IsCarrying was lines kn s r → IsCarrying now (lines ++ l ∷ []) kn' s' r'
 follows was now l lines kn kn' s s' r r' none f k = kept_followed now l lines kn' s' r' none (f lines k)
+
+-- the first frame in front opened a connection
+pub begun_by : (g : Settings) (was now : Knowledge) (frame : Frame) (o : Option Frame) (reader rest : Rest) (kn : Knows) → o ≡ Some frame → IfSome o (IsFirst reader) → rest.max_in ≡ reader.max_in → Passes reader.bytes rest.bytes → HasOpened g was now (event.Open (Some frame) false) rest kn → HasBegun g was now reader kn
+begun_by g was now frame o reader rest kn is first limit passes opened = record {
+  frame = frame;
+  rest = rest.bytes;
+  answer = opened.0;
+  told = opened.1;
+  spells = (at_some o frame (IsFirst reader) is first).1;
+  passes = passes;
+  is = subst (λ (most : ℕ). IsBegun most opened.0 rest.bytes kn) limit opened.2;
+}
+
+-- the number is that of the pump
+pub number_is : (g : Settings) (kn : Knows) (conn : ℕ) (b : Between) → kn ≡ knows.Accepted conn b → IsSound g kn → b.conn ≡ conn
+number_is g kn conn b is sound = (subst (IsSound g) is sound).1
+
+-- ---- lines
+
+-- a line more was followed
+pub one_more : (me : Knowledge) (before lines : List Line) (i : ℕ) (l : Line) (kn : Knows) (s r : List Item) → i < length lines → l ≡ get_or lines i l → IsCarrying me ((before ++ take i lines) ++ l ∷ []) kn s r → IsCarrying me (before ++ take (i + 1) lines) kn s r
+one_more me before lines i l kn s r lt is k =
+    let more : take (i + 1) lines ≡ take i lines ++ l ∷ [] = take_more lines i l lt ∙ ap (λ (x : Line). take i lines ++ x ∷ []) (sym is) in
+    subst (λ (ls : List Line). IsCarrying me ls kn s r) (append_assoc before (take i lines) (l ∷ []) ∙ ap (λ (ls : List Line). before ++ ls) (sym more)) k
+
+-- all were followed
+pub all_followed : (me : Knowledge) (before lines : List Line) (i : ℕ) (kn : Knows) (s r : List Item) → length lines ≤ i → IsCarrying me (before ++ take i lines) kn s r → IsCarrying me (before ++ lines) kn s r
+all_followed me before lines i kn s r le k = subst (λ (ls : List Line). IsCarrying me (before ++ ls) kn s r) (take_all i lines le) k

@@ -1,10 +1,10 @@
 //! The lines of a script, in order.
 
-ghost use Rattle.std.specs.Prelude.{◌≡◌, ◌++◌, ◌∷◌, ℕ, List, [], OnOk};
+ghost use Rattle.std.specs.Prelude.{◌≡◌, ◌++◌, ◌∷◌, List, [], true, option_to_list, OnOk};
 ghost use Rattle.rs_wire.specs.declared.words.Side.TheVariants.{Server};
 ghost use Rattle.cable_script.specs.declared.line.Line.{Line as Followed};
-ghost use Rattle.cable_script.specs.declared.line.Line.TheVariants as script;
 ghost use Rattle.rtrb.specs.Ring.{SameConsumer, SameProducer, received, sent};
+ghost use Rattle.threaded_model.specs.Threaded.{told_in};
 ghost use Rattle.threaded_server.specs.Carrying.{IsCarrying, IsSound, KeepsOn};
 
 use crate::carrier::ServerCarrier;
@@ -17,6 +17,23 @@ use rs_chunk::Reader;
 use std::alloc::Global;
 use std::sync::Wait;
 use tape::{Event, Tape};
+
+// Whether it is the mark of a cut.
+fn is_cut(mark: Mark) -> bool
+    ensures { result ≡ true → mark ≡ Mark.Cut }
+{
+    matches!(mark, Mark::Cut)
+}
+
+// The moment that a line tells.
+fn moment_of(line: &Line) -> Option<u64>
+    ensures { told_in line.now ≡ option_to_list result }
+{
+    match line {
+        Line::Tick { now } => Some(*now),
+        _ => None,
+    }
+}
 
 impl<T: Tape> ServerCarrier<T> {
     // Cuts the connection that joins the ends, where it was accepted and is live.
@@ -113,7 +130,8 @@ impl<T: Tape> ServerCarrier<T> {
             (received self.old.from) (received self.new.from)) }
     {
         let heard = self.read(rt, alloc, connection)?;
-        if heard.mark == Mark::Cut {
+        let cut = is_cut(heard.mark);
+        if cut {
             return self.answer(rt, alloc, connection);
         }
         is_more(heard.mark)?;
@@ -130,10 +148,10 @@ impl<T: Tape> ServerCarrier<T> {
         ensures out { self.new.out ≡ self.old.out }
         ensures from { self.new.from ≡ self.old.from }
         ensures knows { self.new.knows ≡ self.old.knows }
-        ensures kept { OnOk result ((lines : List Followed) → IsCarrying self.old.caller lines
-            self.old.knows (sent self.old.out) (received self.old.from) →
-            IsCarrying self.new.caller (lines ++ script.Tick now ∷ []) self.new.knows (sent self.new.out)
-            (received self.new.from)) }
+        ensures kept { OnOk result ((lines : List Followed) (l : Followed) → told_in l ≡ now ∷ [] →
+            IsCarrying self.old.caller lines self.old.knows (sent self.old.out)
+            (received self.old.from) → IsCarrying self.new.caller (lines ++ l ∷ []) self.new.knows
+            (sent self.new.out) (received self.new.from)) }
     {
         tell(rt, connection, &mut self.caller, &Event::Tick { now })?;
         Ok(())
@@ -188,6 +206,37 @@ impl<T: Tape> ServerCarrier<T> {
         Ok(())
     }
 
+    // Moves the bytes that a line moves, or answers the cut.
+    fn carry<R: Wait>(
+        &mut self,
+        rt: &R,
+        alloc: Global,
+        connection: &Connection<T>,
+        line: &Line,
+    ) -> Result<(), Stop>
+        requires of { self.old.caller.of ≡ connection.now }
+        requires server { connection.now.settings.side ≡ Server }
+        requires sound { IsSound connection.now.settings self.old.knows }
+        ensures same { self.new.caller ≡ record self.old.caller {
+          front = self.new.caller.front;
+          note = self.new.caller.note;
+        } }
+        ensures out { SameProducer self.old.out self.new.out }
+        ensures from { SameConsumer self.old.from self.new.from }
+        ensures sound { OnOk result (IsSound connection.now.settings self.new.knows) }
+        ensures kept { OnOk result (KeepsOn 0 0 self.old.caller self.new.caller
+            self.old.knows self.new.knows (sent self.old.out) (sent self.new.out)
+            (received self.old.from) (received self.new.from)) }
+    {
+        match line {
+            Line::Up { .. } => self.line_up(rt, alloc, connection),
+            Line::Down { most } => self.line_down(rt, connection, u64::from(most.get())),
+            Line::Drain => self.drain(rt, alloc, connection),
+            Line::Cut => self.cut(rt, alloc, connection),
+            _ => Ok(()),
+        }
+    }
+
     // Does what a line does at the server's carrier.
     fn line<R: Wait>(
         &mut self,
@@ -211,17 +260,9 @@ impl<T: Tape> ServerCarrier<T> {
             IsCarrying self.new.caller (lines ++ line.now ∷ []) self.new.knows (sent self.new.out)
             (received self.new.from)) }
     {
-        match line {
-            Line::Up { .. } => self.line_up(rt, alloc, connection),
-            Line::Down { most } => self.line_down(rt, connection, u64::from(most.get())),
-            Line::Drain => self.drain(rt, alloc, connection),
-            Line::Cut => self.cut(rt, alloc, connection),
-            Line::Tick { now } => self.tick(rt, connection, *now),
-            Line::Open
-            | Line::Ask { .. }
-            | Line::Many { .. }
-            | Line::Drop
-            | Line::Late { .. } => Ok(()),
+        match moment_of(line) {
+            Some(now) => self.tick(rt, connection, now),
+            None => self.carry(rt, alloc, connection, line),
         }
     }
 

@@ -5,7 +5,7 @@ use Rattle.threaded_server.proofs.carrier.ServerCarrier.down.Goals as goal
 pub returns-in_ok-send-in-Accepted-clause-kept : goal.returns-in_ok-send-in-Accepted-clause-kept
 returns-in_ok-send-in-Accepted-clause-kept g c =
     let self = c.args.self.now in
-    gives self.caller c.send.new.caller self.knows c.in-Accepted.conn c.in-Accepted.pump c.send.new.pump (sent self.out) (sent c.send.new.out) (received self.from) c.send.ensures.same c.in-Accepted.is c.in_ok-send.ensures.gave c.in_ok-send.ensures.left
+    gives self.caller c.send.new.caller self.knows c.in-Accepted.conn c.in-Accepted.pump c.send.new.pump (sent self.out) (sent c.send.new.out) (received self.from) c.send.ensures.same c.in-Accepted.is c.in_ok-send-in-Accepted.ensures.gave c.in_ok-send-in-Accepted.ensures.left
 
 pub returns-in-Refused-clause-kept : goal.returns-in-Refused-clause-kept
 returns-in-Refused-clause-kept g c =
