@@ -8,7 +8,7 @@ ghost use Rattle.carriers.specs.Moves.{HasGiven};
 
 use crate::telling::stop_at;
 use conn::{Caller, Connection};
-use pump::Pump;
+use pump::{PIECE, Pump};
 use ring::{Item, Mark, Stop, push, push_bytes};
 use rtrb::Producer;
 use std::sync::Wait;
@@ -62,9 +62,13 @@ pub fn give<T: Tape, R: Wait>(
     Ok(count)
 }
 
-// The less of the two.
+// At most what is left, and what one draw has room for.
 fn at_most(left: u64) -> usize {
-    if left < 16_384 { left as usize } else { 16_384 }
+    if left < PIECE as u64 {
+        left as usize
+    } else {
+        PIECE
+    }
 }
 
 /// Draws what is queued now, at most `most` bytes of it, and pushes it: whether there was something.

@@ -41,7 +41,7 @@ carries_as me me' past lines p sent received on is k =
     let number : me'.number ≡ me.number = ap (λ (x : Knowledge). x.number) on in
     let g : me'.of.settings ≡ me.of.settings = ap (λ (x : Knowledge). x.of.settings) on in
     subst (λ (t : Settings). ClientCarries t me'.front me'.number lines p sent received) (sym g) (subst (λ (es : List Entry). ClientCarries me.of.settings es me'.number lines p sent received) (sym is)
-        (subst (λ (n : ℕ). ClientCarries me.of.settings past n lines p sent received) (sym number) k))
+    (subst (λ (n : ℕ). ClientCarries me.of.settings past n lines p sent received) (sym number) k))
 
 keeps_as : (me me' : Knowledge) (past : List Entry) (given taken : List ℕ) (b : Between) → IsOn me me' → me'.front ≡ past → Keeps me'.of.settings me'.front (linked given taken) b → Keeps me.of.settings past (linked given taken) b
 keeps_as me me' past given taken b on is k =
@@ -126,7 +126,7 @@ before_told g me me' e a lines p sent received on h o k =
     let ours : AllByRecursion (IsOurs IsNone me.number) others = gained_others me mid refl h.follows here in
     subst (λ (es : List Entry). ClientCarries me.of.settings es me.number lines p sent received) (sym h.follows.1)
     (client_adds me.of.settings me.front others me.number lines p p IsNone [] [] sent sent received received (grows_none sent) (grows_none received) refl ours (λ v none. absurd none)
-        (λ given taken j. joins_same me.of.settings (others ++ me.front) p given taken (joins_block me.of.settings others me.front me.number p given taken ours j)) (k back))
+    (λ given taken j. joins_same me.of.settings (others ++ me.front) p given taken (joins_block me.of.settings others me.front me.number p given taken ours j)) (k back))
 
 -- a moment was told
 pub carrying_ticked : (g : Settings) (me me' : Knowledge) (a : Answer) (lines : List Line) (p : Option Between) (now : ℕ) (sent received : List Item) → IsOn me me' → HasTold g me me' (event.Tick now) a → IsCarrying me lines p sent received → IsCarrying me' (lines ++ line.Tick now ∷ []) p sent received
@@ -160,12 +160,12 @@ carrying_cut g me me' a lines b b' sent sent' received received' on h is lost k 
     let down : Cuts lost.bytes received received' = subst (λ (l : List Item). Cuts lost.bytes received l) (sym lost.read) (cuts_now received lost.bytes) in
     carries_as me me' (x ∷ h.before) (lines ++ line.Cut ∷ []) None sent' received' on h.is
     (client_cut me.of.settings h.before me.number lines b b' [] lost.bytes sent sent' received received' x refl refl up down lost.conn (lost.left ∙ before.here.left) (λ s t keeps.
-        let at : Knowledge = record me' { front = x ∷ h.before } in
-        let there : OthersAsk at = subst (λ (es : List Entry). OthersAsk (record me' { front = es })) h.is o in
-        let there_on : IsOn me at = on_at me me' (x ∷ h.before) on in
-        let kept : IsKept at (linked s t) b = λ alone. subst (λ (w : Settings). Keeps w (x ∷ h.before) (linked s t) b) (sym (ap (λ (y : Knowledge). y.of.settings) there_on)) keeps in
-        subst (λ (l : List ℕ). Keeps me.of.settings (x ∷ h.before) (linked l (t ++ lost.bytes)) b') (sym (append-nil s))
-        (keeps_as me at (x ∷ h.before) s (t ++ lost.bytes) b' there_on refl (lost.kept at (linked s t) kept (moves_alone at b'.conn there)))) before)
+    let at : Knowledge = record me' { front = x ∷ h.before } in
+    let there : OthersAsk at = subst (λ (es : List Entry). OthersAsk (record me' { front = es })) h.is o in
+    let there_on : IsOn me at = on_at me me' (x ∷ h.before) on in
+    let kept : IsKept at (linked s t) b = λ alone. subst (λ (w : Settings). Keeps w (x ∷ h.before) (linked s t) b) (sym (ap (λ (y : Knowledge). y.of.settings) there_on)) keeps in
+    subst (λ (l : List ℕ). Keeps me.of.settings (x ∷ h.before) (linked l (t ++ lost.bytes)) b') (sym (append-nil s))
+    (keeps_as me at (x ∷ h.before) s (t ++ lost.bytes) b' there_on refl (lost.kept at (linked s t) kept (moves_alone at b'.conn there)))) before)
   where
     on_at : (me me' : Knowledge) (es : List Entry) → IsOn me me' → IsOn me (record me' { front = es })
     on_at me me' es on = ap (λ (y : Knowledge). record y { front = es }) on
@@ -177,9 +177,9 @@ client_joined me me' lines p sent received of number named f k o =
     let others = f.0 in
     let g : me'.of.settings ≡ me.of.settings = ap (λ (x : SharedId). x.settings) of in
     subst (λ (t : Settings). ClientCarries t me'.front me'.number lines p sent received) (sym g) (subst (λ (n : ℕ). ClientCarries me.of.settings me'.front n lines p sent received) (sym number)
-        (subst (λ (es : List Entry). ClientCarries me.of.settings es me.number lines p sent received) (sym f.1)
-            (client_adds me.of.settings me.front others me.number lines p p IsNone [] [] sent sent received received (grows_none sent) (grows_none received) refl both.1 (λ v none. absurd none)
-                (λ given taken j. joins_same me.of.settings (others ++ me.front) p given taken (joins_block me.of.settings others me.front me.number p given taken both.1 j)) (k both.0))))
+    (subst (λ (es : List Entry). ClientCarries me.of.settings es me.number lines p sent received) (sym f.1)
+    (client_adds me.of.settings me.front others me.number lines p p IsNone [] [] sent sent received received (grows_none sent) (grows_none received) refl both.1 (λ v none. absurd none)
+    (λ given taken j. joins_same me.of.settings (others ++ me.front) p given taken (joins_block me.of.settings others me.front me.number p given taken both.1 j)) (k both.0))))
 
 -- it begins
 pub carrying_begun : (me : Knowledge) (sent received : List Item) → me.front ≡ [] → sent ≡ [] → received ≡ [] → IsCarrying me [] None sent received

@@ -77,7 +77,14 @@ impl<T: Tape> ClientCarrier<T> {
         match &mut self.pump {
             None => is_more(skip(rt, alloc, &mut self.from)?),
             Some(pump) => {
-                let heard = take(rt, alloc, connection, &mut self.caller, pump, &mut self.from)?;
+                let heard = take(
+                    rt,
+                    alloc,
+                    connection,
+                    &mut self.caller,
+                    pump,
+                    &mut self.from,
+                )?;
                 let more = is_more(heard.mark)?;
                 Ok(heard.moved || more)
             }

@@ -1,6 +1,6 @@
 //! Connections are opened and cut, and moments told.
 
-ghost use Rattle.std.specs.Prelude.{◌≡◌, ◌<◌, ◌^◌, ◌++◌, ◌∷◌, [], List, false, IfOk,  OnOk};
+ghost use Rattle.std.specs.Prelude.{◌≡◌, ◌<◌, ◌^◌, ◌++◌, ◌∷◌, [], List, false, IfOk, OnOk};
 ghost use Rattle.rtrb.specs.Ring.{SameConsumer, SameProducer, received, sent};
 ghost use Rattle.rs_wire.specs.declared.words.Side.TheVariants.{Client};
 ghost use Rattle.cable_script.specs.declared.line.Line.{Line};
