@@ -1,10 +1,8 @@
 -- What is kept goes on where entries are added that move no bytes but those of the connection that joins the ends.
-use Rattle.std.proofs.Common.{◌≡◌, ◌≢◌, ◌<◌, ◌≤◌, ◌+◌, ◌==◌, ◌||◌, ◌⊎◌, inl, inr, ℕ, Bool, true, false, List, [], ◌∷◌, ◌++◌, refl, ap, sym, ◌∙◌, subst, arith, append-nil, true≢false}
+use Rattle.std.proofs.Common.{◌≡◌, ◌≢◌, ◌<◌, ◌==◌, ◌||◌, inl, inr, ℕ, Bool, true, false, List, [], ◌∷◌, ◌++◌, refl, ap, sym, ◌∙◌, arith, append-nil, true≢false}
 use Rattle.std.proofs.lemmas.Bool.Decides.{nat_tests}
-use Rattle.std.proofs.lemmas.Grind.{common_steps}
 use Rattle.std.specs.List.{AllByRecursion}
 use Rattle.rs_wire.specs.declared.settings.Settings.{Settings}
-use Rattle.rs_frame.specs.declared.frame.Frame.{Frame}
 use Rattle.rs_frame.specs.Framed.{framed_all}
 use Rattle.tape.specs.declared.event.Event.{Event}
 use Rattle.tape.specs.declared.event.Event.TheVariants as event
@@ -19,8 +17,8 @@ use Rattle.ring.specs.declared.item.Item.{Item}
 use Rattle.ring.specs.Parts.{cuts, part}
 use Rattle.threaded_model.specs.Threaded.{cuts_in, has_cut, is_asked, moment_in, moments}
 use Rattle.carriers.specs.Alone.{IsOurs, linked}
-use Rattle.threaded_server.specs.Serving.{HasAccepted, HasRefused, HasServed, IsAt, IsServed, KnowsNothing}
-use Rattle.threaded_server.proofs.Entries.{first_on, off_on, opened_by, opening_back, opening_on, read_on, refused_on, served_on}
+use Rattle.threaded_server.specs.Serving.{HasAccepted, HasRefused, HasServed, IsAt, KnowsNothing}
+use Rattle.threaded_server.proofs.Entries.{first_on, off_on, opening_back, opening_on, read_on, refused_on, served_on}
 
 -- it opens nothing, cuts nothing, tells no moment, and moves no bytes but those of connection c
 pub record IsQuiet (c : ℕ) (e : Event) : Type 0 where
@@ -103,7 +101,7 @@ pub served_more : (h : Settings) (more S : List Entry) (number c : ℕ) (place :
 served_more h [] S number c place told sent received ours new s = s
 served_more h (x ∷ more) S number c place told sent received ours new s =
     served_entry h (more ++ S) x number c place told sent received (quiet_ours c number x ours.0) (ours_unasked c number x ours.0) (λ d o lt. new d (back_more number c more S d ours.1 o) lt)
-        (served_more h more S number c place told sent received ours.1 new s)
+    (served_more h more S number c place told sent received ours.1 new s)
 
 -- ---- the connection that joins the ends
 

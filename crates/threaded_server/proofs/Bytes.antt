@@ -1,7 +1,7 @@
 -- What is kept goes on where items are pushed and read.
-use Rattle.std.proofs.Common.{◌≡◌, ◌≢◌, ◌<◌, ◌≤◌, ◌+◌, ◌-◌, ◌⊎◌, inl, inr, ℕ, suc, List, [], ◌∷◌, ◌++◌, length, take, drop, Option, Some, None, refl, ap, sym, ◌∙◌, subst, arith, append-nil, append_assoc}
+use Rattle.std.proofs.Common.{◌≡◌, ◌<◌, ◌≤◌, ◌+◌, ◌⊎◌, inl, inr, ℕ, suc, List, [], ◌∷◌, ◌++◌, length, take, drop, Option, Some, None, refl, ap, sym, ◌∙◌, subst, arith, append-nil}
 use Rattle.std.proofs.lemmas.Bool.{cases_lt}
-use Rattle.std.proofs.lemmas.List.{length-append, take_all}
+use Rattle.std.proofs.lemmas.List.{take_all}
 use Rattle.std.proofs.Math.Seq.{take-add, take-nil}
 use Rattle.rs_wire.specs.declared.settings.Settings.{Settings}
 use Rattle.rs_frame.specs.declared.frame.Frame.{Frame}
@@ -12,13 +12,10 @@ use Rattle.session_model.specs.Frames.{came, drawn, due, first_bad}
 use Rattle.session_model.specs.Joined.{IsOpening, offered, refused, unless_refused}
 use Rattle.session_laws.proofs.Prefixes.{prefix_nil, prefix_take}
 use Rattle.link_model.specs.Carrying.{Between, Keeps}
-use Rattle.link_model.specs.Reading.{HasRead, IsAfter}
+use Rattle.link_model.specs.Reading.{HasRead}
 use Rattle.link_model.proofs.Bytes.{bad_still, cut_still}
-use Rattle.ring.specs.declared.item.Mark.{Mark}
-use Rattle.ring.specs.declared.item.Mark.TheVariants as mark
 use Rattle.ring.specs.declared.item.Item.{Item}
-use Rattle.ring.specs.declared.item.Item.TheVariants as item
-use Rattle.ring.specs.Parts.{bytes_of, cuts, part}
+use Rattle.ring.specs.Parts.{cuts, part}
 use Rattle.threaded_model.specs.Handed.{IsReadOn}
 use Rattle.threaded_server.specs.Serving.{HasAccepted, HasRefused, HasServed, IsAt, IsServed, KnowsNothing}
 use Rattle.carriers.specs.Alone.{linked}
@@ -145,20 +142,26 @@ refused_over h S number place told k sent received bytes count s r = record {
 
 -- where more bytes were read, they follow the rest
 pub read_more : (most : ℕ) (frames : List Frame) (bad : Option ℕ) (rest taken piece : List ℕ) → HasRead frames bad most rest taken → (rest' : List ℕ) × HasRead frames bad most rest' (taken ++ piece)
-read_more most frames None rest taken piece r = (rest ++ piece, record {
-  spellings = r.spellings;
-  more = r.more ++ piece;
-  spelled = r.spelled;
-  cut = cut_still taken piece r.spellings r.more r.cut;
-  after = ap (λ (l : List ℕ). l ++ piece) r.after;
-})
-read_more most frames (Some rule) rest taken piece r = (rest, record {
-  spellings = r.spellings;
-  more = r.more ++ piece;
-  spelled = r.spelled;
-  cut = cut_still taken piece r.spellings r.more r.cut;
-  after = bad_still rule most r.more piece r.after;
-})
+read_more most frames None rest taken piece r = (
+  rest ++ piece,
+  record {
+    spellings = r.spellings;
+    more = r.more ++ piece;
+    spelled = r.spelled;
+    cut = cut_still taken piece r.spellings r.more r.cut;
+    after = ap (λ (l : List ℕ). l ++ piece) r.after;
+  },
+)
+read_more most frames (Some rule) rest taken piece r = (
+  rest,
+  record {
+    spellings = r.spellings;
+    more = r.more ++ piece;
+    spelled = r.spelled;
+    cut = cut_still taken piece r.spellings r.more r.cut;
+    after = bad_still rule most r.more piece r.after;
+  },
+)
 
 pub read_still : (g : Settings) (S : List Entry) (d : ℕ) (taken piece : List ℕ) → IsReadOn g S d taken → IsReadOn g S d (taken ++ piece)
 read_still g S d taken piece r = let m = read_more g.max_in (came S d) (first_bad S d) r.rest taken piece r.read in record { rest = m.0; read = m.1 }

@@ -1,11 +1,10 @@
 -- What the server's carrier keeps goes on, step by step.
-use Rattle.std.proofs.Common.{◌≡◌, ◌≢◌, ◌<◌, ◌≤◌, ◌+◌, ◌⊎◌, inl, inr, ℕ, suc, true, false, List, [], ◌∷◌, ◌++◌, take, drop, None, Some, refl, ap, sym, ◌∙◌, subst, arith, append-nil, append_assoc, true≢false}
+use Rattle.std.proofs.Common.{◌≡◌, ◌≢◌, ◌<◌, ◌+◌, inr, ℕ, suc, true, false, List, [], ◌∷◌, ◌++◌, take, drop, None, refl, ap, sym, ◌∙◌, subst, arith, append-nil, append_assoc, true≢false}
 use Rattle.std.specs.List.{AllByRecursion}
 use Rattle.rs_wire.specs.declared.settings.Settings.{Settings}
 use Rattle.rs_frame.specs.declared.frame.Frame.{Frame}
 use Rattle.rs_frame.specs.Framed.{framed_all}
 use Rattle.rs_chunk.specs.Rest.{Rest}
-use Rattle.tape.specs.declared.event.Event.{Event}
 use Rattle.tape.specs.declared.event.Event.TheVariants as event
 use Rattle.tape.specs.declared.answer.Answer.TheVariants as answer
 use Rattle.tape.specs.declared.entry.Entry.{Entry}
@@ -26,8 +25,8 @@ use Rattle.threaded_server.specs.declared.knows.Knows.{Knows}
 use Rattle.threaded_server.specs.declared.knows.Knows.TheVariants as knows
 use Rattle.threaded_server.specs.Serving.{HasAccepted, HasRefused, HasServed, IsAt, KnowsNothing}
 use Rattle.threaded_server.specs.Carrying.{IsHere, ServerCarries}
-use Rattle.carriers.proofs.Items.{Cuts, Grows, cuts_at_once, cuts_both, grows_bytes, grows_mark, part_former, part_later, part_marked, part_read, no_cuts}
-use Rattle.threaded_server.proofs.Adding.{IsNew, IsSpare, accepted_spared, at_more, first_more, legal_before, nothing_spared, refused_more, refused_spared, served_more, spare_asked}
+use Rattle.carriers.proofs.Items.{Cuts, Grows, cuts_at_once, cuts_both, grows_bytes, part_former, part_later, part_marked, part_read, no_cuts}
+use Rattle.threaded_server.proofs.Adding.{IsNew, IsSpare, accepted_spared, at_more, nothing_spared, refused_more, refused_spared, served_more, spare_asked}
 use Rattle.threaded_server.proofs.Bytes.{IsOver, accepted_over, accepted_parts, nothing_over, nothing_parts, nothing_read, refused_over, refused_parts, refused_read, refused_sent, served_cut, served_received, served_sent}
 use Rattle.threaded_server.proofs.OwnEntries.{Begins, IsFirst, accepted_first, placed, refused_at, served_cutting, served_opened, served_ticking, spare_cut, spare_tick}
 

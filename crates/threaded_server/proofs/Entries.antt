@@ -1,7 +1,6 @@
 -- What an entry leaves of an opening that was made before it.
-use Rattle.std.proofs.Common.{◌≡◌, ◌≢◌, ◌<◌, ◌≤◌, ◌+◌, ◌==◌, ◌||◌, ◌⊎◌, inl, inr, ℕ, zero, suc, Bool, true, false, cond, List, [], ◌∷◌, ◌++◌, length, take, Option, Some, None, refl, ap, sym, ◌∙◌, subst, arith, append-nil, true≢false}
+use Rattle.std.proofs.Common.{◌≡◌, ◌≢◌, ◌≤◌, ◌+◌, ◌==◌, ℕ, zero, suc, true, false, List, [], ◌∷◌, ◌++◌, length, take, Option, Some, None, refl, ap, sym, ◌∙◌, subst, arith, append-nil}
 use Rattle.std.proofs.lemmas.Bool.Decides.{nat_tests}
-use Rattle.std.proofs.lemmas.Grind.{common_steps}
 use Rattle.rs_wire.specs.declared.settings.Settings.{Settings}
 use Rattle.rs_frame.specs.declared.frame.Frame.{Frame}
 use Rattle.rs_frame.specs.Framed.{framed_all}
@@ -15,10 +14,10 @@ use Rattle.session_model.specs.Legal.{Legal}
 use Rattle.session_model.specs.Means.{Means}
 use Rattle.session_model.specs.Lists.{IsPrefix}
 use Rattle.session_model.specs.Life.{is_live, live, live_after, openings, openings_in}
-use Rattle.session_model.specs.Frames.{came, drawn, draws, due, owes, first_bad, was_opened}
-use Rattle.session_model.specs.Joined.{IsOpening, bytes_offered, frames_offered, offered, only, refused, refuses, unless_refused}
+use Rattle.session_model.specs.Frames.{came, drawn, due, owes, first_bad, was_opened}
+use Rattle.session_model.specs.Joined.{IsOpening, offered, refused, refuses, unless_refused}
 use Rattle.session_model.proofs.Meaning.{last_means}
-use Rattle.session_laws.proofs.Prefixes.{prefix_cons, prefix_more, prefix_refl, prefix_take, prefix_trans}
+use Rattle.session_laws.proofs.Prefixes.{prefix_cons, prefix_refl, prefix_trans}
 use Rattle.link_model.specs.Carrying.{is_of}
 use Rattle.link_model.specs.Reading.{HasRead}
 use Rattle.link_model.proofs.Same.{bad_other, came_other, due_more}

@@ -1,7 +1,6 @@
 -- What is kept, by what the carrier's caller knows, goes on over its calls.
-use Rattle.std.proofs.lemmas.Bool.Decides.{eqb_tells, nat_tests}
-use Rattle.std.proofs.lemmas.Grind.{common_steps}
-use Rattle.std.proofs.Common.{◌≡◌, ◌≢◌, ◌<◌, ◌+◌, ◌==◌, ◌⊎◌, inl, inr, ℕ, suc, Bool, true, false, true≢false, List, [], ◌∷◌, ◌++◌, take, drop, Some, refl, ap, sym, ◌∙◌, subst, arith}
+use Rattle.std.proofs.lemmas.Bool.Decides.{nat_tests}
+use Rattle.std.proofs.Common.{◌≡◌, ◌≢◌, ◌<◌, ◌+◌, inl, inr, ℕ, suc, Bool, true, false, List, [], ◌∷◌, ◌++◌, take, drop, Some, refl, ap, sym, ◌∙◌, subst, arith}
 use Rattle.std.specs.List.{AllByRecursion}
 use Rattle.rs_wire.specs.declared.settings.Settings.{Settings}
 use Rattle.rs_chunk.specs.Rest.{Rest}
@@ -12,7 +11,7 @@ use Rattle.tape.specs.declared.event.Event.TheVariants as event
 use Rattle.tape.specs.declared.answer.Answer.{Answer}
 use Rattle.tape.specs.declared.answer.Answer.TheVariants as answer
 use Rattle.tape.specs.declared.entry.Entry.{Entry}
-use Rattle.session_model.specs.Answers.{answer_to, facts}
+use Rattle.session_model.specs.Answers.{facts}
 use Rattle.session_model.specs.Legal.{Legal}
 use Rattle.session_model.specs.Life.{openings}
 use Rattle.session_model.specs.Means.{Means}
@@ -20,8 +19,8 @@ use Rattle.session_model.proofs.Meaning.{last_means}
 use Rattle.conn_lock.specs.Callers.{IsOthers, calls, once, times}
 use Rattle.conn_shared.specs.Lines.{who_of}
 use Rattle.conn_shared.specs.Members.{Follows, Knowledge, SharedId}
-use Rattle.link_model.specs.Carrying.{Between, Keeps, is_of}
-use Rattle.pump.specs.Turns.{Arrives, GoesOn, MovesAlone, Names}
+use Rattle.link_model.specs.Carrying.{Between, Keeps}
+use Rattle.pump.specs.Turns.{Arrives, GoesOn, Names}
 use Rattle.pump.proofs.Adding.{IsOn, all_split, goes_as}
 use Rattle.pump.proofs.Events.{arrives_names}
 use Rattle.cable_script.specs.declared.line.Line.{Line}
@@ -42,7 +41,7 @@ use Rattle.threaded_server.specs.Begun.{HasBegun, IsBegun}
 use Rattle.threaded_server.proofs.OwnEntries.{Begins}
 use Rattle.threaded_server.proofs.Adding.{legal_before, legal_last}
 use Rattle.threaded_server.proofs.Handing.{hands}
-use Rattle.threaded_server.proofs.Carried.{HasMoved, IsOther, answered, carries_none, cut_here, filled, followed, gave_more, heard_more, marked, opened_here, over_others, passed_over, pushed_more, read_to, refused_here, ticked, took_more}
+use Rattle.threaded_server.proofs.Carried.{IsOther, answered, carries_none, cut_here, filled, followed, gave_more, heard_more, marked, opened_here, over_others, passed_over, pushed_more, read_to, refused_here, ticked, took_more}
 
 -- ---- a caller, and what it was
 
@@ -54,7 +53,7 @@ settings_on was now on = ap (λ (x : Knowledge). x.of.settings) on
 
 none_ours : (n : ℕ) (more : List Entry) → AllByRecursion (IsOurs IsNone n) more → AllByRecursion (IsOther n) more
 none_ours n [] h = tt
-none_ours n (x ∷ more) h = (elim h.0 [ | inl own ↦ absurd own.1 | inr other ↦ other ], none_ours n more h.1)
+none_ours n (x ∷ more) h = (elim h.0 [ inl own ↦ absurd own.1 | inr other ↦ other ], none_ours n more h.1)
 
 -- ---- one step
 
@@ -163,8 +162,10 @@ kept_begun g was now u lines reader kn s r on h = kept_told g was now (event.Ope
   where
     begins : Begins h.frame reader.bytes h.rest
     begins = record { spells = h.spells; passes = h.passes }
+
     x : Entry
     x = entry_of was.number (event.Open (Some h.frame) false) h.answer
+
     by_knows : (k : Knows) → IsBegun reader.max_in h.answer h.rest k → Legal was.of.settings (x ∷ h.told.before) → ServerCarries was.of.settings h.told.before was.number lines u (knows.Nothing reader) s r → ServerCarries was.of.settings (x ∷ h.told.before) was.number lines u k s r
     by_knows (knows.Nothing other) is legal c = absurd is
     by_knows (knows.Accepted conn b) is legal c =
@@ -207,6 +208,7 @@ asked_others me now (x ∷ others) same named o ask =
   where
     once_is : (a b : ℕ) → a ≡ b → once a b ≡ 1
     once_is a b is = grind (arith, nat_tests, is)
+
     asks_or : (b : Bool) → (b ≡ false → ⊥) → b ≡ true
     asks_or true h = refl
     asks_or false h = absurd (h refl)

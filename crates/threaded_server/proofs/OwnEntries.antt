@@ -1,14 +1,12 @@
 -- What is kept goes on where the carrier opens, cuts or ticks.
-use Rattle.std.proofs.Common.{◌≡◌, ◌≢◌, ◌<◌, ◌≤◌, ◌+◌, ◌==◌, ◌||◌, ◌⊎◌, inl, inr, ℕ, Bool, true, false, if◌then◌else◌, List, [], ◌∷◌, ◌++◌, take, Option, Some, None, refl, ap, sym, ◌∙◌, subst, arith, append-nil, true≢false}
+use Rattle.std.proofs.Common.{◌≡◌, ◌≢◌, ◌<◌, ◌≤◌, ◌+◌, ◌==◌, ◌||◌, ◌⊎◌, inl, inr, ℕ, Bool, true, false, if◌then◌else◌, List, [], ◌∷◌, ◌++◌, Option, Some, None, refl, ap, sym, ◌∙◌, subst, arith}
 use Rattle.std.proofs.lemmas.Bool.{cases_lt}
-use Rattle.std.proofs.lemmas.Bool.Decides.{eqb_tells, nat_tests}
-use Rattle.std.proofs.lemmas.Grind.{common_steps}
+use Rattle.std.proofs.lemmas.Bool.Decides.{nat_tests}
 use Rattle.rs_wire.specs.declared.settings.Settings.{Settings}
 use Rattle.rs_frame.specs.declared.frame.Frame.{Frame}
 use Rattle.rs_frame.specs.Framed.{framed_all}
 use Rattle.rs_frame.specs.Spelling.{Spells}
-use Rattle.rs_chunk.specs.Stream.{IsCut, first_frame}
-use Rattle.tape.specs.Told.{entry_of}
+use Rattle.rs_chunk.specs.Stream.{first_frame}
 use Rattle.tape.specs.declared.event.Event.{Event}
 use Rattle.tape.specs.declared.event.Event.TheVariants as event
 use Rattle.tape.specs.declared.answer.Answer.{Answer}
@@ -23,19 +21,18 @@ use Rattle.session_model.specs.Joined.{IsOpening, only, refused, refuses}
 use Rattle.session_model.proofs.Meaning.{last_means}
 use Rattle.session_model.proofs.Openings.{drawn_later, live_le}
 use Rattle.session_laws.proofs.Life.{bad_later, came_later}
-use Rattle.link_model.specs.Carrying.{Between, IsFresh, Keeps, is_of}
+use Rattle.link_model.specs.Carrying.{is_of}
 use Rattle.link_model.specs.Reading.{HasRead}
 use Rattle.link_model.proofs.Fresh.{fresh_keeps}
 use Rattle.link_model.proofs.Same.{bad_same}
 use Rattle.ring.specs.declared.item.Item.{Item}
 use Rattle.ring.specs.Parts.{cuts, part}
-use Rattle.threaded_model.specs.Handed.{IsReadOn}
 use Rattle.threaded_model.specs.Threaded.{cuts_in, has_cut, is_asked, made_by, moment_in, moments}
 use Rattle.threaded_server.specs.Begun.{Passes}
 use Rattle.threaded_server.specs.Serving.{HasAccepted, HasRefused, HasServed, IsAt, IsServed, KnowsNothing}
 use Rattle.carriers.specs.Alone.{linked}
 use Rattle.threaded_server.proofs.Entries.{opened_by, opening_back, opening_on, served_on}
-use Rattle.threaded_server.proofs.Adding.{IsSpare, accepted_spared, legal_last, same_cuts, same_moments}
+use Rattle.threaded_server.proofs.Adding.{IsSpare, legal_last, same_cuts, same_moments}
 
 -- ---- the place of the new opening
 
@@ -93,8 +90,10 @@ served_opened h S x f number place told sent received i unopened s = record {
   where
     old_place : (d : ℕ) → IsOpening S d → placed place (openings S + 1) (cuts sent) d ≡ place d
     old_place d old = placed_old place (openings S + 1) (cuts sent) d (old_is S d old)
+
     new_place : (d : ℕ) → d ≡ openings S + 1 → placed place (openings S + 1) (cuts sent) d ≡ cuts sent
     new_place d new = placed_new place (openings S + 1) (cuts sent) d new
+
     one : (d e : ℕ) → IsOpening S d ⊎ (d ≡ openings S + 1) → IsOpening S e ⊎ (e ≡ openings S + 1) → placed place (openings S + 1) (cuts sent) d ≡ placed place (openings S + 1) (cuts sent) e → d ≡ e
     one d e (inl od) (inl oe) same = s.apart d e od oe (sym (old_place d od) ∙ (same ∙ old_place e oe))
     one d e (inl od) (inr ne) same = absurd (unopened d od (sym (old_place d od) ∙ (same ∙ new_place e ne)))

@@ -1,12 +1,11 @@
 -- What is kept goes on over each call, in the words of the contracts.
 use Rattle.std.proofs.lemmas.List.{take_all, take_more}
-use Rattle.std.proofs.Common.{◌≡◌, ◌<◌, ◌≤◌, ◌∙◌, ◌+◌, append_assoc, get_or, length, ℕ, suc, Bool, true, false, List, [], ◌∷◌, ◌++◌, take, drop, Option, Some, IfSome, Result, Ok, Err, OnOk, refl, ap, sym, subst}
+use Rattle.std.proofs.Common.{◌≡◌, ◌<◌, ◌≤◌, ◌∙◌, ◌+◌, append_assoc, get_or, length, ℕ, suc, Bool, true, false, List, [], ◌∷◌, ◌++◌, take, Option, Some, IfSome, Result, Ok, Err, OnOk, refl, ap, sym, subst}
 use Rattle.rs_wire.specs.declared.settings.Settings.{Settings}
 use Rattle.rs_frame.specs.declared.frame.Frame.{Frame}
 use Rattle.rs_chunk.specs.Rest.{Rest}
 use Rattle.tape.specs.declared.event.Event.TheVariants as event
 use Rattle.tape.specs.declared.answer.Answer.{Answer}
-use Rattle.tape.specs.declared.entry.Entry.{Entry}
 use Rattle.conn_shared.specs.Members.{Follows, Knowledge}
 use Rattle.link_model.specs.Carrying.{Between}
 use Rattle.pump.proofs.Adding.{IsOn}
@@ -15,7 +14,7 @@ use Rattle.ring.specs.declared.item.Mark.{Mark}
 use Rattle.ring.specs.declared.item.Mark.TheVariants as mark
 use Rattle.ring.specs.declared.item.Item.{Item}
 use Rattle.ring.specs.declared.item.Item.TheVariants as item
-use Rattle.ring.specs.Parts.{bytes_of, cuts, ends}
+use Rattle.ring.specs.Parts.{cuts, ends}
 use Rattle.threaded_model.specs.Threaded.{told_in}
 use Rattle.carriers.specs.Moves.{HasGiven, HasHeard, HasTaken, HasTold, mark_for}
 use Rattle.carriers.proofs.Items.{Grows, grows_mark}
@@ -24,7 +23,7 @@ use Rattle.threaded_server.specs.declared.knows.Knows.TheVariants as knows
 use Rattle.threaded_server.specs.Begun.{HasBegun, HasOpened, IsBegun, IsFirst, Passes}
 use Rattle.threaded_server.specs.Carrying.{IsCarrying, IsReading, IsSound, KeepsOn}
 use Rattle.threaded_server.specs.Moves.{HasFilled, HasPassed, HasPushed}
-use Rattle.threaded_server.proofs.Kept.{kept_answered, kept_begun, kept_cut, kept_filled, kept_followed, kept_given, kept_heard, kept_looked, kept_marked, kept_passed, kept_pushed, kept_taken}
+use Rattle.threaded_server.proofs.Kept.{kept_begun, kept_cut, kept_filled, kept_followed, kept_given, kept_heard, kept_looked, kept_marked, kept_passed, kept_pushed, kept_taken}
 
 -- ---- results
 

@@ -1,5 +1,5 @@
 -- What the server's carrier keeps of its end, by what it knows of the connection that joins the ends. Entries are the newest first, items the oldest.
-use Rattle.std.specs.Prelude.{◌≡◌, ◌≢◌, ◌<◌, ◌≤◌, ◌⊎◌, ℕ, true, false, List, [], length, take}
+use Rattle.std.specs.Prelude.{◌≡◌, ◌≢◌, ◌<◌, ◌≤◌, ◌⊎◌, ℕ, true, false, List, [], take}
 use Rattle.rs_wire.specs.declared.settings.Settings.{Settings}
 use Rattle.rs_frame.specs.Framed.{framed_all}
 use Rattle.tape.specs.declared.entry.Entry.{Entry}

@@ -43,11 +43,7 @@ fn fill<R: Wait>(
 }
 
 // Reads up to the next mark, and drops what came.
-fn pass_over<R: Wait>(
-    rt: &R,
-    alloc: Global,
-    from: &mut Consumer<Item>,
-) -> Result<Heard, Stop>
+fn pass_over<R: Wait>(rt: &R, alloc: Global, from: &mut Consumer<Item>) -> Result<Heard, Stop>
     ensures ring { SameConsumer from.old from.new }
     ensures passed { IfOk result (λ h. HasPassed h.mark (received from.old) (received from.new)) }
 {
@@ -60,7 +56,11 @@ fn pass_over<R: Wait>(
 fn at_most(left: usize, most: u64) -> usize
     ensures { result ≤ left }
 {
-    if most < left as u64 { most as usize } else { left }
+    if most < left as u64 {
+        most as usize
+    } else {
+        left
+    }
 }
 
 // Pushes at most so many bytes of what is left of a refusal.
@@ -118,7 +118,14 @@ impl<T: Tape> ServerCarrier<T> {
         match &mut self.knows {
             Knows::Nothing(reader) => fill(rt, alloc, reader, &mut self.from),
             Knows::Accepted { pump, .. } => {
-                take(rt, alloc, connection, &mut self.caller, pump, &mut self.from)
+                take(
+                    rt,
+                    alloc,
+                    connection,
+                    &mut self.caller,
+                    pump,
+                    &mut self.from,
+                )
             }
             Knows::Refused { .. } => pass_over(rt, alloc, &mut self.from),
         }

@@ -12,7 +12,6 @@ ghost use Rattle.tape.specs.declared.event.Event.TheVariants as events;
 ghost use Rattle.threaded_model.specs.Threaded.{made_by};
 ghost use Rattle.threaded_server.specs.Begun.{HasBegun, HasOpened, IsBegun, IsFirst, Passes};
 
-
 use crate::knows::Knows;
 use carriers::tell;
 use conn::{Caller, Connection};
