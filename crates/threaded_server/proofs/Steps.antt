@@ -1,14 +1,18 @@
 -- What is kept goes on over each call, in the words of the contracts.
 use Rattle.std.proofs.lemmas.List.{take_all, take_more}
-use Rattle.std.proofs.Common.{◌≡◌, ◌<◌, ◌≤◌, ◌∙◌, ◌+◌, append_assoc, get_or, length, ℕ, suc, Bool, true, false, List, [], ◌∷◌, ◌++◌, take, Option, Some, IfSome, Result, Ok, Err, OnOk, refl, ap, sym, subst}
+use Rattle.std.proofs.Common.{◌≡◌, ◌<◌, ◌≤◌, ◌∙◌, ◌+◌, append_assoc, get_or, length, ℕ, suc, Bool, true, false, List, [], ◌∷◌, ◌++◌, take, Option, Some, IfSome, Result, Ok, Err, IfOk, OnOk, refl, ap, sym, subst}
 use Rattle.rs_wire.specs.declared.settings.Settings.{Settings}
 use Rattle.rs_frame.specs.declared.frame.Frame.{Frame}
 use Rattle.rs_chunk.specs.Rest.{Rest}
+use Rattle.tape.specs.Told.{entry_of}
+use Rattle.tape.specs.declared.entry.Entry.{Entry}
+use Rattle.tape.specs.declared.event.Event.{Event}
 use Rattle.tape.specs.declared.event.Event.TheVariants as event
 use Rattle.tape.specs.declared.answer.Answer.{Answer}
 use Rattle.conn_shared.specs.Members.{Follows, Knowledge}
 use Rattle.link_model.specs.Carrying.{Between}
-use Rattle.pump.proofs.Adding.{IsOn}
+use Rattle.pump.specs.Turns.{GoesOn}
+use Rattle.pump.proofs.Adding.{IsOn, goes_as, goes_both, goes_follows, goes_none}
 use Rattle.cable_script.specs.declared.line.Line.{Line}
 use Rattle.ring.specs.declared.item.Mark.{Mark}
 use Rattle.ring.specs.declared.item.Mark.TheVariants as mark
@@ -21,7 +25,7 @@ use Rattle.carriers.proofs.Items.{Grows, grows_mark}
 use Rattle.threaded_server.specs.declared.knows.Knows.{Knows}
 use Rattle.threaded_server.specs.declared.knows.Knows.TheVariants as knows
 use Rattle.threaded_server.specs.Begun.{HasBegun, HasOpened, IsBegun, IsFirst, Passes}
-use Rattle.threaded_server.specs.Carrying.{IsCarrying, IsReading, IsSound, KeepsOn}
+use Rattle.threaded_server.specs.Carrying.{IsAny, IsCarrying, IsReading, IsSound, KeepsOn}
 use Rattle.threaded_server.specs.Moves.{HasFilled, HasPassed, HasPushed}
 use Rattle.threaded_server.proofs.Kept.{kept_begun, kept_cut, kept_filled, kept_followed, kept_given, kept_heard, kept_looked, kept_marked, kept_passed, kept_pushed, kept_taken}
 
@@ -126,3 +130,27 @@ one_more me before lines i l kn s r lt is k =
 -- all were followed
 pub all_followed : (me : Knowledge) (before lines : List Line) (i : ℕ) (kn : Knows) (s r : List Item) → length lines ≤ i → IsCarrying me (before ++ take i lines) kn s r → IsCarrying me (before ++ lines) kn s r
 all_followed me before lines i kn s r le k = subst (λ (ls : List Line). IsCarrying me (before ++ ls) kn s r) (take_all i lines le) k
+
+-- ---- what this caller adds
+
+pub if_to_on : {X E : Type 0} (r : Result X E) (P : X → Type 0) (Q : Type 0) → ((x : X) → P x → Q) → IfOk r P → OnOk r Q
+if_to_on (Ok x) P Q f h = f x h
+if_to_on (Err e) P Q f h = tt
+
+pub adds_none : (me : Knowledge) → GoesOn IsAny me me.front
+adds_none me = goes_none IsAny me
+
+pub adds : (P : Event → Type 0) (me : Knowledge) (new : List Entry) → GoesOn P me new → GoesOn IsAny me new
+adds P me new h = goes_as P IsAny me new (λ e p. tt) h
+
+pub adds_told : (g : Settings) (me now : Knowledge) (e : Event) (a : Answer) → HasTold g me now e a → GoesOn IsAny me now.front
+adds_told g me now e a t =
+    let f = goes_follows IsAny me t.before t.follows in
+    record {
+      more = entry_of me.number e a ∷ f.more;
+      on = t.is ∙ ap (λ (es : List Entry). entry_of me.number e a ∷ es) f.on;
+      own = (λ named. (refl, tt), f.own);
+    }
+
+pub adds_both : (me mid : Knowledge) (new : List Entry) → IsOn me mid → GoesOn IsAny me mid.front → GoesOn IsAny mid new → GoesOn IsAny me new
+adds_both me mid new on h k = goes_both IsAny me mid new on h k

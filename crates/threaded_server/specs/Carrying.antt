@@ -2,6 +2,7 @@
 use Rattle.std.specs.Prelude.{◌≡◌, ◌<◌, ◌≤◌, ◌+◌, ◌^◌, ℕ, true, List, [], length}
 use Rattle.rs_wire.specs.declared.settings.Settings.{Settings}
 use Rattle.tape.specs.declared.entry.Entry.{Entry}
+use Rattle.tape.specs.declared.event.Event.{Event}
 use Rattle.cable_script.specs.declared.line.Line.{Line}
 use Rattle.ring.specs.declared.item.Item.{Item}
 use Rattle.ring.specs.Parts.{IsEnded, cuts, ends, part}
@@ -69,3 +70,7 @@ KeepsOn u u' was now k k' s s' r r' = (lines : List Line) → IsReading u lines 
 abbrev pub IsEmptiedOn : Knows → Type 0
 IsEmptiedOn (knows.Accepted conn b) = IsEmptied b
 IsEmptiedOn _ = Unit {0}
+
+-- any event
+abbrev pub IsAny : Event → Type 0
+IsAny e = Unit {0}

@@ -7,7 +7,8 @@ ghost use Rattle.ring.specs.declared.item.Item.TheVariants as item;
 ghost use Rattle.ring.specs.declared.item.Mark.TheVariants as mark;
 ghost use Rattle.ring.specs.Parts.{bytes_of, cuts};
 ghost use Rattle.carriers.specs.Moves.{mark_for};
-ghost use Rattle.threaded_server.specs.Carrying.{IsEmptiedOn, IsSound, KeepsOn};
+ghost use Rattle.pump.specs.Turns.{GoesOn};
+ghost use Rattle.threaded_server.specs.Carrying.{IsAny, IsEmptiedOn, IsSound, KeepsOn};
 ghost use Rattle.threaded_server.specs.Moves.{HasFilled, HasPassed, HasPushed};
 
 use crate::carrier::ServerCarrier;
@@ -111,6 +112,7 @@ impl<T: Tape> ServerCarrier<T> {
         ensures out { self.new.out ≡ self.old.out }
         ensures from { SameConsumer self.old.from self.new.from }
         ensures sound { OnOk result (IsSound connection.now.settings self.new.knows) }
+        ensures goes { OnOk result (GoesOn IsAny self.old.caller self.new.caller.front) }
         ensures kept { IfOk result (λ h. KeepsOn 0 (cuts (item.Mark h.mark ∷ []))
             self.old.caller self.new.caller self.old.knows self.new.knows (sent self.old.out) (sent self.new.out)
             (received self.old.from) (received self.new.from)) }
@@ -148,6 +150,7 @@ impl<T: Tape> ServerCarrier<T> {
         ensures out { self.new.out ≡ self.old.out }
         ensures from { self.new.from ≡ self.old.from }
         ensures sound { OnOk result (IsSound connection.now.settings self.new.knows) }
+        ensures goes { OnOk result (GoesOn IsAny self.old.caller self.new.caller.front) }
         ensures kept { OnOk result ((u : ℕ) → KeepsOn u u self.old.caller self.new.caller
             self.old.knows self.new.knows (sent self.old.out) (sent self.new.out)
             (received self.old.from) (received self.new.from)) }
@@ -175,6 +178,7 @@ impl<T: Tape> ServerCarrier<T> {
         ensures from { self.new.from ≡ self.old.from }
         ensures sound { OnOk result (IsSound connection.now.settings self.new.knows) }
         ensures emptied { IfOk result (λ all. all ≡ true → IsEmptiedOn self.new.knows) }
+        ensures goes { OnOk result (GoesOn IsAny self.old.caller self.new.caller.front) }
         ensures kept { OnOk result ((u : ℕ) → KeepsOn u u self.old.caller self.new.caller
             self.old.knows self.new.knows (sent self.old.out) (sent self.new.out)
             (received self.old.from) (received self.new.from)) }
@@ -202,6 +206,7 @@ impl<T: Tape> ServerCarrier<T> {
         ensures out { self.new.out ≡ self.old.out }
         ensures from { SameConsumer self.old.from self.new.from }
         ensures sound { OnOk result (IsSound connection.now.settings self.new.knows) }
+        ensures goes { OnOk result (GoesOn IsAny self.old.caller self.new.caller.front) }
         ensures kept { IfOk result (λ h. KeepsOn 0 (cuts (item.Mark h.mark ∷ []))
             self.old.caller self.new.caller self.old.knows self.new.knows (sent self.old.out) (sent self.new.out)
             (received self.old.from) (received self.new.from)) }
@@ -234,6 +239,7 @@ impl<T: Tape> ServerCarrier<T> {
         ensures out { self.new.out ≡ self.old.out }
         ensures from { SameConsumer self.old.from self.new.from }
         ensures sound { OnOk result (IsSound connection.now.settings self.new.knows) }
+        ensures goes { OnOk result (GoesOn IsAny self.old.caller self.new.caller.front) }
         ensures kept { OnOk result (KeepsOn 0 0 self.old.caller self.new.caller
             self.old.knows self.new.knows (sent self.old.out) (sent self.new.out)
             (received self.old.from) (received self.new.from)) }
@@ -260,6 +266,7 @@ impl<T: Tape> ServerCarrier<T> {
         ensures out { SameProducer self.old.out self.new.out }
         ensures from { self.new.from ≡ self.old.from }
         ensures sound { OnOk result (IsSound connection.now.settings self.new.knows) }
+        ensures goes { OnOk result (GoesOn IsAny self.old.caller self.new.caller.front) }
         ensures kept { OnOk result (KeepsOn 0 0 self.old.caller self.new.caller
             self.old.knows self.new.knows (sent self.old.out) (sent self.new.out)
             (received self.old.from) (received self.new.from)) }
