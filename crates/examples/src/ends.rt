@@ -4,7 +4,7 @@ ghost use Rattle.std.specs.Prelude.{◌≡◌, ◌<◌, ◌≤◌};
 ghost use Rattle.rustshuttle.specs.Calls.{CanBeAsked};
 ghost use Rattle.rustshuttle.specs.Side.TheVariants.{Client};
 
-use anyhow::{Context, Result};
+use anyhow::Result;
 use rustshuttle::{Answer, Blank, Call, Endpoint};
 use std::alloc::Global;
 use std::io::Print;
@@ -61,12 +61,11 @@ pub fn send(
     requires few { most ≤ ROOM }
     ensures { end.new.session.settings ≡ end.old.session.settings }
 {
-    let mut bytes = vec![in alloc; 0; most]?;
-    let answer = end.draw(&mut bytes);
-    show(rt, name, &answer)?;
-    let count = answer.drawn().context("nothing goes out")?;
-    bytes.truncate(count as usize);
-    Ok(bytes)
+    let mut buffer = vec![in alloc; 0; most]?;
+    let count = end.draw(&mut buffer)?.len();
+    println!(rt; "{name}: {count} bytes go out")?;
+    buffer.truncate(count);
+    Ok(buffer)
 }
 
 /// Bytes come at an end, and the whole frames in them are brought.

@@ -1,7 +1,7 @@
 //! Two ends of a session in one process: a client makes a request, and the server gets it.
 #![tactic(auto)]
 
-use anyhow::{Context, Result};
+use anyhow::Result;
 use rustshuttle::{Blob, client, fire_and_forget, server, take_job};
 
 fn main(rt: HostRuntime) -> Result<()> {
@@ -16,11 +16,7 @@ fn main(rt: HostRuntime) -> Result<()> {
 
     // They cross, here in a buffer, and the frames in them come at the server.
     let mut buffer = [0; 1024];
-    let count = client
-        .draw(&mut buffer)
-        .drawn()
-        .context("nothing goes out")?;
-    server.feed(&buffer[..count as usize])?;
+    server.feed(client.draw(&mut buffer)?)?;
     let mut answers = Vec::new(alloc);
     server.bring_all(&mut answers)?;
     for answer in answers.iter() {

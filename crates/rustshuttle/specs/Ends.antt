@@ -1,5 +1,5 @@
 -- What a program sees of an end, and what one call does to it.
-use Rattle.std.specs.Prelude.{◌≡◌, ◌↔◌, ◌≤◌, ◌^◌, ℕ, Bool, true, false, List, [], ◌∷◌, ◌++◌, length, Option, Some, None}
+use Rattle.std.specs.Prelude.{◌≡◌, ◌↔◌, ◌≤◌, ◌^◌, ℕ, Bool, true, false, List, [], ◌∷◌, ◌++◌, length, take, drop, Option, Some, None}
 use Rattle.rs_wire.specs.declared.words.Side.{Side}
 use Rattle.rs_wire.specs.declared.words.Side.TheVariants.{Client, Server}
 use Rattle.rs_frame.specs.Spelling.{IsSpellable, Spells}
@@ -9,7 +9,9 @@ use Rattle.tape.specs.declared.event.Event.TheVariants as event
 use Rattle.tape.specs.declared.answer.Answer.{Answer}
 use Rattle.tape.specs.declared.answer.Answer.TheVariants as answer
 use Rattle.tape.specs.Answers.{leaves}
+use Rattle.rs_frame.specs.Framed.{framed_all}
 use Rattle.session_model.specs.Answers.{answer_to}
+use Rattle.session_model.specs.Frames.{drawn, due}
 use Rattle.session_core.specs.Seen.{IsOrOutOfMemory, Seen, entries_after}
 use Rattle.link_model.specs.Reading.{BeginsBad, IsInFront, IsPart}
 use Rattle.rustshuttle.specs.declared.fault.EndFault.{EndFault}
@@ -119,3 +121,31 @@ FaultFor s (fault.NoFirstFrame rule) = (s.connection ≡ None) × BeginsBad rule
 FaultFor s (fault.Busy queued) = (e : Event) × IsNextOf s e × (answer_to s.session.settings s.session.entries e ≡ answer.OutBusy queued)
 FaultFor s fault.TapeFull = 2 ^ 63 ≤ length s.session.entries
 FaultFor s fault.OutOfMemory = Unit {0}
+
+-- ---- what goes out
+
+-- the bytes that a draw with this answer gives: the next of those that are due and not drawn
+abbrev pub bytes_of_draw : Seen → ℕ → Answer → List ℕ
+bytes_of_draw s c (answer.Drawn n) = take n (drop (drawn s.entries c) (framed_all (due s.settings s.entries c)))
+bytes_of_draw s c _ = []
+
+-- a draw of at most this many bytes gave these
+pub record HasDrawn (c room : ℕ) (bytes : List ℕ) (old new : Seen) : Type 0 where
+  pub answer : Answer
+  pub answered : HasAnswered (event.Draw c room) answer old new
+  pub is : bytes ≡ bytes_of_draw old c answer
+
+-- where there is a connection the bytes are drawn on it, and else there are none
+abbrev pub GivesOnto : Option ℕ → ℕ → List ℕ → Seen → Seen → Type 0
+GivesOnto None room bytes old new = (bytes ≡ []) × (new ≡ old)
+GivesOnto (Some c) room bytes old new = HasDrawn c room bytes old new
+
+pub record GivesOut (room : ℕ) (bytes : List ℕ) (old new : EndSeen) : Type 0 where
+  pub gives : GivesOnto old.connection room bytes old.session new.session
+  pub rest : new ≡ record old { session = new.session }
+
+-- why nothing was drawn
+abbrev pub IsDrawFault : EndSeen → EndFault → Type 0
+IsDrawFault s fault.TapeFull = 2 ^ 63 ≤ length s.session.entries
+IsDrawFault s fault.OutOfMemory = Unit {0}
+IsDrawFault s _ = ⊥

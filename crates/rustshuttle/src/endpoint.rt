@@ -17,7 +17,7 @@ ghost use Rattle.session_model.specs.Legal.{CanBring, Fair, Legal};
 ghost use Rattle.session_core.specs.Queued.{IfDrawn};
 ghost use Rattle.session_core.specs.Seen.{IsNoDrawEvent, told_by};
 ghost use Rattle.link_model.specs.Reading.{BeginsBad, IsInFront, IsPart};
-ghost use Rattle.rustshuttle.specs.Ends.{Brings, EndSeen, FaultFor, HasAnswered, HasAppended, HasBrought, HasNone, IsAsBefore, IsFaultBy, IsFirst, IsFirstFault, IsNextOf, connection_after, is_bad, left_after, rest_after};
+ghost use Rattle.rustshuttle.specs.Ends.{Brings, EndSeen, FaultFor, GivesOut, HasAnswered, HasAppended, HasBrought, HasNone, IsAsBefore, IsDrawFault, IsFaultBy, IsFirst, IsFirstFault, IsNextOf, connection_after, is_bad, left_after, rest_after};
 
 use crate::fault::EndFault;
 use rs_chunk::{Front, Reader};
@@ -359,23 +359,24 @@ impl<T: Tape> Endpoint<T> {
     }
 
     /// Moves the next bytes that go out on the connection into the buffer, of 1 to 4,294,967,295
-    /// bytes: `Drawn` with their count, `NotYet` where nothing waits, and `Stale` where the
-    /// connection is not the live one. Where there is no connection the answer is `NotYet`.
-    pub fn draw(&mut self, buffer: &mut [u8]) -> Answer
+    /// bytes, and gives them: none where nothing waits, where the connection is not the live one, or
+    /// where there is none. After a fault they still wait.
+    pub fn draw<'a>(&mut self, buffer: &'a mut [u8]) -> Result<&'a [u8], EndFault>
         requires some { 0 < length buffer.old }
         requires few { length buffer.old < 2 ^ 32 }
-        ensures answered { IfSome self.old.connection (λ c.
-            HasAnswered (events.Draw c (length buffer.old)) result
-            self.old.session self.new.session) }
-        ensures none { self.old.connection ≡ None → (result ≡ answers.NotYet) × (self.new ≡ self.old) }
-        ensures bytes { IfSome self.old.connection (λ c. IfDrawn result (λ n.
-            take n buffer.new ≡ take n (drop (drawn self.old.session.entries c)
-            (framed_all (due self.old.session.settings self.old.session.entries c))))) }
-        ensures rest { self.new ≡ record self.old { session = self.new.session } }
+        ensures out { IfOk result (λ bytes.
+            GivesOut (length buffer.old) bytes.now self.old self.new) }
+        ensures same { OnErr result (IsAsBefore self.old self.new) }
+        ensures cause { IfErr result (IsDrawFault self.old) }
     {
-        match self.connection {
-            Some(conn) => self.session.draw(CALLER, conn, buffer),
-            None => Answer::NotYet,
+        let Some(conn) = self.connection else {
+            return Ok(&[]);
+        };
+        match self.session.draw(CALLER, conn, buffer) {
+            Answer::Drawn(count) => Ok(&buffer[..count as usize]),
+            Answer::TapeFull => Err(EndFault::TapeFull),
+            Answer::OutOfMemory => Err(EndFault::OutOfMemory),
+            _ => Ok(&[]),
         }
     }
 
