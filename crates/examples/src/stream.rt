@@ -68,14 +68,21 @@ fn take_rest(rt: &impl Print, alloc: Global, client: &mut End, bytes: &[u8]) -> 
     Ok(())
 }
 
+// The whole stream, between two ends at which nothing happened yet.
+fn run_between(rt: &impl Print, alloc: Global, client: &mut End, server: &mut End) -> Result<()>
+    requires { client.old.session.settings.side ≡ Client }
+{
+    connect(rt, client)?;
+    let asked = ask_for_items(rt, alloc, client)?;
+    let two = send_two(rt, alloc, server, &asked)?;
+    let granted = grant_one(rt, alloc, client, &two)?;
+    let last = send_last(rt, alloc, server, &granted)?;
+    take_rest(rt, alloc, client, &last)
+}
+
 /// The whole example.
 pub fn run(rt: &impl Print, alloc: Global) -> Result<()> {
     let mut client = client(alloc)?;
     let mut server = server(alloc)?;
-    connect(rt, &mut client)?;
-    let asked = ask_for_items(rt, alloc, &mut client)?;
-    let two = send_two(rt, alloc, &mut server, &asked)?;
-    let granted = grant_one(rt, alloc, &mut client, &two)?;
-    let last = send_last(rt, alloc, &mut server, &granted)?;
-    take_rest(rt, alloc, &mut client, &last)
+    run_between(rt, alloc, &mut client, &mut server)
 }

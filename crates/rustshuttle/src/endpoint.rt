@@ -309,6 +309,7 @@ impl<T: Tape> Endpoint<T> {
     pub fn bring_all(&mut self, answers: &mut Vec<Answer>) -> Result<(), EndFault>
         ensures brought { (mid : EndSeen) × HasAppended answers.old.items answers.new.items
             self.old mid × IsAsBefore mid self.new }
+        ensures settings { self.new.session.settings ≡ self.old.session.settings }
         ensures all { OnOk result (HasNone self.new) }
         ensures cause { IfErr result (FaultFor self.new) }
     {
