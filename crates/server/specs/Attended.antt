@@ -2,8 +2,9 @@
 use Rattle.std.specs.Prelude.{◌≡◌, ◌≢◌, ℕ, Bool, List, [], ◌∷◌, ◌++◌, slice_get, Option, Some, IfSome}
 use Rattle.rs_wire.specs.declared.settings.Settings.{Settings}
 use Rattle.rs_frame.specs.declared.frame.Frame.{Frame}
-use Rattle.rs_frame.specs.Spelling.{Spells}
-use Rattle.rs_chunk.specs.Stream.{IsWhole, after_frame, first_frame}
+use Rattle.rs_frame.specs.Framed.{framed}
+use Rattle.rs_frame.specs.Spelling.{IsSpellable, Spells}
+use Rattle.rs_chunk.specs.Stream.{IsWhole, first_frame}
 use Rattle.outside.specs.Links.{Shown}
 use Rattle.tape.specs.Told.{entry_of}
 use Rattle.tape.specs.declared.event.Event.TheVariants as event
@@ -25,16 +26,25 @@ use Rattle.server.specs.Running.{AttendsSo, EndedFor}
 
 -- ---- before
 
+-- The bytes taken begin with this frame, and nothing was given.
+pub record IsFirstOf (first : Frame) (bytes : List ℕ) (most : ℕ) (link : Shown) : Type 0 where
+  pub whole : IsWhole bytes most
+  pub spelled : Spells first (first_frame bytes)
+  pub spellable : IsSpellable first
+  pub taken : IfSome link.taken (λ taken. taken ≡ bytes)
+  pub ungiven : IfSome link.given (λ given. given ≡ [])
+
 -- The newest entry of this caller opened connection c by this first frame.
 pub record HasOpened (c : ℕ) (first : Frame) (me : Knowledge) : Type 0 where
   pub taken : Bool
   pub before : List Entry
   pub newest : me.front ≡ entry_of me.number (event.Open (Some first) taken) (answer.Opened c) ∷ before
 
--- Nothing was given to the link, and what was taken begins with this frame; the rest follows it.
+-- Nothing was given to the link, and what was taken of it is this frame, after its length, and then the rest.
 pub record BeginsBy (most : ℕ) (first : Frame) (link : Shown) (rest : List ℕ) : Type 0 where
-  pub ungiven : IfSome link.given (λ bytes. bytes ≡ [])
-  pub taken : IfSome link.taken (λ bytes. IsWhole bytes most × Spells first (first_frame bytes) × (after_frame bytes ≡ rest))
+  pub read : List ℕ
+  pub begins : IsFirstOf first read most link
+  pub cut : read ≡ framed (first_frame read) ++ rest
 
 -- The caller at that place opened connection c by the first frame of the link, of which these bytes are left.
 pub record OpenedAt (most : ℕ) (at c : ℕ) (callers : List Knowledge) (link : Shown) (rest : List ℕ) : Type 0 where

@@ -183,14 +183,6 @@ abbrev pub is_resume : Wish → Bool
 is_resume (wish.Resume token) = true
 is_resume _ = false
 
--- The bytes taken begin with this frame, and nothing was given.
-pub record IsFirstOf (first : Frame) (bytes : List ℕ) (most : ℕ) (link : Shown) : Type 0 where
-  pub whole : IsWhole bytes most
-  pub spelled : Spells first (first_frame bytes)
-  pub spellable : IsSpellable first
-  pub taken : IfSome link.taken (λ taken. taken ≡ bytes)
-  pub ungiven : IfSome link.given (λ given. given ≡ [])
-
 -- All that is said of one link.
 pub record ServedSo (g : Settings) (moments : Option (List ℕ)) (helps : Bool) (grant : Option ℕ) (slot : ℕ) (routes : List Listed) (olds news : List Knowledge) (was now : Option (List OpenJob)) (link : Shown) (outcome : Outcome) : Type 0 where
   pub same : AreBack olds news

@@ -3,10 +3,10 @@
 ghost use Rattle.std.specs.Prelude.{◌≡◌, ◌≢◌, ◌<◌, [], IfSome, is_some, length};
 ghost use Rattle.rs_wire.specs.declared.words.Side.TheVariants.{Server};
 ghost use Rattle.outside.specs.Links.{IsNew, NoneFell};
-ghost use Rattle.server.specs.Attended.{OpenedAt, ServesAt};
+ghost use Rattle.server.specs.Attended.{IsFirstOf, OpenedAt, ServesAt};
 ghost use Rattle.server.specs.Attending.{AreRoutedIn};
 ghost use Rattle.server.specs.Opening.{AreBack, AreOf};
-ghost use Rattle.server.specs.Serving.{Adds, IsCarried, IsFirstOf, IsLeft, IsUnopened};
+ghost use Rattle.server.specs.Serving.{Adds, IsCarried, IsLeft, IsUnopened};
 ghost use Rattle.server.specs.Serving.{KeepsServing, LeavesUnbegun, ServedFor, ServedSo};
 ghost use Rattle.server.specs.Serving.{is_resume, may_resume, unbegun_by};
 ghost use Rattle.server.specs.declared.served.Served.TheVariants as served;
