@@ -10,6 +10,7 @@ mod one_link;
 mod opening;
 mod refusing;
 mod served;
+mod serving;
 
-pub use one_link::serve_connection;
 pub use served::Served;
+pub use serving::serve_connection;

@@ -1,9 +1,13 @@
 //! The opening of a session by a first frame.
 
-ghost use Rattle.std.specs.Prelude.{◌≡◌, ◌<◌, None, length};
+ghost use Rattle.std.specs.Prelude.{◌≡◌, ◌↔◌, ◌<◌, IfOk, IfSome, IsTrue, None, OnErr, false, length, slice_get};
 ghost use Rattle.rs_wire.specs.declared.words.Side.TheVariants.{Server};
 ghost use Rattle.rs_frame.specs.Spelling.{IsSpellable};
-ghost use Rattle.server.specs.Opening.{AreBack, AreOf, HasTicked, TriesAt, TriesToOpen, is_want};
+ghost use Rattle.session_table.specs.Table.{slot_of};
+ghost use Rattle.server.specs.Opening.{AddsIf, AreBack, AreOf, BeginsAt, FollowAll, HasTicked, HasTokenAt};
+ghost use Rattle.server.specs.Opening.{IsHeldAt, NotesAs, OpensAt, StayBeside, TriesAt, TriesSo};
+ghost use Rattle.server.specs.Opening.{is_dead, is_last, is_opened, or_slot, place_in, wish_of};
+ghost use Rattle.server.specs.declared.opening.Wish.TheVariants as wishes;
 
 use conn::{Caller, Connection};
 use outside::Clock;
@@ -26,7 +30,9 @@ pub(crate) enum Wish {
 }
 
 /// What the frame asks for.
-pub(crate) fn wish_of(alloc: Global, first: &Frame) -> Result<Wish, OutOfMemory> {
+pub(crate) fn wish_of(alloc: Global, first: &Frame) -> Result<Wish, OutOfMemory>
+    ensures { IfOk result (λ w. w ≡ wish_of first.now) }
+{
     match first {
         Frame::Resume(resume) => Ok(Wish::Resume(resume.token.copy(alloc)?)),
         Frame::Setup(setup) => match &setup.resume {
@@ -43,7 +49,7 @@ pub(crate) fn wish_of(alloc: Global, first: &Frame) -> Result<Wish, OutOfMemory>
 pub(crate) struct Opening {
     pub(crate) slot: u32,
     pub(crate) answer: Answer,
-    dead: bool,
+    pub(crate) dead: bool,
 }
 
 // Brings a moment of the clock.
@@ -62,15 +68,23 @@ fn tick<R: Wait, K: Clock, T: Tape>(
     connection.event(rt, caller, &Event::Tick { now })
 }
 
-// Whether nothing more can be asked of a session that answered so.
-fn is_want(answer: &Answer) -> bool
-    ensures { result ≡ is_want answer.now }
+// Whether nothing more is asked of a session that answered so.
+fn is_last(answer: &Answer) -> bool
+    ensures { result ≡ is_last answer.now }
 {
     matches!(answer, Answer::TapeFull | Answer::OutOfMemory)
 }
 
-fn is_dead(answer: &Answer) -> bool {
+fn is_dead(answer: &Answer) -> bool
+    ensures { result ≡ is_dead answer.now }
+{
     matches!(answer, Answer::Dead(_))
+}
+
+fn is_opened(answer: &Answer) -> bool
+    ensures { result ≡ is_opened answer.now }
+{
+    matches!(answer, Answer::Opened(_))
 }
 
 // Brings a moment of the clock, and then the opening.
@@ -87,19 +101,19 @@ fn open_at<R: Wait, K: Clock, T: Tape>(
     requires server { connection.now.settings.side ≡ Server }
     requires spellable { IsSpellable first }
     ensures same { caller.new ≡ record caller.old { front = caller.new.front; note = None } }
-    ensures tries { TriesToOpen connection.now.settings (K.moments clock.now) caller.old first taken
-        result.answer caller.new.front }
+    ensures tries { TriesSo connection.now.settings (K.moments clock.now) caller.old first taken
+        result.answer result.dead caller.new.front }
     ensures slot { result.slot ≡ slot }
 {
     let ticked = tick(rt, clock, connection, caller);
-    if is_want(&ticked) {
+    let dead = is_dead(&ticked);
+    if is_last(&ticked) {
         return Opening {
             slot,
             answer: ticked,
-            dead: false,
+            dead,
         };
     }
-    let dead = is_dead(&ticked);
     let event = Event::Open {
         first: Some(first),
         taken,
@@ -128,7 +142,7 @@ fn open_here<R: Wait, K: Clock, T: Tape>(
     requires spellable { IsSpellable first }
     ensures back { AreBack callers.old callers.new }
     ensures tries { TriesAt settings.now (K.moments clock.now) slot callers.old callers.new first
-        taken result.answer }
+        taken result.answer result.dead }
     ensures slot { result.slot ≡ slot }
 {
     let place = slot as usize;
@@ -137,11 +151,15 @@ fn open_here<R: Wait, K: Clock, T: Tape>(
     open_at(rt, clock, slot, connection, caller, first, taken)
 }
 
-// The slot at which a RESUME with this token is opened.
-fn slot_of(sessions: &Sessions, token: &Blob, slot: u32, slots: usize) -> u32 {
-    match sessions.find(token) {
-        Some(found) if (found as usize) < slots => found,
-        _ => slot,
+// The slot of the session that has the token, where it is one of so many places.
+fn place_of(sessions: &Sessions, token: &Blob, slots: usize) -> Option<u32>
+    ensures { result ≡ place_in slots (slot_of token.now sessions.now) }
+{
+    let found = sessions.find(token)?;
+    if (found as usize) < slots {
+        Some(found)
+    } else {
+        None
     }
 }
 
@@ -149,120 +167,191 @@ fn slot_of(sessions: &Sessions, token: &Blob, slot: u32, slots: usize) -> u32 {
 fn resume_in<R: Wait, K: Clock, T: Tape>(
     rt: &R,
     clock: &K,
+    settings: &Checked,
     sessions: &mut Sessions,
     slot: u32,
     connections: &[Connection<T>],
     callers: &mut [Caller<T>],
     first: Frame,
     token: &Blob,
-) -> Opening {
-    let at = slot_of(sessions, token, slot, connections.len());
-    let place = at as usize;
-    let opening = open_at(
-        rt,
-        clock,
-        at,
-        &connections[place],
-        &mut callers[place],
-        first,
-        false,
-    );
-    match opening.answer {
-        Answer::Opened(_) => sessions.rejoined(at),
-        _ => {
-            if opening.dead {
-                sessions.parted(at, clock.now());
-            }
-        }
-    }
+) -> Opening
+    requires place { slot < length connections.now }
+    requires of { AreOf settings.now connections.now callers.old }
+    requires server { settings.now.side ≡ Server }
+    requires spellable { IsSpellable first }
+    requires asks { wish_of first ≡ wishes.Resume token.now }
+    ensures back { AreBack callers.old callers.new }
+    ensures opens { OpensAt settings.now (K.moments clock.now) slot result.slot callers.old
+        callers.new first result.answer }
+    ensures place { result.slot < length connections.now }
+    // It opens at the place that the table gives, and tells the table.
+    ensures at { result.slot ≡ or_slot slot
+        (place_in (length connections.now) (slot_of token.now sessions.old)) }
+    ensures noted { NotesAs (K.moments clock.now) result.slot (is_opened result.answer)
+        result.dead sessions.old sessions.new }
+{
+    let at = place_of(sessions, token, connections.len()).unwrap_or(slot);
+    let opening = open_here(rt, clock, settings, at, connections, callers, first, false);
+    note_opening(clock, sessions, &opening);
     opening
+}
+
+// Notes of a RESUME that its session has a connection again; or, where it was refused after a tick
+// that found the peer dead, that it has none.
+fn note_opening<K: Clock>(clock: &K, sessions: &mut Sessions, opening: &Opening)
+    ensures noted { NotesAs (K.moments clock.now) opening.now.slot (is_opened opening.now.answer)
+        opening.now.dead sessions.old sessions.new }
+{
+    if is_opened(&opening.answer) {
+        sessions.rejoined(opening.slot);
+    } else if opening.dead {
+        sessions.parted(opening.slot, clock.now());
+    }
+}
+
+// Whether the session at this place has the token.
+fn holds_at<R: Wait, T: Tape>(
+    rt: &R,
+    settings: &Checked,
+    place: u32,
+    connections: &[Connection<T>],
+    callers: &mut [Caller<T>],
+    token: &Blob,
+) -> bool
+    requires place { place < length connections.now }
+    requires of { AreOf settings.now connections.now callers.old }
+    ensures back { AreBack callers.old callers.new }
+    ensures others { StayBeside place callers.old callers.new }
+    ensures follow { FollowAll callers.old callers.new }
+    ensures holds { IsTrue result ↔ HasTokenAt callers.new place token.now }
+{
+    let place = place as usize;
+    connections[place].holds(rt, &mut callers[place], token)
 }
 
 // Whether a session at another slot has the token.
 fn is_taken<R: Wait, T: Tape>(
     rt: &R,
-    sessions: &Sessions,
+    settings: &Checked,
+    found: Option<u32>,
     slot: u32,
     connections: &[Connection<T>],
     callers: &mut [Caller<T>],
     token: &Blob,
-) -> bool {
-    match sessions.find(token) {
-        Some(other) if other != slot && (other as usize) < connections.len() => {
-            let place = other as usize;
-            connections[place].holds(rt, &mut callers[place], token)
+) -> bool
+    requires found { IfSome found (λ place. place < length connections.now) }
+    requires of { AreOf settings.now connections.now callers.old }
+    ensures back { AreBack callers.old callers.new }
+    ensures follow { FollowAll callers.old callers.new }
+    ensures here { slice_get callers.new slot ≡ slice_get callers.old slot }
+    ensures taken { IsTrue result ↔ IsHeldAt slot token.now callers.new found }
+{
+    match found {
+        Some(place) if place != slot => {
+            holds_at(rt, settings, place, connections, callers, token)
         }
         _ => false,
     }
 }
 
-// Opens a session that may be resumed by the token, and adds it to the table.
+// Opens a session that may be resumed by the token, and adds it to the table. Where it answers that
+// there was not enough memory, nothing was asked.
 fn begin_in<R: Wait, K: Clock, T: Tape>(
     rt: &R,
     clock: &K,
+    settings: &Checked,
     sessions: &mut Sessions,
     slot: u32,
     connections: &[Connection<T>],
     callers: &mut [Caller<T>],
     first: Frame,
     token: Blob,
-) -> Opening {
-    if sessions.reserve().is_err() {
-        return Opening {
-            slot,
-            answer: Answer::OutOfMemory,
-            dead: false,
-        };
-    }
-    let taken = is_taken(rt, sessions, slot, connections, callers, &token);
-    let place = slot as usize;
-    let opening = open_at(
+) -> Result<Opening, OutOfMemory>
+    requires place { slot < length connections.now }
+    requires of { AreOf settings.now connections.now callers.old }
+    requires server { settings.now.side ≡ Server }
+    requires spellable { IsSpellable first }
+    requires asks { wish_of first ≡ wishes.BeginAs token }
+    ensures back { AreBack callers.old callers.new }
+    ensures begins { IfOk result (λ o. BeginsAt settings.now (K.moments clock.now) slot
+        (place_in (length connections.now) (slot_of token sessions.old)) token callers.old
+        callers.new first o.answer) }
+    ensures slot { IfOk result (λ o. o.slot ≡ slot) }
+    ensures added { IfOk result (λ o. AddsIf (is_opened o.answer) token slot sessions.old
+        sessions.new) }
+    ensures nothing { OnErr result (callers.new ≡ callers.old) }
+    ensures table { OnErr result (sessions.new ≡ sessions.old) }
+{
+    sessions.reserve()?;
+    let found = place_of(sessions, &token, connections.len());
+    let taken = is_taken(rt, settings, found, slot, connections, callers, &token);
+    let opening = open_here(
         rt,
         clock,
+        settings,
         slot,
-        &connections[place],
-        &mut callers[place],
+        connections,
+        callers,
         first,
         taken,
     );
-    if let Answer::Opened(_) = opening.answer {
-        // Where the token is another session's, the table stays as it is.
-        let _added = sessions.add(token, slot);
-    }
-    opening
+    add_if_opened(sessions, &opening.answer, token, slot);
+    Ok(opening)
 }
 
-/// Opens the session that the first frame asks for.
+// Adds the session, where its opening was accepted. Where the token is another session's, the table
+// stays as it is.
+fn add_if_opened(sessions: &mut Sessions, answer: &Answer, token: Blob, slot: u32)
+    ensures { AddsIf (is_opened answer.now) token slot sessions.old sessions.new }
+{
+    if is_opened(answer) {
+        let _added = sessions.add(token, slot);
+    }
+}
+
+/// Opens the session that the first frame asks for, once the table forgot those that parted so many
+/// milliseconds ago. Where it answers that there was not enough memory, nothing was asked.
 pub(crate) fn open<R: Wait, K: Clock, T: Tape>(
     rt: &R,
     clock: &K,
+    settings: &Checked,
     table: &Mutex<Sessions>,
-    hold: u64,
     slot: u32,
     connections: &[Connection<T>],
     callers: &mut [Caller<T>],
     first: Frame,
     wish: Wish,
-) -> Opening {
+) -> Result<Opening, OutOfMemory>
+    requires place { slot < length connections.now }
+    requires of { AreOf settings.now connections.now callers.old }
+    requires server { settings.now.side ≡ Server }
+    requires spellable { IsSpellable first }
+    requires asks { wish ≡ wish_of first }
+    ensures back { AreBack callers.old callers.new }
+    ensures opens { IfOk result (λ o. OpensAt settings.now (K.moments clock.now) slot o.slot
+        callers.old callers.new first o.answer) }
+    ensures place { IfOk result (λ o. o.slot < length connections.now) }
+    ensures nothing { OnErr result (callers.new ≡ callers.old) }
+{
+    let hold = settings.settings().session_hold_ms;
     table.lock(rt).purge(clock.now(), hold);
     match wish {
-        Wish::Begin => {
-            let place = slot as usize;
-            open_at(
-                rt,
-                clock,
-                slot,
-                &connections[place],
-                &mut callers[place],
-                first,
-                false,
-            )
-        }
+        Wish::Begin => Ok(open_here(
+            rt,
+            clock,
+            settings,
+            slot,
+            connections,
+            callers,
+            first,
+            false,
+        )),
         Wish::BeginAs(token) => {
             let mut sessions = table.lock(rt);
             begin_in(
                 rt,
                 clock,
+                settings,
                 &mut sessions,
                 slot,
                 connections,
@@ -273,16 +362,17 @@ pub(crate) fn open<R: Wait, K: Clock, T: Tape>(
         }
         Wish::Resume(token) => {
             let mut sessions = table.lock(rt);
-            resume_in(
+            Ok(resume_in(
                 rt,
                 clock,
+                settings,
                 &mut sessions,
                 slot,
                 connections,
                 callers,
                 first,
                 &token,
-            )
+            ))
         }
     }
 }
