@@ -1,8 +1,9 @@
 -- The first frame of a link: how its bytes are read, and that it stays the first.
 use Rattle.std.proofs.Common.{◌≡◌, ◌<◌, ◌≤◌, ◌+◌, ◌^◌, ◌∙◌, ℕ, List, [], ◌∷◌, ◌++◌, append-nil, append_assoc, length, take, drop, Option, Some, None, IfSome, refl, sym, ap, subst, arith}
 use Rattle.std.specs.List.{AllByRecursion, flat_map}
-use Rattle.std.proofs.lemmas.List.{length-append}
+use Rattle.std.proofs.lemmas.List.{length-append, length-take}
 use Rattle.std.proofs.lemmas.List.Concat.{flat_map-cons}
+use Rattle.std.specs.Io.KnownBytes.{append_known}
 use Rattle.std.proofs.Math.Seq.{take-append_seam}
 use Rattle.byteorder.specs.Endian.{big_bytes, big_number}
 use Rattle.rs_wire.specs.declared.settings.Settings.{Settings}
@@ -11,10 +12,10 @@ use Rattle.rs_frame.specs.Framed.{framed}
 use Rattle.rs_frame.specs.Spelling.{Spells, length_of}
 use Rattle.rs_frame.proofs.Fields.{number_again, rest_again}
 use Rattle.rs_frame.proofs.Whole.{one_length}
-use Rattle.rs_chunk.specs.Stream.{HasFrame, IsCut, IsWhole, first_frame, first_length}
+use Rattle.rs_chunk.specs.Stream.{HasFrame, IsWhole, first_frame, first_length}
 use Rattle.outside.specs.Links.{Shown}
 use Rattle.tape.specs.declared.entry.Entry.{Entry}
-use Rattle.session_model.specs.Frames.{brings, came}
+use Rattle.session_model.specs.Frames.{came}
 use Rattle.link_model.specs.Carrying.{IsFresh}
 use Rattle.link_model.specs.Reading.{AreSpelled, HasRead}
 use Rattle.link_model.proofs.Bytes.{if_some}
@@ -50,20 +51,6 @@ fresh_by g past c first link rest just b =
 
 -- ---- later
 
-pub record CameOn (past more : List Entry) (c : ℕ) : Type 0 where
-  pub later : List Frame
-  pub is : came (more ++ past) c ≡ came past c ++ later
-
-pub came_on : (past more : List Entry) (c : ℕ) → CameOn past more c
-unfolding came
-came_on past [] c = record { later = []; is = sym (append-nil (came past c)) }
-came_on past (x ∷ more) c =
-    let h : CameOn past more c = came_on past more c in
-    record {
-      later = h.later ++ brings (more ++ past) c x.event;
-      is = ap (λ fs. fs ++ brings (more ++ past) c x.event) h.is ∙ append_assoc (came past c) h.later (brings (more ++ past) c x.event);
-    }
-
 length_here : (f x : List ℕ) → length f < 2 ^ 24 → first_length (framed f ++ x) ≡ length f
 length_here f x fits = ap (big_number 3) (append_assoc (big_bytes 3 (length f)) f x) ∙ number_again 3 (length f) (f ++ x) fits
 
@@ -77,36 +64,29 @@ has_front f x short =
     let n = length_here f x short in
     (omega arith, omega (arith, n, length-append f x))
 
-cons_front : (f : List ℕ) (fs : List (List ℕ)) (r : List ℕ) → flat_map framed (f ∷ fs) ++ r ≡ framed f ++ (flat_map framed fs ++ r)
-cons_front f fs r = ap (λ (t : List ℕ). t ++ r) (flat_map-cons framed f fs) ∙ append_assoc (framed f) (flat_map framed fs) r
-
 begins_with : (first : Frame) (most : ℕ) (f x : List ℕ) → Spells first f → length f < 2 ^ 24 → length_of first ≤ most → IsWhole (framed f ++ x) most × Spells first (first_frame (framed f ++ x))
 begins_with first most f x spelled short fits =
     let n = length_here f x short in
     let len = one_length first f spelled in
     ((has_front f x short, omega (arith, n, len, fits)), subst (Spells first) (sym (frame_here f x short)) spelled)
 
-read_first : (first : Frame) (later : List Frame) (bad : Option ℕ) (limit most : ℕ) (rest bytes : List ℕ) (spellings : List (List ℕ)) (more : List ℕ) → AreSpelled (first ∷ later) spellings → IsCut bytes spellings more → length_of first ≤ most → IsWhole bytes most × Spells first (first_frame bytes)
-read_first first later bad limit most rest bytes [] more spelled cut fits = absurd spelled
-read_first first later bad limit most rest bytes (f ∷ fs) more spelled cut fits =
-    subst (λ (b : List ℕ). IsWhole b most × Spells first (first_frame b)) (sym (cut.whole ∙ cons_front f fs more)) (begins_with first most f (flat_map framed fs ++ more) spelled.0 cut.fit.0 fits)
-
--- the bytes of a frame are as many as it says, or fewer
-length_take : (n : ℕ) (xs : List ℕ) → length (take n xs) ≤ n
-length_take n xs = omega arith
-
+-- the first frame has at most as many bytes as a frame may have
 first_fits : (first : Frame) (most : ℕ) (read : List ℕ) → IsWhole read most → Spells first (first_frame read) → length_of first ≤ most
 first_fits first most read whole spelled =
     let len = one_length first (first_frame read) spelled in
-    let few = length_take (first_length read) (drop 3 read) in
+    let few = length-take (first_length read) (drop 3 read) in
     omega (arith, len, few, whole.1)
 
--- what is taken still begins with the first frame, where all that came was taken
-pub first_still : (g : Settings) (past more : List Entry) (c : ℕ) (first : Frame) (bad : Option ℕ) (link : Shown) (read : List ℕ) → came past c ≡ first ∷ [] → IsWhole read g.max_in → Spells first (first_frame read)
-    → IfSome link.taken (λ bytes. (rest : List ℕ) × HasRead (came (more ++ past) c) bad g.max_in rest bytes) → IsFirst g.max_in link first
-first_still g past more c first bad link read came_is whole spelled taken =
-    let h : CameOn past more c = came_on past more c in
-    let is : came (more ++ past) c ≡ first ∷ h.later = h.is ∙ ap (λ (fs : List Frame). fs ++ h.later) came_is in
-    let fits = first_fits first g.max_in read whole spelled in
-    if_some link.taken (λ (bytes : List ℕ) (t : (rest : List ℕ) × HasRead (came (more ++ past) c) bad g.max_in rest bytes).
-        read_first first h.later bad g.max_in g.max_in t.0 bytes t.1.spellings t.1.more (subst (λ (fs : List Frame). AreSpelled fs t.1.spellings) is t.1.spelled) t.1.cut fits) taken
+read_on : (first : Frame) (most : ℕ) (read rest piece : List ℕ) (o : Option (List ℕ)) → Spells first (first_frame read) → length (first_frame read) < 2 ^ 24 → length_of first ≤ most → read ≡ framed (first_frame read) ++ rest → IfSome o (λ t. t ≡ read)
+    → IfSome (append_known o piece) (λ b. IsWhole b most × Spells first (first_frame b))
+read_on first most read rest piece None spelled short fits cut is = tt
+read_on first most read rest piece (Some t) spelled short fits cut is =
+    let whole : t ++ piece ≡ framed (first_frame read) ++ (rest ++ piece) = ap (λ (x : List ℕ). x ++ piece) (is ∙ cut) ∙ append_assoc (framed (first_frame read)) rest piece in
+    subst (λ (b : List ℕ). IsWhole b most × Spells first (first_frame b)) (sym whole) (begins_with first most (first_frame read) (rest ++ piece) spelled short fits)
+
+-- what is taken still begins with the first frame, however much more is taken
+pub first_still : (most : ℕ) (first : Frame) (old link : Shown) (rest piece : List ℕ) → BeginsBy most first old rest → link.taken ≡ append_known old.taken piece → IsFirst most link first
+first_still most first old link rest piece b grown =
+    let short : length (first_frame b.read) < 2 ^ 24 = subst (λ n. n < 2 ^ 24) (sym (one_length first (first_frame b.read) b.begins.spelled)) b.begins.spellable.short in
+    subst (λ o. IfSome o (λ bytes. IsWhole bytes most × Spells first (first_frame bytes))) (sym grown)
+    (read_on first most b.read rest piece old.taken b.begins.spelled short (first_fits first most b.read b.begins.whole b.begins.spelled) b.cut b.begins.taken)

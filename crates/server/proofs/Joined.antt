@@ -69,7 +69,7 @@ turned_bad g past old link bytes number taken none begins same gives =
     let gave = gave_all old link (framed_frame (bad_first number)) none gives in
     record {
       error = bad_first number;
-      earned = subst (λ o. IfSome o (λ b. Earns g.max_in (fronts past) b (bad_first number))) (sym same) (if_some old.taken (λ (b : List ℕ) (is : b ≡ bytes). inl (number, (subst (BeginsBad number g.max_in) (sym is) begins, refl))) taken);
+      earned = subst (λ o. IfSome o (λ b. Earns g.max_in (fronts past) b (bad_first number))) (sym same) (if_some old.taken (λ (b : List ℕ) (is : b ≡ bytes). inl (number, subst (BeginsBad number g.max_in) (sym is) begins, refl)) taken);
       begins = gave.begins;
       whole = gave.whole;
     }
@@ -89,9 +89,9 @@ unbegun_is g moments slot past old link bytes (firsts.NoFirst now) s taken none 
   unopened = inr (inl (record {
     part = if_some old.taken (λ (b : List ℕ) (is : b ≡ bytes). subst (λ x. IsPart x g.max_in) (sym is) cause.0) taken;
     nothing = none;
-    why = inr (cause.1.0, record { start = cause.1.1.0; now = now; first = cause.1.1.1.0; last = cause.1.1.1.1.0; apart = cause.1.1.1.1.1 });
+    why = inr (cause.1, record { start = cause.2.0; now = now; first = cause.2.1; last = cause.2.2; apart = cause.2.3 });
   }));
-  cause = cause.1;
+  cause = (cause.1, cause.2);
 })
 unbegun_is g moments slot past old link bytes firsts.End s taken none cause leaves some = subst (λ (l : Shown). Unbegun g moments slot past l served.End) (sym leaves) (record {
   unopened = inr (inl (record {
@@ -183,7 +183,7 @@ turned_so g moments slot at olds news old link first bytes met told error r says
     let stands = in_one first error news at r.opens.new r.opens.is (turned_tries g moments r.opens.old first error r.opens.taken met r.opens.new.front r.opens.tries (error_of first met told error r.is says)) in
     record {
       error = error;
-      earned = subst (λ o. IfSome o (λ b. Earns g.max_in (fronts news) b error)) (sym r.taken) (if_some old.taken (λ (b : List ℕ) (is : b ≡ bytes). subst (λ x. Earns g.max_in (fronts news) x error) (sym is) (inr (r.begins.whole, (first, (r.begins.spelled, stands))))) r.begins.taken);
+      earned = subst (λ o. IfSome o (λ b. Earns g.max_in (fronts news) b error)) (sym r.taken) (if_some old.taken (λ (b : List ℕ) (is : b ≡ bytes). subst (λ x. Earns g.max_in (fronts news) x error) (sym is) (inr (r.begins.whole, (first, r.begins.spelled, stands)))) r.begins.taken);
       begins = gave.begins;
       whole = gave.whole;
     }

@@ -3,8 +3,6 @@ use Rattle.std.proofs.Common.{◌≡◌, ◌≢◌, ◌<◌, ◌≤◌, ◌^◌,
 use Rattle.rs_wire.specs.declared.words.Side.TheVariants.{Server}
 use Rattle.rs_wire.specs.declared.settings.Settings.{Settings}
 use Rattle.rs_frame.specs.declared.frame.Frame.{Frame}
-use Rattle.rs_frame.specs.Spelling.{Spells}
-use Rattle.rs_chunk.specs.Stream.{IsWhole, first_frame}
 use Rattle.outside.specs.Links.{Shown}
 use Rattle.tape.specs.Told.{entry_of}
 use Rattle.tape.specs.declared.event.Event.{Event}
@@ -32,12 +30,11 @@ use Rattle.workers.specs.Courses.{IsNoWork}
 use Rattle.workers.specs.Serving.{Serving}
 use Rattle.server.specs.Attended.{HasOpened, ServesAt, ServesOne}
 use Rattle.server.specs.Attending.{Attends, Grants, KeepsWork}
-use Rattle.server.specs.Opening.{AreBack, HasTicked, OpensAfter, OpensAt, TriesToOpen, fronts, wish_of}
+use Rattle.server.specs.Opening.{AreBack, HasTicked, IsFirst, OpensAfter, OpensAt, TriesToOpen, fronts, wish_of}
 use Rattle.server.specs.declared.served.Served.{Served}
 use Rattle.server.specs.declared.served.Served.TheVariants as served
 use Rattle.server.specs.Serving.{Agrees, At, Between, IsLeft, IsUnopened, KeepsServing, Opened, ServedFor, ServedSo, may_resume, served_by}
 use Rattle.server.proofs.Agreed.{IsAgreed, agreed_here, agreed_on}
-use Rattle.server.proofs.FirstFrame.{first_still}
 use Rattle.server.proofs.Kept.{serving_goes}
 use Rattle.server.proofs.Places.{back_both, same_got}
 use Rattle.server.proofs.Turned.{full_one}
@@ -119,18 +116,17 @@ legal_before g (x ∷ more) past legal = legal_before g more past legal.0
 -- ---- together
 
 -- What is known of a link whose connection was opened and attended.
-pub record Serves (g : Settings) (moments : Option (List ℕ)) (helps : Bool) (grant : Option ℕ) (slot at c : ℕ) (routes : List Listed) (olds mids news : List Knowledge) (was now : Option (List OpenJob)) (link : Shown) (first : Frame) (read : List ℕ) (r : Turned) : Type 0 where
+pub record Serves (g : Settings) (moments : Option (List ℕ)) (helps : Bool) (grant : Option ℕ) (slot at c : ℕ) (routes : List Listed) (olds mids news : List Knowledge) (was now : Option (List OpenJob)) (link : Shown) (first : Frame) (r : Turned) : Type 0 where
   pub side : g.side ≡ Server
   pub back : AreBack olds mids
   pub back_on : AreBack mids news
   pub opens : OpensAt g moments slot at olds mids first (answer.Opened c)
-  pub whole : IsWhole read g.max_in
-  pub spelled : Spells first (first_frame read)
+  pub is_first : IsFirst g.max_in link first
   pub serves : ServesAt g moments helps grant routes was now at c mids news link r
 
-same_mid : (g : Settings) (moments : Option (List ℕ)) (helps : Bool) (grant : Option ℕ) (slot at c : ℕ) (routes : List Listed) (olds mids news : List Knowledge) (was now : Option (List OpenJob)) (link : Shown) (first : Frame) (read : List ℕ) (r : Turned)
-    → (s : Serves g moments helps grant slot at c routes olds mids news was now link first read r) → s.opens.new ≡ s.serves.old
-same_mid g moments helps grant slot at c routes olds mids news was now link first read r s = same_got s.opens.new s.serves.old (slice_get mids at) s.opens.is s.serves.there
+same_mid : (g : Settings) (moments : Option (List ℕ)) (helps : Bool) (grant : Option ℕ) (slot at c : ℕ) (routes : List Listed) (olds mids news : List Knowledge) (was now : Option (List OpenJob)) (link : Shown) (first : Frame) (r : Turned)
+    → (s : Serves g moments helps grant slot at c routes olds mids news was now link first r) → s.opens.new ≡ s.serves.old
+same_mid g moments helps grant slot at c routes olds mids news was now link first r s = same_got s.opens.new s.serves.old (slice_get mids at) s.opens.is s.serves.there
 
 -- its parts in order
 pub record Parts (g : Settings) (moments : Option (List ℕ)) (helps : Bool) (grant : Option ℕ) (c : ℕ) (routes : List Listed) (was now : Option (List OpenJob)) (link : Shown) (first : Frame) (r : Turned) (old mid new : Knowledge) : Type 0 where
@@ -144,10 +140,10 @@ pub record Parts (g : Settings) (moments : Option (List ℕ)) (helps : Bool) (gr
   pub legal : Legal g mid.front
   pub serves : ServesOne g moments helps grant routes was now c mid new link r
 
-parts_of : (g : Settings) (moments : Option (List ℕ)) (helps : Bool) (grant : Option ℕ) (slot at c : ℕ) (routes : List Listed) (olds mids news : List Knowledge) (was now : Option (List OpenJob)) (link : Shown) (first : Frame) (read : List ℕ) (r : Turned)
-    → (s : Serves g moments helps grant slot at c routes olds mids news was now link first read r) → Parts g moments helps grant c routes was now link first r s.opens.old s.serves.old s.serves.new
-parts_of g moments helps grant slot at c routes olds mids news was now link first read r s =
-    let same = same_mid g moments helps grant slot at c routes olds mids news was now link first read r s in
+parts_of : (g : Settings) (moments : Option (List ℕ)) (helps : Bool) (grant : Option ℕ) (slot at c : ℕ) (routes : List Listed) (olds mids news : List Knowledge) (was now : Option (List OpenJob)) (link : Shown) (first : Frame) (r : Turned)
+    → (s : Serves g moments helps grant slot at c routes olds mids news was now link first r) → Parts g moments helps grant c routes was now link first r s.opens.old s.serves.old s.serves.new
+parts_of g moments helps grant slot at c routes olds mids news was now link first r s =
+    let same = same_mid g moments helps grant slot at c routes olds mids news was now link first r s in
     let tries : TriesToOpen g moments s.opens.old first s.opens.taken (answer.Opened c) s.serves.old.front = subst (λ (k : Knowledge). TriesToOpen g moments s.opens.old first s.opens.taken (answer.Opened c) k.front) same s.opens.tries in
     let on : IsOn s.opens.old s.serves.old = back_got olds mids at s.opens.old s.serves.old s.back s.opens.was s.serves.there in
     let since = attends_on g moments helps grant c s.serves.old s.serves.serves.attends.lease s.serves.new.front s.serves.serves.attends.attends in
@@ -218,13 +214,13 @@ out_by : (r : Turned) (resumes : Bool) → r ≡ turned.OutOfMemory → served_b
 out_by r resumes is = ap (λ (t : Turned). served_by t resumes) is
 
 -- all that is said of a link whose connection was opened
-pub opened_so : (g : Settings) (moments : Option (List ℕ)) (helps : Bool) (grant : Option ℕ) (slot at c : ℕ) (routes : List Listed) (olds mids news : List Knowledge) (was now : Option (List OpenJob)) (link : Shown) (first : Frame) (read : List ℕ) (r : Turned) (resumes : Bool)
-    → Serves g moments helps grant slot at c routes olds mids news was now link first read r → resumes ≡ may_resume (wish_of first) → ServedSo g moments helps grant slot routes olds news was now link (served_by r resumes, Some (at, c))
-opened_so g moments helps grant slot at c routes olds mids news was now link first read r resumes s asks =
+pub opened_so : (g : Settings) (moments : Option (List ℕ)) (helps : Bool) (grant : Option ℕ) (slot at c : ℕ) (routes : List Listed) (olds mids news : List Knowledge) (was now : Option (List OpenJob)) (link : Shown) (first : Frame) (r : Turned) (resumes : Bool)
+    → Serves g moments helps grant slot at c routes olds mids news was now link first r → resumes ≡ may_resume (wish_of first) → ServedSo g moments helps grant slot routes olds news was now link (served_by r resumes, Some (at, c))
+opened_so g moments helps grant slot at c routes olds mids news was now link first r resumes s asks =
     let old = s.opens.old in
     let mid = s.serves.old in
     let new = s.serves.new in
-    let p = parts_of g moments helps grant slot at c routes olds mids news was now link first read r s in
+    let p = parts_of g moments helps grant slot at c routes olds mids news was now link first r s in
     let just = just_by g mid c first p.opened p.legal in
     let agreed = agreed_since g moments helps grant c routes was now link first r old mid new s.side p ∙ sym asks in
     record {
@@ -237,8 +233,7 @@ opened_so g moments helps grant slot at c routes olds mids news was now link fir
         new = new;
         was = s.serves.there;
         is = s.serves.is;
-        is_first = λ alone. (let carried : Carried g (p.more ++ mid.front) link c = subst (λ (es : List Entry). Carried g es link c) p.since (p.serves.carried alone) in
-            first_still g mid.front p.more c first _ link read just.came s.whole s.spelled carried.taken);
+        is_first = s.is_first;
         others = s.serves.others;
         lease = p.serves.attends.lease;
         attends = p.serves.attends.attends;

@@ -54,9 +54,9 @@ turned_called : (g : Settings) (me : Knowledge) (first error : Frame) (taken : B
 turned_called g me first error taken a new called earned = by (resumes first) a called (sym (turned_by first a) ∙ earned) earned
   where
     by : (b : Bool) (a : Answer) → IsCalled g me (event.Open (Some first) taken) a new → refusal (told_as b a) ≡ Some error → turned_away_by first a ≡ Some error → IsTurnedAwayIn first error new
-    by b (answer.SetupRefused why) c told earned = entry_first first error _ c.before new c.step.after (taken, (refl, earned))
-    by b (answer.ResumeRefused why) c told earned = entry_first first error _ c.before new c.step.after (taken, (refl, earned))
-    by b (answer.Closed why) c told earned = entry_first first error _ c.before new c.step.after (taken, (refl, earned))
+    by b (answer.SetupRefused why) c told earned = entry_first first error _ c.before new c.step.after (taken, refl, earned)
+    by b (answer.ResumeRefused why) c told earned = entry_first first error _ c.before new c.step.after (taken, refl, earned)
+    by b (answer.Closed why) c told earned = entry_first first error _ c.before new c.step.after (taken, refl, earned)
     by true _ c told earned = absurd (cc)
     by false _ c told earned = absurd (cc)
 

@@ -72,6 +72,7 @@ pub record NoneOpened (g : Settings) (moments : Option (List ℕ)) (slot : ℕ) 
 -- Connection c was opened by the caller at that place, which attended it.
 pub record Opened (g : Settings) (moments : Option (List ℕ)) (helps : Bool) (grant : Option ℕ) (slot at c : ℕ) (olds news : List Knowledge) (link : Shown) (s : Served) : Type 0 where
   pub first : Frame
+  pub is_first : IsFirst g.max_in link first
   -- the callers as the opening left them
   pub mid : List Knowledge
   pub opens : OpensAt g moments slot at olds mid first (answer.Opened c)
@@ -79,7 +80,6 @@ pub record Opened (g : Settings) (moments : Option (List ℕ)) (helps : Bool) (g
   pub new : Knowledge
   pub was : slice_get mid at ≡ Some old
   pub is : slice_get news at ≡ Some new
-  pub is_first : IsAlone c new.number new.front → IsFirst g.max_in link first
   pub others : StayBeside at mid news
   pub lease : Answer
   pub attends : Attends g moments helps grant c old lease new.front

@@ -226,7 +226,9 @@ fn holds_at<R: Wait, T: Tape>(
     ensures holds { IsTrue result ↔ HasTokenAt callers.new place token.now }
 {
     let place = place as usize;
-    connections[place].holds(rt, &mut callers[place], token)
+    let connection = &connections[place];
+    let caller = &mut callers[place];
+    connection.holds(rt, caller, token)
 }
 
 // Whether a session at another slot has the token.
