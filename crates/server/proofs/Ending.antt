@@ -11,6 +11,7 @@ use Rattle.outside.specs.Causes.{Rose}
 use Rattle.outside.specs.Links.{Shown}
 use Rattle.tape.specs.declared.event.Event.{Event}
 use Rattle.tape.specs.declared.event.Event.TheVariants as event
+use Rattle.tape.specs.declared.answer.Answer.{Answer}
 use Rattle.tape.specs.declared.answer.Answer.TheVariants as answer
 use Rattle.tape.specs.declared.entry.Entry.{Entry}
 use Rattle.session_model.specs.Answers.{answer_to, facts}
@@ -25,14 +26,14 @@ use Rattle.link_model.specs.Carrying.{Between, IsAlone, Keeps, is_of}
 use Rattle.link_model.specs.Leaving.{ComesInTime, Heard, IsBroken, Left, displaced}
 use Rattle.pump.specs.declared.turned.Turned.{Turned}
 use Rattle.pump.specs.declared.turned.Turned.TheVariants as turned
-use Rattle.pump.specs.Turns.{GoesOn, IsKept, IsReadOut, MovesAlone, Names, TurnedFor, WasAnswered, is_early, is_last}
+use Rattle.pump.specs.Turns.{GoesOn, IsKept, IsReadOut, MovesAlone, Names, Ticks, TurnedFor, WasNoted, is_early, is_last}
 use Rattle.pump.proofs.Adding.{IsOn, IsOwn, all_as, all_split}
 use Rattle.pump.proofs.ReadOut.{is_heard}
 use Rattle.link_laws.specs.Opened.{IsJustOpened}
 use Rattle.link_laws.specs.Staying.{IsHeld, StaysOn, ends}
 use Rattle.link_laws.proofs.Staying.{displaced_more, on_or_displaced}
 use Rattle.link_laws.proofs.Ended.{in_time, not_local}
-use Rattle.link_laws.proofs.Ending.{IsOwnQuiet, left_over, left_stale, stays_by}
+use Rattle.link_laws.proofs.Ending.{left_dead, left_over, left_stale, stays_held}
 
 pub legal_of : (g : Settings) (more past : List Entry) → Legal g (more ++ past) → Legal g past
 unfolding Legal
@@ -44,7 +45,7 @@ pub alone_of : (c n : ℕ) (past : List Entry) → IsHeld c n past → IsAlone c
 alone_of c n past held = all_as (λ (x : Entry). (is_of c x.event || ends c x.event) ≡ true → x.who ≡ n) (λ (x : Entry). is_of c x.event ≡ true → x.who ≡ n) (λ x h is. h (rw is refl)) past held
 
 -- ends of links
-rose_some : (old new : ℕ) → Rose old new → 0 < new
+pub rose_some : (old new : ℕ) → Rose old new → 0 < new
 rose_some old new (inl lt) = omega (arith, lt)
 rose_some old new (inr full) = omega (arith, full)
 
@@ -71,9 +72,8 @@ module _ (g : Settings) (P : Event → Type 0) (was now : Knowledge) (s t : Show
   legal_on = subst (Legal g) goes.on legal
 
   stays : StaysOn b.conn goes.more
-  stays = stays_by b.conn was.number was.names (λ k. times k was.names) goes.more named
-      (all_as (IsOwn P was.names was.number) (IsOwnQuiet b.conn was.names (λ k. times k was.names) was.number) (λ x own is. (let o = own is in (o.0, quiet x.event o.1))) goes.more goes.own)
-      (all_split _ goes.more was.front (subst (IsHeld b.conn was.number) goes.on held)).0
+  stays = stays_held b.conn was.number goes.more (all_split _ goes.more was.front (subst (IsHeld b.conn was.number) goes.on held)).0
+      (all_as (IsOwn P was.names was.number) (λ (x : Entry). x.who ≡ was.number → ends b.conn x.event ≡ false) (λ x own is. quiet x.event (own (subst (λ n. 0 < times n was.names) (sym is) named)).1) goes.more goes.own)
 
   own : MovesAlone now b.conn
   own =
@@ -89,15 +89,31 @@ module _ (g : Settings) (P : Event → Type 0) (was now : Knowledge) (s t : Show
       let of : now.of.settings ≡ g = ap (λ (x : Knowledge). x.of.settings) on ∙ settings in
       subst (λ es. Keeps g es t b) goes.on (subst (λ h. Keeps h now.front t b) of (kept own))
 
+  -- where an entry was noted since the opening
+  module _ (Q : Event → Type 0) (a : Answer) (w : WasNoted Q g was now.front a) where
+    parts : goes.more ≡ w.until.0 ++ w.entry ∷ w.since.0
+    parts = append_cancel_right goes.more (w.until.0 ++ w.entry ∷ w.since.0) was.front (sym goes.on ∙ (w.until.1 ∙ (ap (λ l. w.until.0 ++ w.entry ∷ l) w.since.1 ∙ sym (append_assoc w.until.0 (w.entry ∷ w.since.0) was.front))))
+
+    stays_before : StaysOn b.conn w.since.0
+    stays_before = (all_split _ w.until.0 (w.entry ∷ w.since.0) (subst (StaysOn b.conn) parts stays)).1.1
+
+    legal_before : Legal g (w.since.0 ++ was.front)
+    legal_before = subst (Legal g) w.since.1 (legal_of g (w.entry ∷ []) w.before (legal_of g w.until.0 (w.entry ∷ w.before) (subst (Legal g) w.until.1 legal)))
+
+    -- what displaced the connection by then did so for good
+    for_good : displaced (w.entry ∷ w.since.0 ++ was.front) b.conn ≡ true → displaced now.front b.conn ≡ true
+    for_good gone = subst (λ es. displaced es b.conn ≡ true) (sym w.until.1) (displaced_more w.until.0 (w.entry ∷ w.before) b.conn (subst (λ es. displaced (w.entry ∷ es) b.conn ≡ true) (sym w.since.1) gone))
+
   -- another connection was the live one
-  stale : (n : ℕ) → WasAnswered (Names b.conn) g was.front now.front (answer.Stale n) → displaced now.front b.conn ≡ true
+  stale : (n : ℕ) → WasNoted (Names b.conn) g was now.front (answer.Stale n) → displaced now.front b.conn ≡ true
   stale n w =
-      let since : w.before ≡ w.since.0 ++ was.front = w.since.1 in
-      let parts : goes.more ≡ w.until.0 ++ w.since.0 = append_cancel_right goes.more (w.until.0 ++ w.since.0) was.front (sym goes.on ∙ (w.until.1 ∙ (ap (λ l. w.until.0 ++ l) since ∙ sym (append_assoc w.until.0 w.since.0 was.front)))) in
-      let quiet_before : StaysOn b.conn w.since.0 = (all_split _ w.until.0 w.since.0 (subst (StaysOn b.conn) parts stays)).1 in
-      let legal_before : Legal g w.before = legal_of g w.until.0 w.before (subst (Legal g) w.until.1 legal) in
-      let gone : displaced (w.since.0 ++ was.front) b.conn ≡ true = left_stale g t b.conn w.since.0 was.front (subst (Legal g) since legal_before) quiet_before just.here (subst (λ es. is_live (live es) b.conn ≡ false) since (off_live g w.before b.conn n w.event w.is w.answered)) in
-      subst (λ es. displaced es b.conn ≡ true) (sym w.until.1) (displaced_more w.until.0 w.before b.conn (subst (λ es. displaced es b.conn ≡ true) (sym since) gone))
+      let off : is_live (live (w.since.0 ++ was.front)) b.conn ≡ false = subst (λ es. is_live (live es) b.conn ≡ false) w.since.1 (off_live g w.before b.conn n w.entry.event w.is w.right) in
+      let gone : displaced (w.since.0 ++ was.front) b.conn ≡ true = left_stale g t b.conn w.since.0 was.front (legal_before (Names b.conn) (answer.Stale n) w) (stays_before (Names b.conn) (answer.Stale n) w) just.here off in
+      for_good (Names b.conn) (answer.Stale n) w (displaced_more (w.entry ∷ []) (w.since.0 ++ was.front) b.conn gone)
+
+  -- its peer counted as dead
+  dead : (moments : Option (List ℕ)) (last : ℕ) → WasNoted (Ticks moments) g was now.front (answer.Dead last) → displaced now.front b.conn ≡ true
+  dead moments last w = for_good (Ticks moments) (answer.Dead last) w (left_dead g b.conn w.entry w.since.0 was.front last w.answered (legal_before (Ticks moments) (answer.Dead last) w) (stays_before (Ticks moments) (answer.Dead last) w) just.here)
 
   broken : IsBroken t → IsReadOut g was b now.front → Left g now.front t b.conn
   broken is out = elim (displaced now.front b.conn) as (λ v. displaced now.front b.conn ≡ v → Left g now.front t b.conn) [
@@ -112,15 +128,15 @@ module _ (g : Settings) (P : Event → Type 0) (was now : Knowledge) (s t : Show
   over : (why : Cause) → closed g now.front ≡ Some why → queued g now.front ≡ 0 → b.left ≡ [] → Left g now.front t b.conn
   over why is empty none = subst (λ es. Left g es t b.conn) (sym goes.on) (left_over g t b goes.more was.front why legal_on stays just.here just.free (subst (λ es. closed g es ≡ Some why) goes.on is) keeps_on none (subst (λ es. queued g es ≡ 0) goes.on empty))
 
-  pub left_after : (moments : Option (List ℕ)) (r : Turned) → is_last r ≡ true → (r ≡ turned.OutOfMemory → ⊥) → ((last : ℕ) → r ≡ turned.Dead last → displaced now.front b.conn ≡ true)
+  pub left_after : (moments : Option (List ℕ)) (r : Turned) → is_last r ≡ true → (r ≡ turned.OutOfMemory → ⊥)
       → TurnedFor g moments was now.front s t b r → (is_early r ≡ false → IsReadOut g was b now.front) → Left g now.front t b.conn
-  left_after moments (turned.Moved given taken) last some dead cause out = absurd (true≢false (sym last))
-  left_after moments (turned.Busy q) last some dead cause out = absurd (true≢false (sym last))
-  left_after moments turned.Lull last some dead cause out = absurd (true≢false (sym last))
-  left_after moments (turned.Over why) last some dead cause out = over why cause.0 cause.1 cause.2
-  left_after moments (turned.Displaced n) last some dead cause out = inr (inl (stale n cause))
-  left_after moments turned.End last some dead cause out = broken (inr (rose_some s.counts.ends t.counts.ends cause)) (out refl)
-  left_after moments turned.LinkFault last some dead cause out = broken (inl (rose_some s.counts.faults t.counts.faults cause)) (out refl)
-  left_after moments (turned.Dead n) last some dead cause out = inr (inl (dead n refl))
-  left_after moments turned.TapeFull last some dead cause out = inl cause
-  left_after moments turned.OutOfMemory last some dead cause out = absurd (some refl)
+  left_after moments (turned.Moved given taken) last some cause out = absurd (true≢false (sym last))
+  left_after moments (turned.Busy q) last some cause out = absurd (true≢false (sym last))
+  left_after moments turned.Lull last some cause out = absurd (true≢false (sym last))
+  left_after moments (turned.Over why) last some cause out = over why cause.0 cause.1 cause.2
+  left_after moments (turned.Displaced n) last some cause out = inr (inl (stale n cause))
+  left_after moments turned.End last some cause out = broken (inr (rose_some s.counts.ends t.counts.ends cause)) (out refl)
+  left_after moments turned.LinkFault last some cause out = broken (inl (rose_some s.counts.faults t.counts.faults cause)) (out refl)
+  left_after moments (turned.Dead n) last some cause out = inr (inl (dead moments n cause))
+  left_after moments turned.TapeFull last some cause out = inl cause
+  left_after moments turned.OutOfMemory last some cause out = absurd (some refl)

@@ -1,18 +1,17 @@
 //! An opened connection, served to its end.
 
 ghost use Rattle.std.specs.Prelude.{◌≡◌, ◌≢◌, ◌<◌, ◌^◌, ◌++◌, List, is_some};
+ghost use Rattle.tape.specs.declared.entry.Entry.{Entry};
 ghost use Rattle.outside.specs.Links.{NoneFell};
-ghost use Rattle.link_model.specs.Carrying.{IsFresh};
-ghost use Rattle.pump.specs.Turns.{GoesOn};
+ghost use Rattle.session_model.specs.Legal.{Legal};
 ghost use Rattle.rs_frame.specs.declared.frame.Frame.{Frame as Head};
-ghost use Rattle.link_model.specs.Carrying.{Carried, IsAlone};
+ghost use Rattle.link_model.specs.Carrying.{Carried, IsAlone, IsFresh};
 ghost use Rattle.link_model.specs.Leaving.{Left};
 ghost use Rattle.link_laws.specs.Opened.{IsJustOpened};
 ghost use Rattle.link_laws.specs.Staying.{IsHeld};
+ghost use Rattle.pump.specs.Turns.{GoesOn};
 ghost use Rattle.server.specs.Attending.{AreFewTicks, AreRoutedIn, IsCut, KeepsWork};
-ghost use Rattle.server.specs.Running.{AttendsSo, EndedFor, Ran, ended_by};
-ghost use Rattle.session_model.specs.Legal.{Legal};
-ghost use Rattle.tape.specs.declared.entry.Entry.{Entry};
+ghost use Rattle.server.specs.Running.{AttendsSo, EndedFor, Leases, Ran, ended_by};
 
 use crate::attending::attend;
 use crate::lost::{cut, note_dead};
@@ -52,6 +51,7 @@ fn grant_lease<R: Wait, T: Tape>(
     requires of { caller.old.of ≡ connection.now }
     ensures same { caller.new ≡
         record caller.old { front = caller.new.front; note = caller.new.note } }
+    ensures leases { Leases connection.now.settings grant caller.old caller.new.front result }
 {
     let count = grant?;
     let ttl = Amount::of(LEASE_MS)?;
@@ -109,7 +109,8 @@ fn run<R: Wait, L: Link, K: Clock, T: Tape, F: Handler>(
 
 // What a connection comes to whose cut was answered so.
 fn after_cut(answer: &Answer, turned: Turned) -> Turned
-    ensures { result ≢ Turned.OutOfMemory → result ≡ turned }
+    ensures result { result ≢ Turned.OutOfMemory → result ≡ turned }
+    ensures want { turned ≡ Turned.OutOfMemory → result ≡ Turned.OutOfMemory }
 {
     match answer {
         Answer::OutOfMemory => Turned::OutOfMemory,
@@ -133,6 +134,7 @@ fn finish<R: Wait, K: Clock, T: Tape>(
         record caller.old { front = caller.new.front; note = caller.new.note } }
     ensures goes { GoesOn (IsCut conn) caller.old caller.new.front }
     ensures result { result ≢ Turned.OutOfMemory → result ≡ turned }
+    ensures want { turned ≡ Turned.OutOfMemory → result ≡ Turned.OutOfMemory }
 {
     if let Turned::Dead(_) = turned {
         note_dead(rt, clock, table, slot, connection, caller);
@@ -166,11 +168,17 @@ pub(crate) fn serve_opened<R: Wait, L: Link, K: Clock, T: Tape, F: Handler>(
         reader.bytes }
     ensures same { caller.new ≡
         record caller.old { front = caller.new.front; note = caller.new.note } }
-    ensures carried { IsAlone conn caller.new.number caller.new.front →
-        Carried connection.now.settings caller.new.front (L.shown link.new) conn }
     ensures legal { Legal connection.now.settings caller.new.front }
+
+    // The lease, what attends the connection, and its cut.
     ensures attends { AttendsSo connection.now.settings (K.moments clock.now) (is_some jobs.old)
         grant conn caller.old caller.new.front result }
+
+    // Its link is carried, if its caller alone moves bytes of it.
+    ensures carried { IsAlone conn caller.new.number caller.new.front →
+        Carried connection.now.settings caller.new.front (L.shown link.new) conn }
+
+    // Its link may be left, if this caller alone also ends the connection.
     ensures left { (first : Head) →
         IsJustOpened connection.now.settings caller.old.front conn first →
         IsHeld conn caller.new.number caller.new.front → result ≢ Turned.OutOfMemory →
