@@ -10,11 +10,11 @@ bounds-connections-place g c = c.requires.place
 pub bounds-callers-place : goal.bounds-callers-place
 bounds-callers-place g c = subst (λ n. c.args.place < n) (sym (same_length c.args.settings.now c.args.connections.now c.args.callers.now c.requires.of)) c.requires.place
 
-pub holds-requires-clause-of : goal.holds-requires-clause-of
-holds-requires-clause-of g c =
+pub holds-requires : goal.holds-requires
+holds-requires g c =
     let id = c.index-connections-place.result in
     let same : slice_index_or c.args.connections.now c.args.place id ≡ id = search rules in
-    (of_at c.args.settings.now c.args.connections.now c.args.callers.now c.args.place id c.index-callers-place.result c.requires.of c.requires.place).0 ∙ same
+    record { of = (of_at c.args.settings.now c.args.connections.now c.args.callers.now c.args.place id c.index-callers-place.result c.requires.of c.requires.place).0 ∙ same }
 
 pub returns-clause-back : goal.returns-clause-back
 returns-clause-back g c =
