@@ -14,7 +14,7 @@ use Rattle.session_model.specs.Legal.{Legal}
 use Rattle.session_model.specs.Life.{resumption_agreed}
 use Rattle.conn_shared.specs.Calls.{IsCalled}
 use Rattle.conn_shared.specs.Members.{Continues, Knowledge}
-use Rattle.link_model.specs.Carrying.{Carried, IsAlone}
+use Rattle.link_model.specs.Carrying.{IsFresh}
 use Rattle.link_model.specs.Leaving.{Left}
 use Rattle.link_laws.specs.Opened.{IsJustOpened}
 use Rattle.link_laws.specs.Staying.{IsHeld}
@@ -28,13 +28,14 @@ use Rattle.handlers.specs.Listed.{Listed}
 use Rattle.workers.specs.declared.job.OpenJob.{OpenJob}
 use Rattle.workers.specs.Courses.{IsNoWork}
 use Rattle.workers.specs.Serving.{Serving}
-use Rattle.server.specs.Attended.{HasOpened, ServesAt, ServesOne}
+use Rattle.server.specs.Attended.{BeginsBy, HasOpened, OpenedAt, ServesAt, ServesOne}
 use Rattle.server.specs.Attending.{Attends, Grants, KeepsWork}
 use Rattle.server.specs.Opening.{AreBack, HasTicked, IsFirst, OpensAfter, OpensAt, TriesToOpen, fronts, wish_of}
 use Rattle.server.specs.declared.served.Served.{Served}
 use Rattle.server.specs.declared.served.Served.TheVariants as served
 use Rattle.server.specs.Serving.{Agrees, At, Between, IsLeft, IsUnopened, KeepsServing, Opened, ServedFor, ServedSo, may_resume, served_by}
 use Rattle.server.proofs.Agreed.{IsAgreed, agreed_here, agreed_on}
+use Rattle.server.proofs.FirstFrame.{fresh_by}
 use Rattle.server.proofs.Kept.{serving_goes}
 use Rattle.server.proofs.Places.{back_both, same_got}
 use Rattle.server.proofs.Turned.{full_one}
@@ -246,3 +247,22 @@ opened_so g moments helps grant slot at c routes olds mids news was now link fir
       cause = ended_so g moments helps grant slot at c routes olds news was now link first r resumes old mid new s.opens.was s.serves.is p agreed;
       work = work_so g moments routes olds news was now (served_by r resumes) at c first p.taken old mid new s.opens.was s.serves.is p.on p.on_after p.tries p.serves.work;
     }
+
+-- ---- before
+
+-- a caller that just opened its connection by the link's first frame finds it fresh
+pub fresh_at : (g : Settings) (k : Knowledge) (at c : ℕ) (callers : List Knowledge) (link : Shown) (rest : List ℕ) → Legal g k.front → slice_get callers at ≡ Some k → OpenedAt g.max_in at c callers link rest → IsFresh g k.front link c rest
+fresh_at g k at c callers link rest legal is o =
+    let same : o.me ≡ k = same_got o.me k (slice_get callers at) o.is is in
+    let opened : HasOpened c o.first k = subst (HasOpened c o.first) same o.opened in
+    fresh_by g k.front c o.first link rest (just_by g k c o.first opened legal) o.begins
+
+-- the caller at a place has opened a connection by the first frame
+pub opened_at : (g : Settings) (moments : Option (List ℕ)) (slot at c : ℕ) (olds mids : List Knowledge) (first : Frame) (link : Shown) (rest : List ℕ) → AreBack olds mids → OpensAt g moments slot at olds mids first (answer.Opened c) → BeginsBy g.max_in first link rest → OpenedAt g.max_in at c mids link rest
+opened_at g moments slot at c olds mids first link rest back o b = record {
+  me = o.new;
+  is = o.is;
+  first = first;
+  opened = opened_by g moments o.old o.new first o.taken c (back_got olds mids at o.old o.new back o.was o.is) o.tries;
+  begins = b;
+}

@@ -1,5 +1,5 @@
 -- What serving one link came to. Entries stand newest first.
-use Rattle.std.specs.Prelude.{◌≡◌, ◌≢◌, ◌<◌, ◌≤◌, ◌+◌, ◌^◌, ◌⊎◌, ℕ, Bool, true, false, List, [], slice_get, Option, Some, None, IfSome, is_some}
+use Rattle.std.specs.Prelude.{◌++◌, ◌≡◌, ◌≢◌, ◌<◌, ◌≤◌, ◌+◌, ◌^◌, ◌⊎◌, ℕ, Bool, true, false, List, [], slice_get, Option, Some, None, IfSome, is_some}
 use Rattle.rs_wire.specs.declared.fault.Gone.{Gone}
 use Rattle.rs_wire.specs.declared.fault.Gone.TheVariants as gone
 use Rattle.rs_wire.specs.declared.fault.SetupFault.TheVariants as fault

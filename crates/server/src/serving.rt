@@ -3,6 +3,7 @@
 ghost use Rattle.std.specs.Prelude.{◌≡◌, ◌≢◌, ◌<◌, [], IfSome, is_some, length};
 ghost use Rattle.rs_wire.specs.declared.words.Side.TheVariants.{Server};
 ghost use Rattle.outside.specs.Links.{IsNew, NoneFell};
+ghost use Rattle.pump.specs.Moves.{HasGrown};
 ghost use Rattle.server.specs.Attended.{IsFirstOf, OpenedAt, ServesAt};
 ghost use Rattle.server.specs.Attending.{AreRoutedIn};
 ghost use Rattle.server.specs.Opening.{AreBack, AreOf};
@@ -56,8 +57,10 @@ fn serve_at<R: Wait, L: Link, K: Clock, T: Tape, F: Handler>(
     ensures back { AreBack callers.old callers.new }
     ensures serves { ServesAt settings.now (K.moments clock.now) (is_some jobs.old) grant
         routes.now jobs.old jobs.new at conn callers.old callers.new (L.shown link.new) result }
+    ensures taken { HasGrown (L.shown link.old).taken (L.shown link.new).taken }
     ensures counted { NoneFell (L.shown link.old).counts (L.shown link.new).counts }
 {
+    settings.settings();
     let place = at as usize;
     let connection = &connections[place];
     let caller = &mut callers[place];
