@@ -1,7 +1,7 @@
-use Rattle.std.proofs.Common.{rules, ◌≡◌, ◌<◌, ◌^◌, ◌∙◌, true, false, true≢false, is_some, refl, sym, ap, subst}
+use Rattle.std.proofs.Common.{rules, ◌≡◌, ◌<◌, ◌^◌, ◌∙◌, true, false, is_some, refl, sym, ap, subst}
 use Rattle.conn_shared.specs.Members.{Knowledge}
-use Rattle.pump.specs.Turns.{GoesOn, IsPumped, IsTurned, MovesAlone, Spares, is_early, is_last}
-use Rattle.pump.proofs.Adding.{IsOn, goes_as, goes_both, goes_continues, goes_none, on_both}
+use Rattle.pump.specs.Turns.{GoesOn, IsPumped, MovesAlone, Spares, is_last}
+use Rattle.pump.proofs.Adding.{goes_as, goes_both, goes_continues, goes_none, on_both}
 use Rattle.pump.proofs.Going.{kept_goes, turn_goes}
 use Rattle.pump.proofs.Outcomes.{none_fell, none_fell_both, ran_for, read_wider}
 use Rattle.server.specs.Attending.{IsAttended, IsHelped}
