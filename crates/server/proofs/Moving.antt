@@ -2,7 +2,7 @@
 use Rattle.std.specs.List.{AllByRecursion}
 use Rattle.std.specs.Io.KnownBytes.{append_known}
 use Rattle.std.proofs.lemmas.List.{length-append}
-use Rattle.std.proofs.Common.{◌≡◌, ◌<◌, ◌≤◌, ◌+◌, ◌-◌, ◌^◌, ◌×◌, ◌⊎◌, ◌∙◌, inl, inr, ℕ, Bool, true, false, true≢false, List, [], ◌∷◌, ◌++◌, Option, Some, None, is_some, refl, sym, ap, subst, arith}
+use Rattle.std.proofs.Common.{◌≡◌, ◌<◌, ◌≤◌, ◌+◌, ◌-◌, ◌^◌, ◌⊎◌, ◌∙◌, inl, inr, ℕ, Bool, true, false, true≢false, List, [], ◌∷◌, ◌++◌, Option, Some, None, is_some, refl, sym, ap, subst, arith, append_assoc}
 use Rattle.rs_wire.specs.declared.settings.Settings.{Settings}
 use Rattle.outside.specs.Links.{NoneFell, Shown}
 use Rattle.tape.specs.declared.event.Event.{Event}
@@ -31,6 +31,10 @@ use Rattle.server.proofs.Waits.{busy_waits, waits_still}
 shown_before : (old new : Option (List ℕ)) → HasGrown old new → is_some new ≡ true → is_some old ≡ true
 shown_before None new h is = absurd (true≢false (sym is ∙ ap is_some h.1))
 shown_before (Some xs) new h is = refl
+
+pub grown_both : (a b c : Option (List ℕ)) → HasGrown a b → HasGrown b c → HasGrown a c
+grown_both None b c h k = ([], k.1 ∙ ap (λ o. append_known o k.0) h.1)
+grown_both (Some xs) b c h k = (h.0 ++ k.0, k.1 ∙ (ap (λ o. append_known o k.0) h.1 ∙ ap Some (append_assoc xs h.0 k.0)))
 
 longer : (old new : Option (List ℕ)) → HasGrown old new → length_shown old ≤ length_shown new
 longer None new h = omega arith

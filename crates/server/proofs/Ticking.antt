@@ -26,7 +26,7 @@ unfolding ticks_by
 ticks_both names [] past = omega arith
 ticks_both names (x ∷ more) past = let rest = ticks_both names more past in omega (arith, rest)
 
-count_none : (a b : Bool) → (b ≡ true → a ≡ false) → (if a && b then 1 else 0) ≡ 0
+count_none : (a b : Bool) → (b ≡ true → a ≡ false) → ◌≡◌ {A = ℕ} (if a && b then 1 else 0) 0
 count_none false b f = refl
 count_none true false f = refl
 count_none true true f = absurd (true≢false (f refl))

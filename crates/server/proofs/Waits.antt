@@ -1,8 +1,8 @@
 -- Bytes that wait in the queue once a frame found no place there.
 use Rattle.std.specs.List.{AllByRecursion}
 use Rattle.std.proofs.lemmas.Bool.Decides.{nat_tests}
-use Rattle.std.proofs.lemmas.List.{length-append}
-use Rattle.std.proofs.Common.{◌≡◌, ◌<◌, ◌≤◌, ◌+◌, ◌^◌, ◌∙◌, ℕ, Bool, true, false, true≢false, nat_lt, if◌then◌else◌, List, [], ◌∷◌, ◌++◌, length, take, drop, Option, Some, None, refl, sym, ap, subst, arith}
+use Rattle.std.proofs.lemmas.List.{length-append, length-take}
+use Rattle.std.proofs.Common.{◌≡◌, ◌<◌, ◌≤◌, ◌+◌, ◌-◌, ◌^◌, ◌∙◌, ℕ, Bool, true, false, true≢false, nat_lt, if◌then◌else◌, List, [], ◌∷◌, ◌++◌, length, take, drop, Option, Some, None, refl, sym, ap, subst, arith}
 use Rattle.rs_wire.specs.Settings.{out_limit_of}
 use Rattle.rs_wire.specs.declared.fault.Cause.{Cause}
 use Rattle.rs_wire.specs.declared.fault.Gone.{Gone}
@@ -62,10 +62,13 @@ from g t conn len q next not short is = by (is_live t.live conn) t.closed (nat_l
     by true (Some why) full here is_full is = absurd (true≢false (ap is_busy is))
     by false closed full here is_full is = absurd (true≢false (ap is_busy is))
 
+take_few : (n : ℕ) (xs : List ℕ) → length (take n xs) ≤ n
+take_few n xs = omega (arith, length-take n xs)
+
 -- a whole frame within the limit is short
 short_by : (f : Frame) (bytes : List ℕ) (most : ℕ) → most < 2 ^ 24 → IsWhole bytes most → Spells f (first_frame bytes) → length_of f < 2 ^ 24
 short_by f bytes most short whole spells =
-    let few : length (first_frame bytes) ≤ first_length bytes = omega arith in
+    let few : length (first_frame bytes) ≤ first_length bytes = take_few (first_length bytes) (drop 3 bytes) in
     let same : length (first_frame bytes) ≡ length_of f = one_length f (first_frame bytes) spells in
     omega (arith, few, same, whole.1, short)
 

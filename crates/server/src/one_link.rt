@@ -9,6 +9,7 @@ ghost use Rattle.link_model.specs.Carrying.{Carried, IsAlone, IsFresh};
 ghost use Rattle.link_model.specs.Leaving.{Left};
 ghost use Rattle.link_laws.specs.Opened.{IsJustOpened};
 ghost use Rattle.link_laws.specs.Staying.{IsHeld};
+ghost use Rattle.pump.specs.Moves.{HasGrown};
 ghost use Rattle.pump.specs.Turns.{GoesOn};
 ghost use Rattle.server.specs.Attending.{AreFewTicks, AreRoutedIn, IsCut, KeepsWork};
 ghost use Rattle.server.specs.Running.{AttendsSo, EndedFor, Leases, Ran, ended_by};
@@ -91,6 +92,7 @@ fn run<R: Wait, L: Link, K: Clock, T: Tape, F: Handler>(
         record caller.old { front = caller.new.front; note = caller.new.note } }
     ensures ran { Ran connection.now.settings (K.moments clock.now) (is_some jobs.old) grant
         caller.old caller.new (L.shown link.old) (L.shown link.new) conn result }
+    ensures taken { HasGrown (L.shown link.old).taken (L.shown link.new).taken }
     ensures work { KeepsWork caller.old.names routes.now caller.old.front caller.new.front jobs.old
         jobs.new }
     ensures counted { NoneFell (L.shown link.old).counts (L.shown link.new).counts }
@@ -188,6 +190,7 @@ pub(crate) fn serve_opened<R: Wait, L: Link, K: Clock, T: Tape, F: Handler>(
     ensures ticks { IsAlone conn caller.new.number caller.new.front → (more : List Entry) →
         caller.new.front ≡ more ++ caller.old.front →
         AreFewTicks caller.new.names more (L.shown link.new) }
+    ensures taken { HasGrown (L.shown link.old).taken (L.shown link.new).taken }
     ensures work { KeepsWork caller.old.names routes.now caller.old.front caller.new.front jobs.old
         jobs.new }
     ensures counted { NoneFell (L.shown link.old).counts (L.shown link.new).counts }

@@ -1,13 +1,13 @@
-use Rattle.std.proofs.Common.{rules, ◌≡◌, ◌<◌, ◌^◌, ◌∙◌, true, false, true≢false, is_some, refl, sym, ap, subst}
+use Rattle.std.proofs.Common.{rules, ◌≡◌, ◌<◌, ◌^◌, ◌∙◌, true, false, is_some, refl, sym, ap, subst}
 use Rattle.conn_shared.specs.Members.{Knowledge}
-use Rattle.pump.specs.Turns.{GoesOn, IsPumped, IsTurned, MovesAlone, Spares, is_early, is_last}
-use Rattle.pump.proofs.Adding.{IsOn, goes_as, goes_both, goes_continues, goes_none, on_both}
+use Rattle.pump.specs.Turns.{GoesOn, IsPumped, MovesAlone, Spares, is_last}
+use Rattle.pump.proofs.Adding.{goes_as, goes_both, goes_continues, goes_none, on_both}
 use Rattle.pump.proofs.Going.{kept_goes, turn_goes}
-use Rattle.pump.proofs.Outcomes.{none_fell, none_fell_both, ran_for, read_wider}
+use Rattle.pump.proofs.Outcomes.{no_more, none_fell, none_fell_both, ran_for, read_wider}
 use Rattle.server.specs.Attending.{IsAttended, IsHelped}
 use Rattle.server.proofs.Helped.{ended_for, helped_attended, helped_quiet, helped_spares, late_of, pumped_attended}
 use Rattle.server.proofs.Kept.{pumped_idle, work_both, work_kept, work_kept_on, work_on}
-use Rattle.server.proofs.Moving.{IsOnTime, on_time_first, on_time_helped, on_time_last, on_time_turn, own_before}
+use Rattle.server.proofs.Moving.{IsOnTime, grown_both, on_time_first, on_time_helped, on_time_last, on_time_turn, own_before}
 use Rattle.server.proofs.Ticking.{IsNoTick}
 use Rattle.server.proofs.attending.attend.Goals as goal
 
@@ -25,6 +25,7 @@ loop-init g c =
       c.requires.routed,
       work_kept me me.front c.args.routes.now c.args.jobs.now (λ work h. h),
       λ own. on_time_first c.args.connection.now.settings me s c.args.pump.now,
+      no_more s.taken,
     )
 
 pub loop-preserved : goal.loop-preserved
@@ -71,6 +72,7 @@ loop-preserved g c =
           (work_kept_on me was mid.front c.args.routes.now c.loop.jobs i.0 (IsPumped moments c.loop.pump.conn) (pumped_idle moments c.loop.pump.conn) (turn_goes c.args.connection.now.settings moments was c.loop.pump.conn _ turn.left mid.front turn.turn))
           (work_on me mid now.front c.args.routes.now c.loop.jobs c.help.new.jobs on_mid c.help.ensures.kept)),
       λ own. on_time_helped st me.names me.front mid now s t c.turn-turned.new.self named_mid c.help.ensures.same spares quiet (on_time (own_mid own)),
+      grown_both s.taken m.taken t.taken i.10 turn.grown.1,
     )
 
 -- ---- where a turn was the last
@@ -135,3 +137,7 @@ returns-then-not-goes_on-clause-ticks g c own =
     let on = goes_continues (IsPumped moments c.loop.pump.conn) was now.front (turn_goes st moments was c.loop.pump.conn _ turn.left now.front turn.turn) in
     on_time_last st moments me.names me.front was now.front (g.L.Link.shown c.args.link.now) (g.L.Link.shown c.loop.link) (g.L.Link.shown c.turn-turned.new.link) c.loop.pump c.turn-turned.result
     (ap (λ (x : Knowledge). x.names) i.0) c.turn-turned.ensures.counted turn (i.9 (own_before was now conn c.turn-turned.ensures.same on own))
+
+pub returns-then-not-goes_on-clause-taken : goal.returns-then-not-goes_on-clause-taken
+returns-then-not-goes_on-clause-taken g c =
+    grown_both (g.L.Link.shown c.args.link.now).taken (g.L.Link.shown c.loop.link).taken (g.L.Link.shown c.turn-turned.new.link).taken c.loop.invariant.10 c.turn-turned.ensures.turned.grown.1
