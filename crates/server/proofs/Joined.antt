@@ -40,6 +40,7 @@ work_none routes olds news None s = refl
 work_none routes olds news (Some work) s = refl
 
 left_none : (g : Settings) (news : List Knowledge) (link : Shown) (s : Served) → IsLeft g news link (s, None)
+left_none g news link served.OutOfMemory = tt
 left_none g news link _ = tt
 
 -- of memory that ran out before a connection was opened nothing else is said

@@ -176,6 +176,7 @@ left_by g news link at c served.OutOfMemory h = tt
 left_by g news link at c _ h = h (λ is. cc)
 
 unopened_none : (g : Settings) (moments : Option (List ℕ)) (news : List Knowledge) (link : Shown) (at c : ℕ) (s : Served) → IsUnopened g moments news link (s, Some (at, c))
+unopened_none g moments news link at c served.OutOfMemory = tt
 unopened_none g moments news link at c _ = tt
 
 -- why it came to its end so
