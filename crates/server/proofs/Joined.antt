@@ -2,6 +2,7 @@
 use Rattle.std.proofs.Common.{◌≡◌, ◌≢◌, ◌≤◌, ◌<◌, ◌+◌, ◌^◌, ◌∙◌, ◌⊎◌, inl, inr, ℕ, Bool, true, false, List, [], ◌∷◌, ◌++◌, Option, Some, None, IfSome, slice_get, refl, sym, ap, subst}
 use Rattle.rs_wire.specs.declared.settings.Settings.{Settings}
 use Rattle.rs_frame.specs.declared.frame.Frame.{Frame}
+use Rattle.rs_frame.specs.declared.frame.Frame.TheVariants as frame
 use Rattle.rs_frame.specs.Framed.{framed_frame}
 use Rattle.rs_frame.specs.Spelling.{Spells}
 use Rattle.rs_chunk.specs.Stream.{IsWhole, first_frame}
@@ -20,11 +21,11 @@ use Rattle.server.specs.Attended.{IsFirstOf}
 use Rattle.server.specs.First.{FirstFor}
 use Rattle.server.specs.declared.first.First.{First}
 use Rattle.server.specs.declared.first.First.TheVariants as firsts
-use Rattle.server.specs.Opening.{AreBack, IsFirst, OpensAt, TriesToOpen, fronts, resumes}
+use Rattle.server.specs.Opening.{AreBack, IsFirst, OpensAt, TriesToOpen, begins_by, fronts, resumes, wish_of}
 use Rattle.server.specs.Refusing.{GivesAll, GivesFor, refused_by, told_as}
 use Rattle.server.specs.declared.served.Served.{Served}
 use Rattle.server.specs.declared.served.Served.TheVariants as served
-use Rattle.server.specs.Serving.{Adds, IsLeft, IsRefusedBy, IsUnopened, KeepsServing, LeavesUnbegun, NoneOpened, ServedFor, ServedSo, unbegun_by}
+use Rattle.server.specs.Serving.{Adds, IsLeft, IsRefusedBy, IsUnopened, KeepsServing, LeavesUnbegun, NoneOpened, ServedFor, ServedSo, is_resume, unbegun_by}
 use Rattle.server.proofs.Places.{back_same}
 use Rattle.server.proofs.Turned.{GaveAll, full_one, full_tries, gave_all, gave_none, in_one, told_full, turned_by, turned_tries}
 
@@ -247,3 +248,23 @@ refused_so g moments helps grant slot at routes olds news work old link first by
           cause = why.cause;
           work = work_none routes olds news work (refused_by (told_as (resumes first) met));
         })
+
+-- the frame that resumes is the one that asks to
+resumes_as : (first : Frame) → is_resume (wish_of first) ≡ resumes first
+resumes_as (frame.Resume r) = refl
+resumes_as (frame.Setup s) = by s.resume
+  where
+    by : (o : Option (List ℕ)) → is_resume (begins_by o) ≡ false
+    by None = refl
+    by (Some token) = refl
+resumes_as _ = refl
+
+-- the same, by what was asked for
+pub refused_as : (g : Settings) (moments : Option (List ℕ)) (helps : Bool) (grant : Option ℕ) (slot at : ℕ) (routes : List Listed) (olds news : List Knowledge) (work : Option (List OpenJob)) (old link : Shown) (first : Frame) (bytes : List ℕ) (met : Answer) (s : Served) (resuming : Bool)
+    → resuming ≡ is_resume (wish_of first) → AreBack olds news → IsFirstOf first bytes g.max_in old → OpensAt g moments slot at olds news first met → ((c : ℕ) → met ≢ answer.Opened c) → link.taken ≡ old.taken
+    → (s ≢ served.OutOfMemory → s ≡ refused_by (told_as resuming met)) → (s ≢ served.OutOfMemory → GivesFor (refusal (told_as resuming met)) old link) → (s ≡ served.OutOfMemory → link.given ≡ old.given)
+    → ServedSo g moments helps grant slot routes olds news work work link (s, None)
+refused_as g moments helps grant slot at routes olds news work old link first bytes met s resuming asks back begins opens refused taken says gives nothing =
+    let same : resuming ≡ resumes first = asks ∙ resumes_as first in
+    refused_so g moments helps grant slot at routes olds news work old link first bytes met s (record { back = back; begins = begins; opens = opens; refused = refused; is = refl; taken = taken })
+    (λ some. says some ∙ ap (λ b. refused_by (told_as b met)) same) (λ some. subst (λ b. GivesFor (refusal (told_as b met)) old link) same (gives some)) nothing

@@ -3,6 +3,9 @@ use Rattle.std.proofs.Common.{◌≡◌, ◌≢◌, ◌<◌, ◌≤◌, ◌^◌,
 use Rattle.rs_wire.specs.declared.words.Side.TheVariants.{Server}
 use Rattle.rs_wire.specs.declared.settings.Settings.{Settings}
 use Rattle.rs_frame.specs.declared.frame.Frame.{Frame}
+use Rattle.rs_frame.specs.Framed.{framed}
+use Rattle.rs_chunk.specs.Stream.{first_frame}
+use Rattle.std.specs.Io.KnownBytes.{append_known}
 use Rattle.outside.specs.Links.{Shown}
 use Rattle.tape.specs.Told.{entry_of}
 use Rattle.tape.specs.declared.event.Event.{Event}
@@ -28,14 +31,14 @@ use Rattle.handlers.specs.Listed.{Listed}
 use Rattle.workers.specs.declared.job.OpenJob.{OpenJob}
 use Rattle.workers.specs.Courses.{IsNoWork}
 use Rattle.workers.specs.Serving.{Serving}
-use Rattle.server.specs.Attended.{BeginsBy, HasOpened, OpenedAt, ServesAt, ServesOne}
+use Rattle.server.specs.Attended.{BeginsBy, HasOpened, IsFirstOf, OpenedAt, ServesAt, ServesOne}
 use Rattle.server.specs.Attending.{Attends, Grants, KeepsWork}
 use Rattle.server.specs.Opening.{AreBack, HasTicked, IsFirst, OpensAfter, OpensAt, TriesToOpen, fronts, wish_of}
 use Rattle.server.specs.declared.served.Served.{Served}
 use Rattle.server.specs.declared.served.Served.TheVariants as served
 use Rattle.server.specs.Serving.{Agrees, At, Between, IsLeft, IsUnopened, KeepsServing, Opened, ServedFor, ServedSo, may_resume, served_by}
 use Rattle.server.proofs.Agreed.{IsAgreed, agreed_here, agreed_on}
-use Rattle.server.proofs.FirstFrame.{fresh_by}
+use Rattle.server.proofs.FirstFrame.{first_still, fresh_by}
 use Rattle.server.proofs.Kept.{serving_goes}
 use Rattle.server.proofs.Places.{back_both, same_got}
 use Rattle.server.proofs.Turned.{full_one}
@@ -267,3 +270,15 @@ opened_at g moments slot at c olds mids first link rest back o b = record {
   opened = opened_by g moments o.old o.new first o.taken c (back_got olds mids at o.old o.new back o.was o.is) o.tries;
   begins = b;
 }
+
+-- ---- after the first frame
+
+pub begins_at : (most limit : ℕ) (first : Frame) (link : Shown) (bytes rest : List ℕ) → limit ≡ most → IsFirstOf first bytes limit link → bytes ≡ framed (first_frame bytes) ++ rest → BeginsBy most first link rest
+begins_at most limit first link bytes rest same begins cut = record { read = bytes; begins = subst (λ n. IsFirstOf first bytes n link) same begins; cut = cut }
+
+-- all that is said of a link whose connection was opened by its first frame
+pub opened_as : (g : Settings) (moments : Option (List ℕ)) (helps : Bool) (grant : Option ℕ) (slot at c : ℕ) (routes : List Listed) (olds mids news : List Knowledge) (was now : Option (List OpenJob)) (old link : Shown) (first : Frame) (rest piece : List ℕ) (r : Turned) (resumes : Bool)
+    → g.side ≡ Server → AreBack olds mids → AreBack mids news → OpensAt g moments slot at olds mids first (answer.Opened c) → BeginsBy g.max_in first old rest → link.taken ≡ append_known old.taken piece
+    → ServesAt g moments helps grant routes was now at c mids news link r → resumes ≡ may_resume (wish_of first) → ServedSo g moments helps grant slot routes olds news was now link (served_by r resumes, Some (at, c))
+opened_as g moments helps grant slot at c routes olds mids news was now old link first rest piece r resumes side back back_on opens begins grown serves asks =
+    opened_so g moments helps grant slot at c routes olds mids news was now link first r resumes (record { side = side; back = back; back_on = back_on; opens = opens; is_first = first_still g.max_in first old link rest piece begins grown; serves = serves }) asks

@@ -99,7 +99,6 @@ fn is_resume(wish: &Wish) -> bool
 }
 
 // Serves a link by its first frame, which the reader has in front.
-#[tactic(none)]
 fn serve_first<R: Wait, L: Link, K: Clock, T: Tape, F: Handler>(
     rt: &R,
     alloc: Global,
@@ -178,7 +177,6 @@ fn serve_first<R: Wait, L: Link, K: Clock, T: Tape, F: Handler>(
 /// It answers how the link was served, and where a connection was opened its slot and its number.
 /// A session that may be resumed is in the table from its opening on. Where requests are granted,
 /// the client gets a lease of so many at once.
-#[tactic(none)]
 pub fn serve_connection<R: Wait, L: Link, K: Clock, T: Tape, F: Handler>(
     rt: &R,
     alloc: Global,
