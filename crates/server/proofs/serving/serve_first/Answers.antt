@@ -7,6 +7,7 @@ use Rattle.tape.specs.declared.answer.Answer.{Answer}
 use Rattle.tape.specs.declared.answer.Answer.TheVariants as answer
 use Rattle.server.specs.declared.served.Served.{Served}
 use Rattle.server.specs.declared.opening.Wish.{Wish}
+use Rattle.server.specs.Attended.{IsFirstOf}
 use Rattle.server.specs.Opening.{OpensAt, wish_of}
 use Rattle.server.specs.Serving.{ServedSo, is_resume, may_resume}
 use Rattle.server.proofs.Joined.{nothing_so, refused_as}
@@ -68,5 +69,16 @@ returns-in-Opened-clause-serves g c =
 
 pub returns-in_default-answer-clause-serves : goal.returns-in_default-answer-clause-serves
 returns-in_default-answer-clause-serves g c =
-    let step = c.in_default-answer in
-    ?
+    let st = c.args.settings.now in
+    let moments = g.K.Clock.moments c.args.clock.now in
+    let at = c.in-Ok-open.opening.slot in
+    let olds = c.args.callers.now in
+    let news = c.open.new.callers in
+    let met = c.in_default-answer.answer in
+    let is : c.in-Ok-open.opening.answer ≡ met = search rules in
+    let opens : OpensAt st moments c.args.slot at olds news c.args.frame met = subst (λ (a : Answer). OpensAt st moments c.args.slot at olds news c.args.frame a) is c.in-Ok-open.ensures.opens in
+    let wish : c.in-Ok.wish ≡ wish_of c.args.frame = c.in-Ok.ensures in
+    let asks : c.is_resume-resuming.result ≡ is_resume (wish_of c.args.frame) = c.is_resume-resuming.ensures ∙ ap is_resume wish in
+    let begins : IsFirstOf c.args.frame c.args.reader.bytes st.max_in (g.L.Link.shown c.args.link.now) = subst (λ n. IsFirstOf c.args.frame c.args.reader.bytes n (g.L.Link.shown c.args.link.now)) c.requires.limit c.requires.first in
+    refused_as st moments (is_some c.args.jobs.now) c.args.grant c.args.slot at c.args.routes.now olds news c.args.jobs.now (g.L.Link.shown c.args.link.now) (g.L.Link.shown c.refused.new.link) c.args.frame c.args.reader.bytes met c.refused.result c.is_resume-resuming.result
+    asks c.open.ensures.back begins opens c.in_default-answer.not-Opened c.refused.ensures.taken c.refused.ensures.says c.refused.ensures.gives c.refused.ensures.nothing
