@@ -1,7 +1,7 @@
 -- A draw, and what is kept over it.
 use Rattle.std.proofs.lemmas.Bool.Decides.{nat_tests}
 use Rattle.std.proofs.lemmas.List.{length-take-le, take-append-le}
-use Rattle.std.proofs.Common.{◌≡◌, ◌<◌, ◌≤◌, ◌+◌, ◌∙◌, ◌==◌, ◌&&◌, arith, min, not, ℕ, Bool, true, false, true≢false, List, [], ◌∷◌, ◌++◌, drop, take, length, Option, Some, None, refl, sym, ap, subst}
+use Rattle.std.proofs.Common.{◌≡◌, ◌<◌, ◌≤◌, ◌+◌, ◌∙◌, ◌==◌, ◌&&◌, arith, min, not, ℕ, Bool, true, false, true≢false, List, [], ◌∷◌, drop, take, length, Option, Some, None, refl, sym, ap, subst}
 use Rattle.rs_wire.specs.declared.settings.Settings.{Settings}
 use Rattle.rs_frame.specs.Framed.{framed_all}
 use Rattle.outside.specs.Links.{Shown}
@@ -25,7 +25,7 @@ use Rattle.link_model.proofs.Kept.{keeps_draw}
 use Rattle.link_model.proofs.Same.{drawable}
 use Rattle.pump.specs.declared.bringing.Brought.{Brought}
 use Rattle.pump.specs.declared.numbers.TheConstants.{PIECE}
-use Rattle.pump.specs.Turns.{DrawsWhere, HasBrought, HasDrawn, HasDrawnInto, HasDrawnSo, IsKept, Names, brought_by, drawn_by, goes_on_after, goes_on_from, is_empty, is_ended, leaves_by}
+use Rattle.pump.specs.Turns.{DrawsWhere, HasBrought, HasDrawn, HasDrawnInto, HasDrawnSo, IsKept, Names, drawn_by, goes_on_after, goes_on_from, is_empty, is_ended, leaves_by}
 use Rattle.pump.proofs.Adding.{IsOn}
 use Rattle.pump.proofs.Events.{leaves_is, means_of}
 use Rattle.pump.proofs.Keeping.{kept_entry, kept_no_entry}

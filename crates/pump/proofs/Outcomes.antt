@@ -21,7 +21,8 @@ use Rattle.pump.specs.declared.incoming.Took.TheVariants as tooks
 use Rattle.pump.specs.declared.turned.Turned.{Turned}
 use Rattle.pump.specs.declared.turned.Turned.TheVariants as turned
 use Rattle.pump.specs.Moves.{HasGave, HasGrown, HasTook, IsGrown, given_in, taken_in}
-use Rattle.pump.specs.Turns.{BroughtFor, HasArrived, IfBusy, IfDone, IsEmptied, IsPumped, IsReadOut, Names, RulesOut, RulesOutOf, SomeMoved, SumsUp, Ticks, TurnedFor, WasBusy, ended_by, is_done, is_ended, is_early, is_fine, is_last, is_over}
+use Rattle.pump.specs.Parts.{RulesOutOf, SomeMoved, SumsUp, is_fine}
+use Rattle.pump.specs.Turns.{BroughtFor, HasArrived, IfBusy, IfDone, IsEmptied, IsPumped, IsReadOut, Names, RulesOut, Ticks, TurnedFor, WasBusy, ended_by, is_done, is_ended, is_early, is_last, is_over}
 use Rattle.pump.specs.Runs.{HasLulled, RanFor, lulls_in}
 use Rattle.pump.specs.declared.numbers.TheConstants.{PIECE}
 use Rattle.pump.proofs.Adding.{continues_both, continues_same}

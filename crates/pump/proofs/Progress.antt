@@ -9,7 +9,8 @@ use Rattle.pump.specs.declared.outgoing.Gave.TheVariants as gaves
 use Rattle.pump.specs.declared.incoming.Took.{Took}
 use Rattle.pump.specs.declared.incoming.Took.TheVariants as tooks
 use Rattle.pump.specs.Moves.{HasGave, HasTook, IsGrown, given_in}
-use Rattle.pump.specs.Turns.{HasMoved, HasWaiting, is_fine, length_shown}
+use Rattle.pump.specs.Parts.{is_fine}
+use Rattle.pump.specs.Turns.{HasMoved, HasWaiting, length_shown}
 use Rattle.pump.proofs.Outcomes.{gave_grown, none_fell_both, rose_from, took_grown}
 
 grown_length : (n : ℕ) (old new : Option (List ℕ)) → is_some old ≡ true → IsGrown n old new → length_shown new ≡ length_shown old + n

@@ -14,7 +14,6 @@ use Rattle.session_model.specs.Answers.{answer_to}
 use Rattle.session_model.specs.Frames.{queued}
 use Rattle.session_model.specs.Life.{closed, live}
 use Rattle.conn_lock.specs.Callers.{times}
-use Rattle.conn_shared.specs.declared.looked.Looked.{Looked}
 use Rattle.conn_shared.specs.Calls.{IsCalled, IsDrawCall}
 use Rattle.conn_shared.specs.Members.{Continues, Follows, Knowledge}
 use Rattle.link_model.specs.Carrying.{Between, IsAlone, Keeps, is_of}
@@ -24,13 +23,9 @@ use Rattle.pump.specs.declared.inner.Inner.{Inner}
 use Rattle.pump.specs.declared.bringing.Brought.{Brought}
 use Rattle.pump.specs.declared.bringing.Brought.TheVariants as brings
 use Rattle.pump.specs.declared.numbers.TheConstants.{PIECE}
-use Rattle.pump.specs.declared.outgoing.Gave.{Gave}
-use Rattle.pump.specs.declared.outgoing.Gave.TheVariants as gaves
-use Rattle.pump.specs.declared.incoming.Took.{Took}
-use Rattle.pump.specs.declared.incoming.Took.TheVariants as tooks
 use Rattle.pump.specs.declared.turned.Turned.{Turned}
 use Rattle.pump.specs.declared.turned.Turned.TheVariants as turned
-use Rattle.pump.specs.Moves.{HasGrown, IsGrown, all_of, given_in, taken_in}
+use Rattle.pump.specs.Moves.{HasGrown, IsGrown, all_of}
 
 -- ---- what is kept
 
@@ -286,47 +281,10 @@ is_early turned.TapeFull = true
 is_early turned.OutOfMemory = true
 is_early _ = false
 
-abbrev pub SomeMoved : ℕ → ℕ → Brought → Type 0
-SomeMoved given taken heard = (0 < given) ⊎ (0 < taken) ⊎ (heard ≡ brings.Noted)
-
--- what the parts of a turn come to
-abbrev pub SumsUp : Gave → Took → Brought → Looked → ℕ → Turned → Type 0
-SumsUp gave took heard looked left (turned.Moved given taken) = (given ≡ given_in gave) × (taken ≡ taken_in took) × SomeMoved given taken heard
-SumsUp gave took heard looked left (turned.Busy q) = heard ≡ brings.Busy q
-SumsUp gave took heard looked left (turned.Over cause) = (looked.cause ≡ Some cause) × (looked.queued ≡ 0) × (left ≡ 0)
-SumsUp gave took heard looked left (turned.Displaced n) = heard ≡ brings.Displaced n
-SumsUp gave took heard looked left turned.Lull = (given_in gave ≡ 0) × (taken_in took ≡ 0) × (heard ≡ brings.Nothing)
-SumsUp gave took heard looked left turned.End = took ≡ tooks.End
-SumsUp gave took heard looked left turned.LinkFault = (took ≡ tooks.Failed) ⊎ (gave ≡ gaves.Failed)
-SumsUp gave took heard looked left (turned.Dead last) = heard ≡ brings.Dead last
-SumsUp gave took heard looked left turned.TapeFull = heard ≡ brings.TapeFull
-SumsUp gave took heard looked left turned.OutOfMemory = Unit {0}
-
--- neither way has failed or ended
-abbrev pub is_fine : Gave → Took → Bool
-is_fine gave tooks.End = false
-is_fine gave tooks.Failed = false
-is_fine gave tooks.OutOfMemory = false
-is_fine gaves.Failed took = false
-is_fine gave took = true
-
--- what a way that failed or ended makes of a turn
-abbrev pub BreaksFor : Gave → Took → Option Turned → Type 0
-BreaksFor gave took None = is_fine gave took ≡ true
-BreaksFor gave took (Some turned.End) = took ≡ tooks.End
-BreaksFor gave took (Some turned.LinkFault) = (took ≡ tooks.Failed) ⊎ (gave ≡ gaves.Failed)
-BreaksFor gave took (Some turned.OutOfMemory) = took ≡ tooks.OutOfMemory
-BreaksFor gave took (Some _) = ⊥
-
 -- the session is closed, nothing is queued, and no drawn byte is left
 abbrev pub is_over : Option Cause → ℕ → ℕ → Bool
 is_over None queued left = false
 is_over (Some cause) queued left = (queued == 0) && (left == 0)
-
-abbrev pub OverFor : Looked → ℕ → Option Turned → Type 0
-OverFor looked left None = is_over looked.cause looked.queued left ≡ false
-OverFor looked left (Some (turned.Over cause)) = (looked.cause ≡ Some cause) × (looked.queued ≡ 0) × (left ≡ 0)
-OverFor looked left (Some _) = ⊥
 
 -- what stands in front found no room in the queue in this turn; only others' entries follow
 pub record WasBusy (g : Settings) (me : Knowledge) (b : Between) (new : List Entry) (q : ℕ) : Type 0 where
@@ -360,13 +318,6 @@ RulesOut g new b (turned.Moved given taken) = (is_over (closed g new) (queued g 
 RulesOut g new b (turned.Busy q) = is_over (closed g new) (queued g new) (length b.left) ≡ false
 RulesOut g new b turned.Lull = (is_over (closed g new) (queued g new) (length b.left) ≡ false) × IsEmptied b
 RulesOut g new b _ = Unit {0}
-
--- the same, of the parts of a turn
-abbrev pub RulesOutOf : Looked → ℕ → Brought → Turned → Type 0
-RulesOutOf looked left heard (turned.Moved given taken) = (is_over looked.cause looked.queued left ≡ false) × (is_done heard ≡ true)
-RulesOutOf looked left heard (turned.Busy q) = is_over looked.cause looked.queued left ≡ false
-RulesOutOf looked left heard turned.Lull = (is_over looked.cause looked.queued left ≡ false) × (is_done heard ≡ true)
-RulesOutOf looked left heard _ = Unit {0}
 
 -- ---- progress
 

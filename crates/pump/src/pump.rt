@@ -1,19 +1,16 @@
 //! A pump, as its callers see it.
 
-ghost use Rattle.std.specs.Prelude.{◌≡◌, ◌<◌, ◌≤◌, ◌^◌, ◌&&◌, [], List, None, false, min, nat_lt, IfOk, OnErr, OnOk, length};
-ghost use Rattle.outside.specs.Links.{NoneFell, Shown};
+ghost use Rattle.std.specs.Prelude.{◌≡◌, ◌<◌, ◌≤◌, ◌^◌, ◌&&◌, [], false, min, nat_lt, IfOk, OnErr, OnOk, length};
+ghost use Rattle.outside.specs.Links.{Shown};
 ghost use Rattle.conn_shared.specs.Members.{Knowledge};
 ghost use Rattle.pump.specs.Halves.{and_given, and_taken};
-ghost use Rattle.pump.specs.Runs.{IsRun, RanFor, placed};
-ghost use Rattle.pump.specs.Turns.{Arrives, BroughtFor, DrawsSo, GoesOn, IfBusy, IfDone, IsEmptied, IsKept, IsPumped, IsReadOut, IsTurned, Names, RulesOut, TurnedFor, has, is_early, is_empty};
+ghost use Rattle.pump.specs.Turns.{Arrives, BroughtFor, DrawsSo, GoesOn, IfBusy, IfDone, IsEmptied, IsKept, Names, has, is_empty};
 ghost use Rattle.pump.specs.declared.numbers.TheConstants as pieces;
 
 use crate::bringing::Brought;
 use crate::inner::Inner;
 use crate::numbers::PIECE;
-use crate::turned::Turned;
 use conn::{Caller, Connection};
-use outside::{Clock, Link};
 use rs_chunk::Reader;
 use rs_wire::OutOfMemory;
 use std::alloc::Global;
@@ -37,7 +34,7 @@ use tape::Tape;
 #[derive(Drop)]
 pub struct Pump {
     /// The bytes on their way.
-    inner: Inner,
+    pub(crate) inner: Inner,
 }
 
 impl Model for Pump {
@@ -165,90 +162,5 @@ impl Pump {
         ensures left { self.new.left ≡ self.old.left }
     {
         self.inner.hear_all(rt, connection, caller)
-    }
-
-    /// One turn. In this order it ticks; draws at most 16,384 bytes where no drawn byte is left;
-    /// gives; takes at most 16,384 bytes where no frame waits; and brings the whole frames. It
-    /// waits for turns at the connection, and as long as a call of the link does.
-    ///
-    /// It ends at once at `Displaced`, `Dead`, `TapeFull` and `OutOfMemory`; after `OutOfMemory` no
-    /// byte is lost either. A give that fails ends what the turn does with the link; the frames
-    /// that were taken still come before `LinkFault` and `End`. Once bytes came that are no frame,
-    /// what is taken is dropped. Of what else holds at the end, `Over` comes before `Busy`, that
-    /// before `Moved`, and that before `Lull`.
-    pub fn turn<T: Tape, L: Link, K: Clock, R: Wait>(
-        &mut self,
-        rt: &R,
-        connection: &Connection<T>,
-        caller: &mut Caller<T>,
-        link: &mut L,
-        clock: &K,
-    ) -> Turned
-        requires of { caller.old.of ≡ connection.now }
-        requires limit { self.old.max_in ≡ connection.now.settings.max_in }
-        ensures same { caller.new ≡ record caller.old {
-          front = caller.new.front;
-          note = caller.new.note;
-        } }
-
-        // No byte is lost, none invented, after whatever result.
-        ensures kept { IsKept caller.old (L.shown link.old) self.old
-            → IsKept caller.new (L.shown link.new) self.new }
-
-        // One tick, then one draw where one is due, then what came; nothing is taken where a frame
-        // waited; and bytes moved or a lull rose.
-        ensures turned { IsTurned connection.now.settings (K.moments clock.now) caller.old
-            caller.new.front (L.shown link.old) (L.shown link.new) self.old result }
-
-        // Each result has its cause.
-        ensures cause { TurnedFor connection.now.settings (K.moments clock.now) caller.old
-            caller.new.front (L.shown link.old) (L.shown link.new) self.new result }
-
-        // What goes on is not over, and nothing stands in front that can come but after Busy.
-        ensures order { RulesOut connection.now.settings caller.new.front self.new result }
-        ensures read { is_early result ≡ false →
-            IsReadOut connection.now.settings caller.old self.new caller.new.front }
-        ensures counted { NoneFell (L.shown link.old).counts (L.shown link.new).counts }
-        ensures conn { self.new.conn ≡ self.old.conn }
-        ensures max_in { self.new.max_in ≡ self.old.max_in }
-    {
-        self.inner.turn(rt, connection, caller, link, clock)
-    }
-
-    /// Turns while the pump goes on. It answers the last result, or `Lull` where that is the lull
-    /// of this number, counted from 1; 0 counts as 1.
-    pub fn run<T: Tape, L: Link, K: Clock, R: Wait>(
-        &mut self,
-        rt: &R,
-        connection: &Connection<T>,
-        caller: &mut Caller<T>,
-        link: &mut L,
-        clock: &K,
-        lulls: u64,
-    ) -> Turned
-        requires of { caller.old.of ≡ connection.now }
-        requires limit { self.old.max_in ≡ connection.now.settings.max_in }
-        ensures same { caller.new ≡ record caller.old {
-          front = caller.new.front;
-          note = caller.new.note;
-        } }
-        ensures kept { IsKept caller.old (L.shown link.old) self.old
-            → IsKept caller.new (L.shown link.new) self.new }
-        ensures goes { GoesOn (IsPumped (K.moments clock.now) self.old.conn) caller.old
-            caller.new.front }
-
-        // Turns, each of which lets the pump go on, with fewer lulls; and then the last.
-        ensures turns { IsRun connection.now.settings (K.moments clock.now) lulls
-            (placed caller.old (L.shown link.old) self.old)
-            (placed caller.new (L.shown link.new) self.new) result }
-        ensures cause { RanFor connection.now.settings (K.moments clock.now) lulls caller.old
-            caller.new.front (L.shown link.old) (L.shown link.new) self.new result }
-        ensures read { is_early result ≡ false →
-            IsReadOut connection.now.settings caller.old self.new caller.new.front }
-        ensures counted { NoneFell (L.shown link.old).counts (L.shown link.new).counts }
-        ensures conn { self.new.conn ≡ self.old.conn }
-        ensures max_in { self.new.max_in ≡ self.old.max_in }
-    {
-        self.inner.run(rt, connection, caller, link, clock, lulls)
     }
 }

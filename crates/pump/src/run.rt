@@ -2,19 +2,20 @@
 
 ghost use Rattle.std.specs.Prelude.{◌≡◌, false};
 ghost use Rattle.outside.specs.Links.{NoneFell};
-ghost use Rattle.pump.specs.Turns.{GoesOn, IsKept, IsPumped, IsReadOut, has, is_early};
+ghost use Rattle.pump.specs.Turns.{GoesOn, IsKept, IsPumped, IsReadOut, is_early};
 ghost use Rattle.pump.specs.Runs.{IsRun, RanFor, placed};
 
-use crate::inner::Inner;
+use crate::pump::Pump;
 use crate::turned::{Turned, is_last, lulls_in};
 use conn::{Caller, Connection};
 use outside::{Clock, Link};
 use std::sync::Wait;
 use tape::Tape;
 
-impl Inner {
-    /// Turns, as [`crate::Pump::run`] says.
-    pub(crate) fn run<T: Tape, L: Link, K: Clock, R: Wait>(
+impl Pump {
+    /// Turns while the pump goes on. It answers the last result, or `Lull` where that is the lull
+    /// of this number, counted from 1; 0 counts as 1.
+    pub fn run<T: Tape, L: Link, K: Clock, R: Wait>(
         &mut self,
         rt: &R,
         connection: &Connection<T>,
@@ -24,25 +25,27 @@ impl Inner {
         lulls: u64,
     ) -> Turned
         requires of { caller.old.of ≡ connection.now }
-        requires limit { self.old.incoming.max_in ≡ connection.now.settings.max_in }
+        requires limit { self.old.max_in ≡ connection.now.settings.max_in }
         ensures same { caller.new ≡ record caller.old {
           front = caller.new.front;
           note = caller.new.note;
         } }
-        ensures kept { IsKept caller.old (L.shown link.old) (has self.old)
-            → IsKept caller.new (L.shown link.new) (has self.new) }
+        ensures kept { IsKept caller.old (L.shown link.old) self.old
+            → IsKept caller.new (L.shown link.new) self.new }
         ensures goes { GoesOn (IsPumped (K.moments clock.now) self.old.conn) caller.old
             caller.new.front }
+
+        // Turns, each of which lets the pump go on, with fewer lulls; and then the last.
         ensures turns { IsRun connection.now.settings (K.moments clock.now) lulls
-            (placed caller.old (L.shown link.old) (has self.old))
-            (placed caller.new (L.shown link.new) (has self.new)) result }
+            (placed caller.old (L.shown link.old) self.old)
+            (placed caller.new (L.shown link.new) self.new) result }
         ensures cause { RanFor connection.now.settings (K.moments clock.now) lulls caller.old
-            caller.new.front (L.shown link.old) (L.shown link.new) (has self.new) result }
+            caller.new.front (L.shown link.old) (L.shown link.new) self.new result }
         ensures read { is_early result ≡ false →
-            IsReadOut connection.now.settings caller.old (has self.new) caller.new.front }
+            IsReadOut connection.now.settings caller.old self.new caller.new.front }
         ensures counted { NoneFell (L.shown link.old).counts (L.shown link.new).counts }
         ensures conn { self.new.conn ≡ self.old.conn }
-        ensures max_in { self.new.incoming.max_in ≡ self.old.incoming.max_in }
+        ensures max_in { self.new.max_in ≡ self.old.max_in }
     {
         let mut met = 0u64;
         for _ in rt.forever() {

@@ -1,7 +1,8 @@
 //! What a turn of a pump comes to.
 
 ghost use Rattle.std.specs.Prelude.{◌≡◌, None, false, true};
-ghost use Rattle.pump.specs.Turns.{BreaksFor, OverFor, RulesOutOf, SumsUp, ended_by, is_early, is_fine, is_last};
+ghost use Rattle.pump.specs.Parts.{BreaksFor, OverFor, RulesOutOf, SumsUp, is_fine};
+ghost use Rattle.pump.specs.Turns.{ended_by, is_early, is_last};
 ghost use Rattle.pump.specs.Runs.{lulls_in};
 ghost use Rattle.pump.specs.Moves.{given_in, taken_in};
 

@@ -42,7 +42,8 @@ fn ended_by(answer: &Answer) -> Option<Turned>
     }
 }
 
-// Lets the client make so many requests, where it asked for leases. What ends the connection at once.
+// Lets the client make this many requests, where it asked for leases: it is refused, and nothing is
+// lost, where it did not. What ends the connection at once.
 fn grant_lease<R: Wait, T: Tape>(
     rt: &R,
     connection: &Connection<T>,
@@ -146,7 +147,11 @@ fn finish<R: Wait, K: Clock, T: Tape>(
     after_cut(&answer, turned)
 }
 
-/// Serves a link whose connection was just opened, to its end.
+/// Serves a link whose connection this caller just opened, to its end: it grants the requests, moves
+/// bytes, and answers jobs where there is a work for them; then it cuts the connection. A connection
+/// whose peer counts as dead is not cut. The table notes since when the session has no connection.
+/// It answers what its pump came to, or `OutOfMemory` where the lease, the pump or the cut found
+/// none.
 pub(crate) fn serve_opened<R: Wait, L: Link, K: Clock, T: Tape, F: Handler>(
     rt: &R,
     alloc: Global,

@@ -162,7 +162,7 @@ was_answered g me asked a new c = record {
 
 -- ---- the answers of a worker's calls
 
-right_or : (a right : Answer) → IsOrOutOfMemory a right → (a ≡ right) ⊎ (a ≡ answer.TapeFull) ⊎ (a ≡ answer.OutOfMemory)
+pub right_or : (a right : Answer) → IsOrOutOfMemory a right → (a ≡ right) ⊎ (a ≡ answer.TapeFull) ⊎ (a ≡ answer.OutOfMemory)
 right_or answer.TapeFull right h = inr (inl refl)
 right_or answer.OutOfMemory right h = inr (inr refl)
 right_or _ right h = inl h

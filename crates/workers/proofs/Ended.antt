@@ -1,10 +1,9 @@
 -- A job that is served is whole, and has left the work.
-use Rattle.std.proofs.Common.{◌≡◌, ◌+◌, ◌∙◌, ℕ, Bool, arith, List, [], ◌∷◌, ◌++◌, length, get_or, inl, inr, refl, sym, ap, subst}
+use Rattle.std.proofs.Common.{◌≡◌, ◌+◌, ◌∙◌, ℕ, Bool, arith, List, [], ◌∷◌, ◌++◌, get_or, inl, inr, refl, sym, ap, subst}
 use Rattle.rs_wire.specs.declared.settings.Settings.{Settings}
 use Rattle.rs_wire.specs.declared.call.Call.{Call}
 use Rattle.rs_wire.specs.declared.call.Call.TheVariants as call
 use Rattle.rs_wire.specs.declared.delivery.Job.TheVariants as job
-use Rattle.rs_wire.specs.declared.fault.Refusal.TheVariants as refusal
 use Rattle.tape.specs.declared.answer.Answer.{Answer}
 use Rattle.tape.specs.declared.answer.Answer.TheVariants as answer
 use Rattle.tape.specs.declared.entry.Entry.{Entry}
@@ -23,14 +22,15 @@ use Rattle.workers.specs.declared.worked.Progress.{Progress}
 use Rattle.workers.specs.declared.worked.Progress.TheVariants as progress
 use Rattle.workers.specs.Replies.{item_of, items_of, law_of}
 use Rattle.workers.specs.Courses.{IsReplyOn, after_reply, course}
-use Rattle.workers.specs.Serving.{IsServed, Serving, Stands, jobs_on}
+use Rattle.workers.specs.Serving.{Serving, Stands}
 use Rattle.workers.specs.Causes.{IsOver, IsPushed, WasAnswered, WasHad, WentAt, WholeOfProgress}
 use Rattle.workers.specs.Going.{HasGone, IsAccepted, IsEnded, IsSameJob, IsSettled, IsWholeOf, Keeps, WholeOfStep, found_of, outcome_of, plan_of, progress_of, told}
 use Rattle.workers.proofs.Fronts.{answered_between}
-use Rattle.workers.proofs.Gone.{IsOn, accepted_done}
+use Rattle.workers.proofs.Gone.{IsOn}
 use Rattle.workers.proofs.Items.{stands_items}
 use Rattle.workers.proofs.Jobs.{left_job}
 use Rattle.workers.proofs.Plans.{after_said}
+use Rattle.workers.proofs.Reasons.{accepted_done}
 use Rattle.workers.proofs.Served.{at_place, left_stream, went_stood}
 use Rattle.std.specs.Prelude.{Option}
 use Rattle.workers.proofs.Standing.{whole_last, whole_unsaid}

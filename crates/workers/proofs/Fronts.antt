@@ -180,7 +180,7 @@ answered_between g number a b c d asked r h k w = record {
   full = w.full;
 }
 
-tried_between : (g : Settings) (routes : List Listed) (number : ℕ) (a b c d : List Entry) (j : OpenJob) (asked : Call) (r : Answer) → Continues a b → Continues c d
+pub tried_between : (g : Settings) (routes : List Listed) (number : ℕ) (a b c d : List Entry) (j : OpenJob) (asked : Call) (r : Answer) → Continues a b → Continues c d
     → WasTried g routes number b c j asked r → WasTried g routes number a d j asked r
 tried_between g routes number a b c d j asked r h k w = record { next = w.next; was = answered_between g number a b c d asked r h k w.was }
 

@@ -1,10 +1,10 @@
 -- How a job went on, by one call or by several.
-use Rattle.std.proofs.Common.{◌≡◌, ◌≤◌, ◌+◌, ◌∙◌, ℕ, Bool, true, false, if◌then◌else◌, List, [], ◌∷◌, length, inl, inr, refl, sym, ap, subst, arith}
-use Rattle.std.specs.Prelude.{Some, ◌^◌}
+use Rattle.std.proofs.Common.{◌≡◌, ◌≤◌, ◌+◌, ◌∙◌, ℕ, Bool, true, false, if◌then◌else◌, List, [], ◌∷◌, length, refl, sym, ap, subst, arith}
+use Rattle.std.specs.Prelude.{◌^◌}
 use Rattle.rs_wire.specs.declared.call.Call.{Call}
 use Rattle.rs_wire.specs.declared.call.Call.TheVariants as call
-use Rattle.rs_wire.specs.declared.delivery.Delivery.{Delivery}
 use Rattle.rs_wire.specs.declared.delivery.Delivery.TheVariants as delivery
+use Rattle.rs_wire.specs.declared.fault.Refusal.{Refusal}
 use Rattle.rs_wire.specs.declared.fault.Refusal.TheVariants as refusal
 use Rattle.tape.specs.Answers.{leaves}
 use Rattle.tape.specs.declared.answer.Answer.{Answer}
@@ -17,16 +17,14 @@ use Rattle.workers.specs.declared.plan.Plan.TheVariants as plan
 use Rattle.workers.specs.declared.outcome.Outcome.{Outcome}
 use Rattle.workers.specs.declared.outcome.Outcome.TheVariants as outcome
 use Rattle.workers.specs.declared.outcome.Taken.{Taken}
-use Rattle.workers.specs.declared.outcome.Taken.TheVariants as taken
 use Rattle.workers.specs.Replies.{law_of}
-use Rattle.workers.specs.declared.step.Step.{Step}
-use Rattle.workers.specs.declared.step.Step.TheVariants as step
-use Rattle.workers.specs.Causes.{CauseOfStep, IsForGood, IsHindrance, IsLast, IsStoppedBy, IsWaiting, WasAnswered}
-use Rattle.workers.specs.Courses.{Course, GoesOn, HasSent, IsOfJob, IsReplyOn, accepted_of, bytes_of, bytes_of_all, is_done, after_call, after_take, course}
+use Rattle.workers.specs.Causes.{IsStoppedBy, IsWaiting}
+use Rattle.workers.specs.Courses.{Course, GoesOn, HasSent, IsOfJob, IsReplyOn, accepted_of, is_done, after_call, after_take, course}
 use Rattle.workers.specs.Serving.{IsServed, Stands}
-use Rattle.workers.specs.Going.{Awaits, HasGone, HasWorked, IsAccepted, IsOfReply, IsOfTake, IsSameJob, MayAnswer, left_after, left_with, outcome_of, plan_of, taken_of, told}
+use Rattle.workers.specs.Going.{Awaits, HasGone, HasWorked, IsOfReply, IsOfTake, IsSameJob, MayAnswer, left_after, left_with, outcome_of, plan_of, taken_of, told}
 use Rattle.rs_wire.specs.declared.settings.Settings.{Settings}
 use Rattle.conn_shared.specs.Members.{Continues, Knowledge}
+use Rattle.workers.proofs.AtEnd.{AtEnd, final_of}
 use Rattle.workers.proofs.Fronts.{goes_both, goes_later, goes_longer, goes_none, goes_weaker, sent_both, sent_less, stopped_since, waiting_since}
 use Rattle.workers.proofs.Plans.{after_apart, after_said, other_test, same_test}
 use Rattle.workers.proofs.Standing.{full_for_good, nothing_said, said_for_good, said_in_vain, said_last, said_more, skipped, took_end, took_in_vain, took_item, took_no_more}
@@ -62,10 +60,10 @@ gone_unsaid names routes a j is = gone_quietly names routes a j [] (λ c s. noth
 gone_by : (names : List ℕ) (routes : List Listed) (old new : List Entry) (j : OpenJob) (left : List OpenJob) (asked : Call) (a : Answer)
     → ((s : ℕ) → course names s new ≡ told s asked a (course names s old)) → length old ≤ length new
     → ((q : ℕ) (c : Course) → (q ≡ j.stream → ⊥) → after_call q asked a c ≡ c)
-    → ((c : Course) → Stands routes c j → IsServed routes (length new) j.stream (told j.stream asked a c) left)
+    → (Stands routes (course names j.stream old) j → IsServed routes (length new) j.stream (told j.stream asked a (course names j.stream old)) left)
     → HasGone names routes old new j left
 gone_by names routes old new j left asked a tells longer apart kept = record {
-  kept = λ st. subst (λ c. IsServed routes (length new) j.stream c left) (sym (tells j.stream)) (kept (course names j.stream old) st);
+  kept = λ st. subst (λ c. IsServed routes (length new) j.stream c left) (sym (tells j.stream)) (kept st);
   apart = λ q differs. tells q ∙ unchanged q differs;
   longer = longer;
 }
@@ -77,7 +75,7 @@ gone_by names routes old new j left asked a tells longer apart kept = record {
     unchanged : (q : ℕ) → (q ≡ j.stream → ⊥) → told q asked a (course names q old) ≡ course names q old
     unchanged q differs = same (leaves a) (course names q old) (after_call q asked a (course names q old)) (apart q (course names q old) differs)
 
-reply_only : (s : ℕ) (asked : Call) (a : Answer) → IsReplyOn s asked → MayAnswer asked a → IsOfReply a
+pub reply_only : (s : ℕ) (asked : Call) (a : Answer) → IsReplyOn s asked → MayAnswer asked a → IsOfReply a
 reply_only s (call.Next q message complete) a on h = h
 reply_only s (call.Done q) a on h = h
 reply_only s (call.Fail q code content) a on h = h
@@ -113,35 +111,36 @@ pub gone_said : (names : List ℕ) (routes : List Listed) (old new : List Entry)
     → plan_of (law_of routes j.kind j.message) j ≡ plan.Say asked last → HasGone names routes old new j (left_after (outcome_of a) last j made)
 gone_said names routes old new j asked last a made more on may tells longer full plans =
     gone_by names routes old new j _ asked a tells longer (λ q c differs. after_apart j.stream q asked a c on differs)
-    (λ c s. said routes (length new) c j asked last a made more on (reply_only j.stream asked a on may) full plans s)
+    (λ s. said routes (length new) (course names j.stream old) j asked last a made more on (reply_only j.stream asked a on may) full plans s)
 
 -- ---- a Take
 
-take_here : (s : ℕ) (a : Answer) (c : Course) → after_call s (call.Take s) a c ≡ after_take s a c
+pub take_here : (s : ℕ) (a : Answer) (c : Course) → after_call s (call.Take s) a c ≡ after_take s a c
 take_here s a c = rw (same_test s s refl) refl
 
 take_apart : (s q : ℕ) (a : Answer) (c : Course) → (q ≡ s → ⊥) → after_call q (call.Take s) a c ≡ c
 take_apart s q a c differs = rw (other_test s q (λ e. differs (sym e))) refl
 
-took : (routes : List Listed) (entries : ℕ) (c : Course) (j : OpenJob) (a : Answer) → Awaits routes j → IsOfTake a → (a ≡ answer.TapeFull → 2 ^ 63 ≤ entries) → Stands routes c j
+took : (routes : List Listed) (entries : ℕ) (c : Course) (j : OpenJob) (a : Answer) → Awaits routes j → ((why : Refusal) → a ≡ answer.Refused why → AtEnd why) → IsOfTake a → (a ≡ answer.TapeFull → 2 ^ 63 ≤ entries) → Stands routes c j
     → IsServed routes entries j.stream (told j.stream (call.Take j.stream) a c) (left_with (taken_of a) j)
-took routes entries c j (answer.Got (delivery.Item message)) w of full s = subst (λ d. Stands routes d (record j { stage = stage.Taken message.content })) (sym (take_here j.stream _ c)) (took_item routes c j message w s)
-took routes entries c j (answer.Got d) w of full s = subst (λ e. Stands routes e (record j { stage = stage.Over })) (sym (take_here j.stream _ c)) (took_end routes c j (answer.Got d) refl w s)
-took routes entries c j answer.NotYet w of full s = s
-took routes entries c j answer.TapeFull w of full s = full_for_good routes entries c j (full refl) s
-took routes entries c j answer.OutOfMemory w of full s = s
-took routes entries c j (answer.Refused refusal.Ended) w of full s = subst (λ d. Stands routes d (record j { stage = stage.Over })) (sym (take_here j.stream _ c)) (took_end routes c j (answer.Refused refusal.Ended) refl w s)
-took routes entries c j (answer.Refused (refusal.NoCredit granted)) w of full s = subst (λ d. Stands routes d j) (sym (take_here j.stream _ c)) (took_in_vain routes c j (answer.Refused (refusal.NoCredit granted)) refl refl w s)
-took routes entries c j (answer.Refused (refusal.OutFull queued)) w of full s = subst (λ d. Stands routes d j) (sym (take_here j.stream _ c)) (took_in_vain routes c j (answer.Refused (refusal.OutFull queued)) refl refl w s)
-took routes entries c j (answer.Refused why) w of full s = subst (λ d. IsServed routes entries j.stream d []) (sym (take_here j.stream (answer.Refused why) c)) (took_no_more routes entries c j (answer.Refused why) tt w s)
-took routes entries c j _ w of full s = absurd of
+took routes entries c j (answer.Got (delivery.Item message)) w ends of full s = subst (λ d. Stands routes d (record j { stage = stage.Taken message.content })) (sym (take_here j.stream _ c)) (took_item routes c j message w s)
+took routes entries c j (answer.Got d) w ends of full s = subst (λ e. Stands routes e (record j { stage = stage.Over })) (sym (take_here j.stream _ c)) (took_end routes c j (answer.Got d) refl w s)
+took routes entries c j answer.NotYet w ends of full s = s
+took routes entries c j answer.TapeFull w ends of full s = full_for_good routes entries c j (full refl) s
+took routes entries c j answer.OutOfMemory w ends of full s = s
+took routes entries c j (answer.Refused refusal.Ended) w ends of full s = subst (λ d. Stands routes d (record j { stage = stage.Over })) (sym (take_here j.stream _ c)) (took_end routes c j (answer.Refused refusal.Ended) refl w s)
+took routes entries c j (answer.Refused (refusal.NoCredit granted)) w ends of full s = subst (λ d. Stands routes d j) (sym (take_here j.stream _ c)) (took_in_vain routes c j (answer.Refused (refusal.NoCredit granted)) refl refl w s)
+took routes entries c j (answer.Refused (refusal.OutFull queued)) w ends of full s = subst (λ d. Stands routes d j) (sym (take_here j.stream _ c)) (took_in_vain routes c j (answer.Refused (refusal.OutFull queued)) refl refl w s)
+took routes entries c j (answer.Refused why) w ends of full s = subst (λ d. IsServed routes entries j.stream d []) (sym (take_here j.stream (answer.Refused why) c)) (took_no_more routes entries c j (answer.Refused why) (final_of why (ends why refl) (λ e. absurd (cc))) w s)
+took routes entries c j _ w ends of full s = absurd of
 
-pub gone_took : (names : List ℕ) (routes : List Listed) (old new : List Entry) (j : OpenJob) (a : Answer) → Awaits routes j → MayAnswer (call.Take j.stream) a
+pub gone_took : (names : List ℕ) (routes : List Listed) (old new : List Entry) (j : OpenJob) (a : Answer) → Awaits routes j
+    → (Stands routes (course names j.stream old) j → (why : Refusal) → a ≡ answer.Refused why → AtEnd why) → MayAnswer (call.Take j.stream) a
     → ((s : ℕ) → course names s new ≡ told s (call.Take j.stream) a (course names s old)) → length old ≤ length new → (a ≡ answer.TapeFull → 2 ^ 63 ≤ length new)
     → HasGone names routes old new j (left_with (taken_of a) j)
-gone_took names routes old new j a w may tells longer full =
+gone_took names routes old new j a w ends may tells longer full =
     gone_by names routes old new j _ (call.Take j.stream) a tells longer (λ q c differs. take_apart j.stream q a c differs)
-    (λ c s. took routes (length new) c j a w may full s)
+    (λ s. took routes (length new) (course names j.stream old) j a w (ends s) may full s)
 
 -- ---- how many replies, and why no more
 
@@ -246,133 +245,6 @@ worked_both names number a b c was mid now same h k =
 pub same_both : (was mid now : OpenJob) → IsSameJob was mid → IsSameJob mid now → IsSameJob was now
 same_both was mid now h k = k ∙ ap (λ (j : OpenJob). record j { made = now.made; stage = now.stage }) h
 
--- ---- causes
-
-blocked_hinders : (a : Answer) → outcome_of a ≡ outcome.Blocked → IsHindrance a
-blocked_hinders (answer.Refused (refusal.NoCredit granted)) h = tt
-blocked_hinders (answer.Refused (refusal.OutFull queued)) h = tt
-blocked_hinders answer.NotYet h = tt
-blocked_hinders _ h = absurd (cc)
-
-final_for_good : (a : Answer) → outcome_of a ≡ outcome.Final → IsOfReply a → IsForGood a
-final_for_good (answer.Refused (refusal.NoCredit granted)) h of = absurd (cc)
-final_for_good (answer.Refused (refusal.OutFull queued)) h of = absurd (cc)
-final_for_good (answer.Refused why) h of = tt
-final_for_good answer.TapeFull h of = tt
-final_for_good answer.Done h of = absurd (cc)
-final_for_good answer.OutOfMemory h of = absurd (cc)
-final_for_good _ h of = absurd of
-
--- the last call on a stream, where it left an entry
-last_told : (s : ℕ) (asked : Call) (a : Answer) (c d : Course) → d ≡ told s asked a c → leaves a ≡ true → (after_call s asked a c).last ≡ Some (asked, a) → d.last ≡ Some (asked, a)
-last_told s asked a c d is left last = ap (λ (x : Course). x.last) (is ∙ ap (λ b. if b then after_call s asked a c else c) left) ∙ last
-
-reply_last : (names : List ℕ) (old new : List Entry) (j : OpenJob) (asked : Call) (a : Answer) → IsReplyOn j.stream asked → ((s : ℕ) → course names s new ≡ told s asked a (course names s old)) → IsLast names new j asked a
-reply_last names old new j asked a on tells = λ left.
-    last_told j.stream asked a (course names j.stream old) (course names j.stream new) (tells j.stream) left (ap (λ (x : Course). x.last) (after_said j.stream asked a (course names j.stream old) on))
-
-take_last : (names : List ℕ) (old new : List Entry) (j : OpenJob) (a : Answer) → ((s : ℕ) → course names s new ≡ told s (call.Take j.stream) a (course names s old)) → IsLast names new j (call.Take j.stream) a
-take_last names old new j a tells = λ left.
-    last_told j.stream (call.Take j.stream) a (course names j.stream old) (course names j.stream new) (tells j.stream) left (ap (λ (x : Course). x.last) (take_here j.stream a (course names j.stream old)))
-
-pub waiting_reply : (g : Settings) (routes : List Listed) (names : List ℕ) (number : ℕ) (old new : List Entry) (j : OpenJob) (asked : Call) (ends : Bool) (a : Answer) → outcome_of a ≡ outcome.Blocked → IsReplyOn j.stream asked
-    → ((s : ℕ) → course names s new ≡ told s asked a (course names s old)) → WasAnswered g number old new asked a → plan_of (law_of routes j.kind j.message) j ≡ plan.Say asked ends
-    → IsWaiting g routes names number old new j
-waiting_reply g routes names number old new j asked ends a is on tells was plans = record {
-  met = record { asked = asked; met = a; hindered = blocked_hinders a is; tried = record { next = inl (ends, plans); was = was } };
-  last = reply_last names old new j asked a on tells;
-}
-
-pub stopped_reply : (g : Settings) (routes : List Listed) (names : List ℕ) (number : ℕ) (old new : List Entry) (j : OpenJob) (asked : Call) (ends : Bool) (a : Answer) → outcome_of a ≡ outcome.Final → IsReplyOn j.stream asked
-    → MayAnswer asked a → ((s : ℕ) → course names s new ≡ told s asked a (course names s old)) → WasAnswered g number old new asked a → plan_of (law_of routes j.kind j.message) j ≡ plan.Say asked ends
-    → IsStoppedBy g routes names number old new j a
-stopped_reply g routes names number old new j asked ends a is on may tells was plans = record {
-  asked = asked;
-  tried = record { next = inl (ends, plans); was = was };
-  last = reply_last names old new j asked a on tells;
-  final = final_for_good a is (reply_only j.stream asked a on may);
-}
-
-done_bytes : (s : ℕ) (asked : Call) → IsReplyOn s asked → bytes_of_all (accepted_of asked answer.Done) ≡ bytes_of asked
-done_bytes s (call.Next q message complete) on = let n : length message.content + 0 ≡ length message.content = omega arith in n
-done_bytes s (call.Done q) on = refl
-done_bytes s (call.Fail q code content) on = refl
-done_bytes s (call.Take q) on = absurd on
-done_bytes s call.TakeJob on = absurd on
-done_bytes s (call.Request k initial message complete) on = absurd on
-done_bytes s (call.Grant q n) on = absurd on
-done_bytes s (call.Cancel q) on = absurd on
-done_bytes s (call.Push metadata) on = absurd on
-done_bytes s (call.Lease ttl count metadata) on = absurd on
-done_bytes s call.Close on = absurd on
-
-pub accepted_done : (a : Answer) → outcome_of a ≡ outcome.Accepted → a ≡ answer.Done
-accepted_done answer.Done h = refl
-accepted_done (answer.Refused (refusal.NoCredit granted)) h = absurd (cc)
-accepted_done (answer.Refused (refusal.OutFull queued)) h = absurd (cc)
-accepted_done answer.NotYet h = absurd (cc)
-accepted_done answer.OutOfMemory h = absurd (cc)
-accepted_done _ h = absurd (cc)
-
--- a reply was accepted
-pub went_reply : (g : Settings) (routes : List Listed) (names : List ℕ) (number : ℕ) (old new : List Entry) (j : OpenJob) (s : ℕ) (asked : Call) (before : ℕ) (ends : Bool) (a : Answer) (result : Step) → outcome_of a ≡ outcome.Accepted
-    → IsReplyOn s asked → HasSent names old new (bytes_of_all (accepted_of asked a)) → IsAccepted asked before ends result → CauseOfStep g routes names number old new j result
-went_reply g routes names number old new j s asked before ends a (step.Went bytes) is on sent so =
-    subst (HasSent names old new) (ap (λ b. bytes_of_all (accepted_of asked b)) (accepted_done a is) ∙ (done_bytes s asked on ∙ sym so)) sent
-went_reply g routes names number old new j s asked before ends a (step.Served items) is on sent so = tt
-went_reply g routes names number old new j s asked before ends a step.Blocked is on sent so = absurd so
-went_reply g routes names number old new j s asked before ends a (step.Stopped r) is on sent so = absurd so
-went_reply g routes names number old new j s asked before ends a step.OutOfMemory is on sent so = tt
-
-got_blocks_not : (d : Delivery) → taken_of (answer.Got d) ≡ taken.Blocked → ⊥
-got_blocks_not (delivery.Item message) h = absurd (cc)
-got_blocks_not delivery.Complete h = absurd (cc)
-got_blocks_not (delivery.Error code content) h = absurd (cc)
-got_blocks_not delivery.Canceled h = absurd (cc)
-
-blocked_take : (a : Answer) → taken_of a ≡ taken.Blocked → IsHindrance a
-blocked_take (answer.Refused (refusal.NoCredit granted)) h = tt
-blocked_take (answer.Refused (refusal.OutFull queued)) h = tt
-blocked_take answer.NotYet h = tt
-blocked_take (answer.Got d) h = absurd (got_blocks_not d h)
-blocked_take _ h = absurd (cc)
-
--- a Take that was refused for good
-final_take : (a b : Answer) → taken_of a ≡ taken.Final b → IsOfTake a → (a ≡ b) × IsForGood a
-final_take (answer.Refused (refusal.NoCredit granted)) b h of = absurd (cc)
-final_take (answer.Refused (refusal.OutFull queued)) b h of = absurd (cc)
-final_take (answer.Refused refusal.Ended) b h of = absurd (cc)
-final_take (answer.Refused why) b h of = (cc, tt)
-final_take (answer.Got d) b h of = absurd (never d h)
-  where
-    never : (e : Delivery) → taken_of (answer.Got e) ≡ taken.Final b → ⊥
-    never (delivery.Item message) is = absurd (cc)
-    never delivery.Complete is = absurd (cc)
-    never (delivery.Error code content) is = absurd (cc)
-    never delivery.Canceled is = absurd (cc)
-final_take answer.NotYet b h of = absurd (cc)
-final_take answer.OutOfMemory b h of = absurd (cc)
-final_take answer.TapeFull b h of = (cc, tt)
-final_take _ b h of = absurd of
-
-pub waiting_take : (g : Settings) (routes : List Listed) (names : List ℕ) (number : ℕ) (old new : List Entry) (j : OpenJob) (a : Answer) → taken_of a ≡ taken.Blocked
-    → ((s : ℕ) → course names s new ≡ told s (call.Take j.stream) a (course names s old)) → WasAnswered g number old new (call.Take j.stream) a → Awaits routes j → IsWaiting g routes names number old new j
-waiting_take g routes names number old new j a is tells was awaits = record {
-  met = record { asked = call.Take j.stream; met = a; hindered = blocked_take a is; tried = record { next = inr (awaits, refl); was = was } };
-  last = take_last names old new j a tells;
-}
-
-pub stopped_take : (g : Settings) (routes : List Listed) (names : List ℕ) (number : ℕ) (old new : List Entry) (j : OpenJob) (a b : Answer) → taken_of a ≡ taken.Final b → MayAnswer (call.Take j.stream) a
-    → ((s : ℕ) → course names s new ≡ told s (call.Take j.stream) a (course names s old)) → WasAnswered g number old new (call.Take j.stream) a → Awaits routes j → IsStoppedBy g routes names number old new j b
-stopped_take g routes names number old new j a b is may tells was awaits =
-    let f = final_take a b is may in
-    subst (IsStoppedBy g routes names number old new j) f.0 (record {
-      asked = call.Take j.stream;
-      tried = record { next = inr (awaits, refl); was = was };
-      last = take_last names old new j a tells;
-      final = f.1;
-    })
-
 -- ---- by the outcome
 
 pub said_by : (names : List ℕ) (routes : List Listed) (number : ℕ) (old new : List Entry) (j : OpenJob) (asked : Call) (last : Bool) (a : Answer) (made : ℕ) (o : Outcome) → outcome_of a ≡ o → made ≡ j.made + 1
@@ -382,12 +254,13 @@ said_by names routes number old new j asked last a made o is more on may tells g
     subst (λ u. HasGone names routes old new j (left_after u last j made)) is
     (gone_said names routes old new j asked last a made more on may tells (goes_longer (λ c. c ≡ asked) names number old new _ goes) full plans)
 
-pub took_by : (names : List ℕ) (routes : List Listed) (number : ℕ) (old new : List Entry) (j : OpenJob) (a : Answer) (t : Taken) → taken_of a ≡ t → Awaits routes j → MayAnswer (call.Take j.stream) a
+pub took_by : (names : List ℕ) (routes : List Listed) (number : ℕ) (old new : List Entry) (j : OpenJob) (a : Answer) (t : Taken) → taken_of a ≡ t → Awaits routes j
+    → (Stands routes (course names j.stream old) j → (why : Refusal) → a ≡ answer.Refused why → AtEnd why) → MayAnswer (call.Take j.stream) a
     → ((s : ℕ) → course names s new ≡ told s (call.Take j.stream) a (course names s old)) → GoesOn (λ c. c ≡ call.Take j.stream) names number old new (length (accepted_of (call.Take j.stream) a))
     → (a ≡ answer.TapeFull → 2 ^ 63 ≤ length new) → HasGone names routes old new j (left_with t j)
-took_by names routes number old new j a t is w may tells goes full =
+took_by names routes number old new j a t is w ends may tells goes full =
     subst (λ u. HasGone names routes old new j (left_with u j)) is
-    (gone_took names routes old new j a w may tells (goes_longer (λ c. c ≡ call.Take j.stream) names number old new _ goes) full)
+    (gone_took names routes old new j a w ends may tells (goes_longer (λ c. c ≡ call.Take j.stream) names number old new _ goes) full)
 
 -- ---- one after the other, as the caller knows
 

@@ -1,3 +1,5 @@
+pub mod AtEnd
+pub mod AtWork
 pub mod Calling
 pub mod Ended
 pub mod Fronts
@@ -6,6 +8,7 @@ pub mod Items
 pub mod Jobs
 pub mod Plans
 pub mod Putting
+pub mod Reasons
 pub mod Routing
 pub mod Rows
 pub mod Served

@@ -29,7 +29,7 @@ use Rattle.workers.specs.Replies.{law_of}
 use Rattle.workers.specs.Serving.{AreRouted, IsAt, IsGone, IsServed, Stands, jobs_on}
 use Rattle.workers.specs.declared.outcome.Found.{Found}
 use Rattle.workers.specs.declared.outcome.Found.TheVariants as found
-use Rattle.workers.specs.Causes.{IsRefusedOrFull, WasAnswered, WasGot, WasHad}
+use Rattle.workers.specs.Causes.{IsRefusedOrFull, WasAnswered, WasHad}
 use Rattle.workers.specs.Going.{IsForgotten, IsOfTakeJob, IsPut, IsSameJob, Keeps, StoodIn, found_of, told}
 use Rattle.workers.proofs.Fronts.{answered_between, got_since}
 use Rattle.workers.proofs.Plans.{other_test, same_test, test_other, test_same}

@@ -2,7 +2,7 @@
 use Rattle.std.proofs.Math.ListN.{set}
 use Rattle.std.proofs.Math.Seq.{get_or-append_seam}
 use Rattle.std.proofs.lemmas.List.{length-append}
-use Rattle.std.proofs.Common.{◌≡◌, ◌≢◌, ◌<◌, ◌≤◌, ◌+◌, ◌∙◌, ℕ, suc, List, [], ◌∷◌, ◌++◌, length, take, drop, get_or, inl, inr, refl, sym, ap, subst, arith, append_assoc, append-nil}
+use Rattle.std.proofs.Common.{◌≡◌, ◌≢◌, ◌<◌, ◌+◌, ◌∙◌, ℕ, suc, List, [], ◌∷◌, ◌++◌, length, take, drop, get_or, inl, inr, refl, sym, ap, subst, arith}
 use Rattle.std.specs.Prelude.{Option}
 use Rattle.rs_wire.specs.declared.settings.Settings.{Settings}
 use Rattle.tape.specs.declared.entry.Entry.{Entry}
@@ -14,7 +14,7 @@ use Rattle.workers.specs.declared.going.Going.TheVariants as going
 use Rattle.workers.specs.declared.worked.Worked.TheVariants as worked
 use Rattle.workers.specs.declared.worked.Progress.{Progress}
 use Rattle.workers.specs.declared.worked.Progress.TheVariants as progress
-use Rattle.workers.specs.Causes.{AreHindered, CauseOf, CauseOfProgress, CauseOfTaking, IsHindered, IsHinderedAt, IsNotMore, IsOfJobs, IsWaiting, WasHad, WentAt}
+use Rattle.workers.specs.Causes.{AreHindered, CauseOf, CauseOfProgress, CauseOfTaking, IsHinderedAt, IsNotMore, IsOfJobs, WasHad, WentAt}
 use Rattle.workers.specs.Courses.{GoesOn, IsWorkersCall, WorksOn}
 use Rattle.workers.specs.Serving.{AreRouted, IsRouted, Serving, jobs_on}
 use Rattle.workers.specs.Going.{HasGone, HasWorked, IsSameJob, IsSettled, Keeps, StoodIn, WholeOf, left_by, progress_of}
@@ -268,57 +268,6 @@ taking_since g routes names number most a b c was mid now (progress.Worked (work
 taking_since g routes names number most a b c was mid now (progress.Worked worked.Idle) h keeps had k =
     (goes_both IsWorkersCall names number a b c 0 0 h k.0, answered_between g number a b c c _ _ (goes_later IsWorkersCall names number a b 0 h) ([], refl) k.1)
 
--- ---- one job after the other
-
--- the first so many jobs were hindered
-pub record AreTried (g : Settings) (routes : List Listed) (number : ℕ) (old new : List Entry) (place : ℕ) (jobs : List OpenJob) : Type 0 where
-  pub first : List OpenJob
-  pub rest : List OpenJob
-  pub are : jobs ≡ first ++ rest
-  pub many : length first ≡ place
-  pub hindered : AreHindered g routes number old new first
-
-pub none_tried : (g : Settings) (routes : List Listed) (number : ℕ) (old new : List Entry) (jobs : List OpenJob) → AreTried g routes number old new 0 jobs
-none_tried g routes number old new jobs = record { first = []; rest = jobs; are = refl; many = refl; hindered = tt }
-
-all_more : (g : Settings) (routes : List Listed) (number : ℕ) (old new : List Entry) (jobs : List OpenJob) (j : OpenJob) → AreHindered g routes number old new jobs → IsHindered g routes number old new j
-    → AreHindered g routes number old new (jobs ++ j ∷ [])
-all_more g routes number old new [] j h k = (k, tt)
-all_more g routes number old new (i ∷ jobs) j h k = (h.0, all_more g routes number old new jobs j h.1 k)
-
-same_start : {X : Type 0} (xs ys zs ws : List X) → length xs ≡ length zs → xs ++ ys ≡ zs ++ ws → xs ≡ zs
-same_start [] ys [] ws h e = refl
-same_start [] ys (z ∷ zs) ws h e = absurd (omega arith)
-same_start (x ∷ xs) ys [] ws h e = absurd (omega arith)
-same_start (x ∷ xs) ys (z ∷ zs) ws h e =
-    let first : x ≡ z = cc in
-    let rest : xs ++ ys ≡ zs ++ ws = cc in
-    let l : length xs ≡ length zs = omega arith in
-    ap (λ v. v ∷ xs) first ∙ ap (λ vs. z ∷ vs) (same_start xs ys zs ws l rest)
-
-pub one_more_tried : (g : Settings) (routes : List Listed) (names : List ℕ) (number : ℕ) (a b c : List Entry) (place : ℕ) (was now : List OpenJob) → Continues a b → Continues b c → AreTried g routes number a b place was
-    → IsHinderedAt g routes names number b c place was now → AreTried g routes number a c (place + 1) now
-one_more_tried g routes names number a b c place was now h k t w =
-    let same : t.first ≡ w.before = same_start t.first t.rest w.before (w.job ∷ w.after) (t.many ∙ sym w.at) (sym t.are ∙ w.were) in
-    record {
-      first = w.before ++ w.left ∷ [];
-      rest = w.after;
-      are = w.are ∙ sym (append_assoc w.before (w.left ∷ []) w.after);
-      many = (let l : length (w.before ++ w.left ∷ []) ≡ length w.before + 1 = length-append w.before (w.left ∷ []) in let at = w.at in omega arith);
-      hindered = all_more g routes number a c w.before w.left (subst (AreHindered g routes number a c) same (hindered_until g routes number a b c t.first k t.hindered)) (hindered_between g routes number a b c c w.left h ([], refl) w.waiting.met);
-    }
-
--- all were
-pub all_tried : (g : Settings) (routes : List Listed) (number : ℕ) (old new : List Entry) (place : ℕ) (jobs : List OpenJob) → length jobs ≤ place → AreTried g routes number old new place jobs → AreHindered g routes number old new jobs
-all_tried g routes number old new place jobs le t =
-    let l : length jobs ≡ length t.first + length t.rest = ap length t.are ∙ length-append t.first t.rest in
-    let none : t.rest ≡ [] = none_of t.rest (let m = t.many in omega arith) in
-    subst (AreHindered g routes number old new) (sym (t.are ∙ (ap (λ js. t.first ++ js) none ∙ append-nil t.first))) t.hindered
-  where
-    none_of : (xs : List OpenJob) → length xs ≡ 0 → xs ≡ []
-    none_of [] h = refl
-    none_of (x ∷ xs) h = absurd (omega arith)
-
 -- ---- one after the other, as the caller knows
 
 pub keeps_after : (was mid now : Knowledge) (routes : List Listed) (a b c : List OpenJob) → IsOn was mid → Keeps was.names routes was.front mid.front a b → Keeps mid.names routes mid.front now.front b c → Keeps was.names routes was.front now.front a c
@@ -333,13 +282,6 @@ pub quiet_since : (was mid now : Knowledge) → IsOn was mid → GoesOn IsWorker
 quiet_since was mid now on h k =
     goes_both IsWorkersCall was.names was.number was.front mid.front now.front 0 0 h
     (subst (λ n. GoesOn IsWorkersCall was.names n mid.front now.front 0) (ap (λ (x : Knowledge). x.number) on) (subst (λ names. GoesOn IsWorkersCall names mid.number mid.front now.front 0) (ap (λ (x : Knowledge). x.names) on) k))
-
-pub tried_after : (g : Settings) (routes : List Listed) (was mid now : Knowledge) (place : ℕ) (before after : List OpenJob) → IsOn was mid → Continues was.front mid.front → Continues mid.front now.front
-    → AreTried g routes was.number was.front mid.front place before → IsHinderedAt g routes mid.names mid.number mid.front now.front place before after → AreTried g routes was.number was.front now.front (place + 1) after
-tried_after g routes was mid now place before after on h k t w =
-    one_more_tried g routes was.names was.number was.front mid.front now.front place before after h k t
-    (subst (λ n. IsHinderedAt g routes was.names n mid.front now.front place before after) (ap (λ (x : Knowledge). x.number) on)
-    (subst (λ names. IsHinderedAt g routes names mid.number mid.front now.front place before after) (ap (λ (x : Knowledge). x.names) on) w))
 
 -- what is said of a job, from the front and the work before
 pub jobs_after : (g : Settings) (routes : List Listed) (most : Option ℕ) (a b c : Knowledge) (was mid now : List OpenJob) (p : Progress) → IsOn a b → Continues a.front b.front → Keeps a.names routes a.front b.front was mid

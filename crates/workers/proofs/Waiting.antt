@@ -1,5 +1,4 @@
 -- What a worker keeps, over entries that are no calls of a worker, and over names that were joined.
-use Rattle.std.specs.List.{AllByRecursion}
 use Rattle.std.proofs.lemmas.Bool.Decides.{nat_tests}
 use Rattle.std.proofs.Common.{◌≡◌, ◌<◌, ◌≤◌, ◌+◌, ◌==◌, ◌∙◌, ◌⊎◌, inl, inr, ℕ, Bool, true, false, if◌then◌else◌, List, [], ◌∷◌, ◌++◌, length, refl, sym, ap, subst, arith, append-nil}
 use Rattle.rs_wire.specs.declared.call.Call.{Call}
@@ -8,7 +7,7 @@ use Rattle.tape.specs.declared.event.Event.{Event}
 use Rattle.tape.specs.declared.event.Event.TheVariants as event
 use Rattle.tape.specs.declared.answer.Answer.{Answer}
 use Rattle.tape.specs.declared.entry.Entry.{Entry}
-use Rattle.conn_lock.specs.Callers.{IsOthers, once, times}
+use Rattle.conn_lock.specs.Callers.{IsOthers, times}
 use Rattle.conn_shared.specs.Lines.{who_of}
 use Rattle.conn_shared.specs.Members.{Follows}
 use Rattle.handlers.specs.Listed.{Listed}

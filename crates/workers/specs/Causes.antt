@@ -1,5 +1,5 @@
 -- Why a worker says what it says: the call that it made, of which job, and the answer that it had.
-use Rattle.std.specs.Prelude.{◌≡◌, ◌≢◌, ◌≤◌, ◌↔◌, ◌⊎◌, ◌^◌, ℕ, Bool, true, List, [], ◌∷◌, ◌++◌, length, Option, Some, None}
+use Rattle.std.specs.Prelude.{◌≡◌, ◌≢◌, ◌≤◌, ◌↔◌, ◌⊎◌, ◌^◌, ℕ, Bool, true, List, [], ◌∷◌, ◌++◌, length, Option, Some}
 use Rattle.std.specs.List.{AllByRecursion}
 use Rattle.rs_wire.specs.declared.call.Call.{Call}
 use Rattle.rs_wire.specs.declared.call.Call.TheVariants as call
@@ -172,6 +172,10 @@ pub record HasStopped (g : Settings) (routes : List Listed) (names : List ℕ) (
 abbrev pub AreHindered : Settings → List Listed → ℕ → List Entry → List Entry → List OpenJob → Type 0
 AreHindered g routes number old new jobs = AllByRecursion (IsHindered g routes number old new) jobs
 
+-- and nothing was called on its stream since
+abbrev pub AreWaiting : Settings → List Listed → List ℕ → ℕ → List Entry → List Entry → List OpenJob → Type 0
+AreWaiting g routes names number old new jobs = AllByRecursion (IsWaiting g routes names number old new) jobs
+
 abbrev pub IsRefusedOrFull : Answer → Type 0
 IsRefusedOrFull (answer.Refused why) = Unit {0}
 IsRefusedOrFull answer.TapeFull = Unit {0}
@@ -194,6 +198,15 @@ CauseOfWorked g routes names number old new was now worked.OutOfMemory = Unit {0
 abbrev pub CauseOfProgress : Settings → List Listed → List ℕ → ℕ → Option ℕ → List Entry → List Entry → List OpenJob → List OpenJob → Progress → Type 0
 CauseOfProgress g routes names number most old new was now (progress.More s) = HasMore names most old new now s
 CauseOfProgress g routes names number most old new was now (progress.Worked w) = CauseOfWorked g routes names number old new was now w
+
+-- where a worker is idle, each job in its work waits, if the statement held before
+abbrev pub WaitingOfWorked : Settings → List Listed → List ℕ → ℕ → List Entry → List Entry → List OpenJob → List OpenJob → Worked → Type 0
+WaitingOfWorked g routes names number old new was now worked.Idle = Serving names old routes was → AreWaiting g routes names number old new now
+WaitingOfWorked g routes names number old new was now _ = Unit {0}
+
+abbrev pub WaitingOfProgress : Settings → List Listed → List ℕ → ℕ → List Entry → List Entry → List OpenJob → List OpenJob → Progress → Type 0
+WaitingOfProgress g routes names number old new was now (progress.More s) = Unit {0}
+WaitingOfProgress g routes names number old new was now (progress.Worked w) = WaitingOfWorked g routes names number old new was now w
 
 -- the job of stream s has left the work, and is whole, with so many items
 abbrev pub IsOver : List ℕ → List Listed → List Entry → List OpenJob → ℕ → ℕ → Type 0

@@ -12,6 +12,7 @@ use Rattle.tape.specs.Answers.{leaves}
 use Rattle.tape.specs.declared.answer.Answer.{Answer}
 use Rattle.tape.specs.declared.answer.Answer.TheVariants as answer
 use Rattle.tape.specs.declared.entry.Entry.{Entry}
+use Rattle.conn_shared.specs.Members.{Knowledge}
 use Rattle.handlers.specs.Listed.{Listed}
 use Rattle.handlers.specs.Values.{value}
 use Rattle.handlers.specs.declared.law.Law.{Law}
@@ -30,12 +31,11 @@ use Rattle.workers.specs.declared.step.Step.{Step}
 use Rattle.workers.specs.declared.step.Step.TheVariants as step
 use Rattle.workers.specs.declared.going.Going.{Going}
 use Rattle.workers.specs.declared.going.Going.TheVariants as going
-use Rattle.workers.specs.declared.worked.Worked.{Worked}
 use Rattle.workers.specs.declared.worked.Worked.TheVariants as worked
 use Rattle.workers.specs.declared.worked.Progress.{Progress}
 use Rattle.workers.specs.declared.worked.Progress.TheVariants as progress
 use Rattle.workers.specs.Replies.{item_of, items_of, law_of, no_route, plain, response}
-use Rattle.workers.specs.Courses.{Course, GoesOn, IsOfJob, after_call, bytes_of, course}
+use Rattle.workers.specs.Courses.{Course, GoesOn, IsOfJob, WorksOn, after_call, bytes_of, course}
 use Rattle.workers.specs.Serving.{AreRouted, IsRouted, IsServed, IsWholeJob, Serving, Stands, jobs_on}
 
 -- ---- what a job says next
@@ -223,6 +223,14 @@ IsSettled place how was now = (before after : List OpenJob) (j : OpenJob) → wa
 -- the statement is kept
 abbrev pub Keeps : List ℕ → List Listed → List Entry → List Entry → List OpenJob → List OpenJob → Type 0
 Keeps names routes old new was now = Serving names old routes was → Serving names new routes now
+
+-- What each call of a worker keeps: its caller's front and note alone change, the entries added are a worker's calls, each job has its route,
+-- and the statement goes on.
+pub record IsAtWork (routes : List Listed) (old new : Knowledge) (was now : List OpenJob) : Type 0 where
+  pub same : new ≡ record old { front = new.front; note = new.note }
+  pub works : WorksOn old.names old.number old.front new.front
+  pub routed : AreRouted routes now
+  pub kept : Keeps old.names routes old.front new.front was now
 
 -- no job of stream s is left, where there was one at most, and the others stay
 pub record IsForgotten (s : ℕ) (was now : List OpenJob) : Type 0 where

@@ -59,10 +59,10 @@ IsFinal (answer.Refused (refusal.OutFull queued)) = ⊥
 IsFinal (answer.Refused _) = Unit {0}
 IsFinal _ = ⊥
 
--- and of a Take: that nothing more comes is none either
+-- and of a Take on the stream of a job: the session is closed. That nothing more comes is none, and no other refusal comes there.
 abbrev pub IsFinalTake : Answer → Type 0
-IsFinalTake (answer.Refused refusal.Ended) = ⊥
-IsFinalTake a = IsFinal a
+IsFinalTake (answer.Refused (refusal.Closed cause)) = Unit {0}
+IsFinalTake _ = ⊥
 
 -- a call on stream s after these replies is the next one, refused for good, or on a channel a Take so refused
 abbrev pub IsStop : (ℕ → Option Call) → ℕ → Kind → ℕ → Call → Answer → Type 0

@@ -2,6 +2,7 @@
 
 ghost use Rattle.std.specs.Prelude.{◌≡◌, ◌≤◌, ◌^◌, ℕ, length};
 ghost use Rattle.rs_wire.specs.Calls.{CanBeAsked};
+ghost use Rattle.session_laws.specs.Streams.{IsLawful};
 ghost use Rattle.workers.specs.Causes.{WasAnswered};
 ghost use Rattle.workers.specs.Courses.{GoesOn, HasSent, IsWorkersCall, accepted_of, bytes_of_all, course};
 ghost use Rattle.workers.specs.Going.{MayAnswer, told};
@@ -33,8 +34,12 @@ pub fn ask<R: Wait, T: Tape>(
     ensures was { WasAnswered connection.now.settings caller.old.number caller.old.front
         caller.new.front call.now result }
     ensures full { result ≡ Answer.TapeFull → 2 ^ 63 ≤ length caller.new.front }
+    ensures lawful { IsLawful connection.now.settings caller.new.front }
 {
-    // The caller's number is one of its names, which contracts have from this call alone.
+    // The caller's number is one of its names, and its front is lawful, which contracts have from these
+    // two calls alone.
     let _number = caller.number();
-    connection.call(rt, caller, call)
+    let answer = connection.call(rt, caller, call);
+    caller.legal();
+    answer
 }

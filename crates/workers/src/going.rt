@@ -9,9 +9,9 @@ ghost use Rattle.workers.specs.Going.{HasGone, HasWorked, IsSameJob, WholeOf, le
 use crate::gate::Gate;
 use crate::job::OpenJob;
 use crate::step::{Step, make_step};
-use conn::{Caller, Connection};
-use handlers::{Handler, Routes};
-use std::alloc::Global;
+use crate::tools::Tools;
+use conn::Caller;
+use handlers::Handler;
 use std::sync::Wait;
 use tape::{Answer, Tape};
 
@@ -44,35 +44,32 @@ fn is_enough(sent: u64, most: Option<u64>) -> bool
 /// Goes on with a job until it is done or refused, or its replies have as many bytes as are allowed.
 pub fn go_on<R: Wait, T: Tape, F: Handler, G: Gate>(
     rt: &R,
-    alloc: Global,
-    connection: &Connection<T>,
+    tools: &Tools<'_, T, F, G>,
     caller: &mut Caller<T>,
-    routes: &Routes<F>,
-    gate: &G,
     job: &mut OpenJob,
-    most: Option<u64>,
 ) -> Going
-    requires of { caller.old.of ≡ connection.now }
-    requires routed { IsRouted routes.now job.old }
+    requires of { caller.old.of ≡ tools.now.connection.now }
+    requires routed { IsRouted tools.now.routes.now job.old }
     ensures same { caller.new ≡
         record caller.old { front = caller.new.front; note = caller.new.note } }
     ensures worked { HasWorked caller.old.names caller.old.number caller.old.front
         caller.new.front job.old job.new }
     ensures job { IsSameJob job.old job.new }
-    ensures cause { CauseOf connection.now.settings routes.now caller.old.names caller.old.number
-        most caller.old.front caller.new.front job.new result }
-    ensures kept { HasGone caller.old.names routes.now caller.old.front caller.new.front job.old
-        (left_by result job.new) }
-    ensures whole { WholeOf caller.old.names routes.now caller.old.front caller.new.front job.old
-        result }
-    ensures unbounded { most ≡ None → result ≢ goings.More }
+    ensures cause { CauseOf tools.now.connection.now.settings tools.now.routes.now
+        caller.old.names caller.old.number tools.now.most caller.old.front caller.new.front
+        job.new result }
+    ensures kept { HasGone caller.old.names tools.now.routes.now caller.old.front
+        caller.new.front job.old (left_by result job.new) }
+    ensures whole { WholeOf caller.old.names tools.now.routes.now caller.old.front
+        caller.new.front job.old result }
+    ensures unbounded { tools.now.most ≡ None → result ≢ goings.More }
 {
     let mut sent = 0u64;
     for _ in rt.forever() {
-        match make_step(rt, alloc, connection, caller, routes, gate, job) {
+        match make_step(rt, tools, caller, job) {
             Step::Went(bytes) => {
                 sent = sent.saturating_add(bytes);
-                if is_enough(sent, most) {
+                if is_enough(sent, tools.most) {
                     return Going::More;
                 }
             }

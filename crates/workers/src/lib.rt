@@ -25,6 +25,7 @@ mod outcome;
 mod plan;
 mod serve;
 mod step;
+mod tools;
 mod work;
 mod worked;
 

@@ -5,17 +5,18 @@ ghost use Rattle.handlers.specs.Listed.{place as place_of};
 ghost use Rattle.workers.specs.declared.going.Going.TheVariants as goings;
 ghost use Rattle.workers.specs.declared.worked.Progress.TheVariants as progresses;
 ghost use Rattle.workers.specs.declared.worked.Worked.TheVariants as workeds;
-ghost use Rattle.workers.specs.Courses.{GoesOn, IsWorkersCall, WorksOn};
+ghost use Rattle.workers.specs.Courses.{GoesOn, IsWorkersCall, WorksOn, course};
 ghost use Rattle.workers.specs.Replies.{name_of};
 ghost use Rattle.workers.specs.Serving.{AreRouted, Serving};
-ghost use Rattle.workers.specs.Causes.{CauseOfProgress, CauseOfTaking, CauseOfWorked, IsHinderedAt, IsNotMore, IsOfJobs, WentAt, WholeOfProgress, WholeOfWorked};
-ghost use Rattle.workers.specs.Going.{IsForgotten, IsPut, IsSettled, Keeps, progress_of};
+ghost use Rattle.workers.specs.Causes.{CauseOfProgress, CauseOfTaking, CauseOfWorked, IsHinderedAt, IsNotMore, IsOfJobs, WaitingOfProgress, WaitingOfWorked, WentAt, WholeOfProgress, WholeOfWorked};
+ghost use Rattle.workers.specs.Going.{IsAtWork, IsForgotten, IsPut, IsSettled, progress_of};
 
 use crate::ask::ask;
 use crate::gate::Gate;
 use crate::going::{Going, go_on};
 use crate::job::{OpenJob, Stage};
 use crate::outcome::{Found, sort_job};
+use crate::tools::Tools;
 use crate::work::Work;
 use crate::worked::{Progress, Worked};
 use conn::{Caller, Connection};
@@ -43,34 +44,22 @@ fn route_of<F: Handler>(
 // Goes on with the job at a place.
 fn go_at<R: Wait, T: Tape, F: Handler, G: Gate>(
     rt: &R,
-    alloc: Global,
-    connection: &Connection<T>,
+    tools: &Tools<'_, T, F, G>,
     caller: &mut Caller<T>,
-    routes: &Routes<F>,
-    gate: &G,
     jobs: &mut Vec<OpenJob>,
     place: usize,
-    most: Option<u64>,
 ) -> Going
-    requires of { caller.old.of ≡ connection.now }
+    requires of { caller.old.of ≡ tools.now.connection.now }
     requires place { place < length jobs.old.items }
-    requires routed { AreRouted routes.now jobs.old.items }
+    requires routed { AreRouted tools.now.routes.now jobs.old.items }
     ensures same { caller.new ≡
         record caller.old { front = caller.new.front; note = caller.new.note } }
-    ensures went { WentAt caller.old.names routes.now caller.old.number connection.now.settings
-        most caller.old.front caller.new.front place jobs.old.items jobs.new.items result }
-    ensures unbounded { most ≡ None → result ≢ goings.More }
+    ensures went { WentAt caller.old.names tools.now.routes.now caller.old.number
+        tools.now.connection.now.settings tools.now.most caller.old.front caller.new.front place
+        jobs.old.items jobs.new.items result }
+    ensures unbounded { tools.now.most ≡ None → result ≢ goings.More }
 {
-    go_on(
-        rt,
-        alloc,
-        connection,
-        caller,
-        routes,
-        gate,
-        &mut jobs[place],
-        most,
-    )
+    go_on(rt, tools, caller, &mut jobs[place])
 }
 
 // What is said of the job at a place that went on so. It leaves the work where it is done or stopped.
@@ -103,43 +92,32 @@ fn is_blocked(going: &Going) -> bool
 // Goes on with the job at a place. None where none of its replies was accepted and it can't go on now.
 fn try_job<R: Wait, T: Tape, F: Handler, G: Gate>(
     rt: &R,
-    alloc: Global,
-    connection: &Connection<T>,
+    tools: &Tools<'_, T, F, G>,
     caller: &mut Caller<T>,
-    routes: &Routes<F>,
-    gate: &G,
     jobs: &mut Vec<OpenJob>,
     place: usize,
-    most: Option<u64>,
 ) -> Option<Progress>
-    requires of { caller.old.of ≡ connection.now }
+    requires of { caller.old.of ≡ tools.now.connection.now }
     requires place { place < length jobs.old.items }
-    requires routed { AreRouted routes.now jobs.old.items }
-    ensures same { caller.new ≡
-        record caller.old { front = caller.new.front; note = caller.new.note } }
-    ensures routed { AreRouted routes.now jobs.new.items }
-    ensures kept { Keeps caller.old.names routes.now caller.old.front caller.new.front
-        jobs.old.items jobs.new.items }
-    ensures works { IfSome result (λ p.
-        WorksOn caller.old.names caller.old.number caller.old.front caller.new.front) }
-    ensures cause { IfSome result (λ p. IsOfJobs connection.now.settings routes.now
-        caller.old.names caller.old.number most caller.old.front caller.new.front jobs.old.items
-        jobs.new.items p) }
-    ensures whole { IfSome result (λ p. WholeOfProgress connection.now.settings routes.now
-        caller.old.names caller.old.number caller.old.front caller.new.front jobs.old.items
-        jobs.new.items p) }
+    requires routed { AreRouted tools.now.routes.now jobs.old.items }
+    ensures at_work { IsAtWork tools.now.routes.now caller.old caller.new jobs.old.items
+        jobs.new.items }
+    ensures cause { IfSome result (λ p. IsOfJobs tools.now.connection.now.settings
+        tools.now.routes.now caller.old.names caller.old.number tools.now.most caller.old.front
+        caller.new.front jobs.old.items jobs.new.items p) }
+    ensures whole { IfSome result (λ p. WholeOfProgress tools.now.connection.now.settings
+        tools.now.routes.now caller.old.names caller.old.number caller.old.front
+        caller.new.front jobs.old.items jobs.new.items p) }
     ensures quiet { IfNone result (GoesOn IsWorkersCall caller.old.names caller.old.number
         caller.old.front caller.new.front 0) }
-    ensures hindered { IfNone result (IsHinderedAt connection.now.settings routes.now
-        caller.old.names caller.old.number caller.old.front caller.new.front place jobs.old.items
-        jobs.new.items) }
-    ensures unbounded { most ≡ None → IfSome result IsNotMore }
+    ensures hindered { IfNone result (IsHinderedAt tools.now.connection.now.settings
+        tools.now.routes.now caller.old.names caller.old.number caller.old.front caller.new.front
+        place jobs.old.items jobs.new.items) }
+    ensures unbounded { tools.now.most ≡ None → IfSome result IsNotMore }
 {
     let stream = jobs[place].stream;
     let made = jobs[place].made;
-    let going = go_at(
-        rt, alloc, connection, caller, routes, gate, jobs, place, most,
-    );
+    let going = go_at(rt, tools, caller, jobs, place);
     if is_blocked(&going) && jobs[place].made == made {
         return None;
     }
@@ -192,77 +170,63 @@ fn put<F: Handler>(
 // Goes on with the last job, which was got just now.
 fn go_first<R: Wait, T: Tape, F: Handler, G: Gate>(
     rt: &R,
-    alloc: Global,
-    connection: &Connection<T>,
+    tools: &Tools<'_, T, F, G>,
     caller: &mut Caller<T>,
-    routes: &Routes<F>,
-    gate: &G,
     jobs: &mut Vec<OpenJob>,
-    most: Option<u64>,
 ) -> Progress
-    requires of { caller.old.of ≡ connection.now }
+    requires of { caller.old.of ≡ tools.now.connection.now }
     requires some { 0 < length jobs.old.items }
-    requires routed { AreRouted routes.now jobs.old.items }
-    ensures same { caller.new ≡
-        record caller.old { front = caller.new.front; note = caller.new.note } }
-    ensures works { WorksOn caller.old.names caller.old.number caller.old.front caller.new.front }
-    ensures routed { AreRouted routes.now jobs.new.items }
-    ensures kept { Keeps caller.old.names routes.now caller.old.front caller.new.front
-        jobs.old.items jobs.new.items }
-    ensures cause { IsOfJobs connection.now.settings routes.now caller.old.names
-        caller.old.number most caller.old.front caller.new.front jobs.old.items jobs.new.items
-        result }
-    ensures whole { WholeOfProgress connection.now.settings routes.now caller.old.names
-        caller.old.number caller.old.front caller.new.front jobs.old.items jobs.new.items result }
-    ensures unbounded { most ≡ None → IsNotMore result }
+    requires routed { AreRouted tools.now.routes.now jobs.old.items }
+    ensures at_work { IsAtWork tools.now.routes.now caller.old caller.new jobs.old.items
+        jobs.new.items }
+    ensures cause { IsOfJobs tools.now.connection.now.settings tools.now.routes.now
+        caller.old.names caller.old.number tools.now.most caller.old.front caller.new.front
+        jobs.old.items jobs.new.items result }
+    ensures whole { WholeOfProgress tools.now.connection.now.settings tools.now.routes.now
+        caller.old.names caller.old.number caller.old.front caller.new.front jobs.old.items
+        jobs.new.items result }
+    ensures unbounded { tools.now.most ≡ None → IsNotMore result }
 {
     let place = jobs.len() - 1;
     let stream = jobs[place].stream;
-    let going = go_at(
-        rt, alloc, connection, caller, routes, gate, jobs, place, most,
-    );
+    let going = go_at(rt, tools, caller, jobs, place);
     settle(jobs, place, stream, going)
 }
 
 // Takes a job, and goes on with it.
 fn take_job<R: Wait, T: Tape, F: Handler, G: Gate>(
     rt: &R,
-    alloc: Global,
-    connection: &Connection<T>,
+    tools: &Tools<'_, T, F, G>,
     caller: &mut Caller<T>,
-    routes: &Routes<F>,
-    gate: &G,
     jobs: &mut Vec<OpenJob>,
-    most: Option<u64>,
 ) -> Progress
-    requires of { caller.old.of ≡ connection.now }
-    requires routed { AreRouted routes.now jobs.old.items }
-    ensures same { caller.new ≡
-        record caller.old { front = caller.new.front; note = caller.new.note } }
-    ensures works { WorksOn caller.old.names caller.old.number caller.old.front caller.new.front }
-    ensures routed { AreRouted routes.now jobs.new.items }
-    ensures kept { Keeps caller.old.names routes.now caller.old.front caller.new.front
-        jobs.old.items jobs.new.items }
-    ensures cause { CauseOfTaking connection.now.settings routes.now caller.old.names
-        caller.old.number most caller.old.front caller.new.front jobs.old.items jobs.new.items
-        result }
-    ensures whole { WholeOfProgress connection.now.settings routes.now caller.old.names
-        caller.old.number caller.old.front caller.new.front jobs.old.items jobs.new.items result }
+    requires of { caller.old.of ≡ tools.now.connection.now }
+    requires routed { AreRouted tools.now.routes.now jobs.old.items }
+    ensures at_work { IsAtWork tools.now.routes.now caller.old caller.new jobs.old.items
+        jobs.new.items }
+    ensures cause { CauseOfTaking tools.now.connection.now.settings tools.now.routes.now
+        caller.old.names caller.old.number tools.now.most caller.old.front caller.new.front
+        jobs.old.items jobs.new.items result }
+    ensures whole { WholeOfProgress tools.now.connection.now.settings tools.now.routes.now
+        caller.old.names caller.old.number caller.old.front caller.new.front jobs.old.items
+        jobs.new.items result }
     ensures idle { result ≡ progresses.Worked workeds.Idle →
         jobs.new.items ≡ jobs.old.items }
-    ensures unbounded { most ≡ None → IsNotMore result }
+    ensures still { result ≡ progresses.Worked workeds.Idle → (s : ℕ) →
+        course caller.old.names s caller.new.front ≡ course caller.old.names s caller.old.front }
+    ensures unbounded { tools.now.most ≡ None → IsNotMore result }
 {
     if jobs.reserve(1).is_err() {
         return Progress::Worked(Worked::OutOfMemory);
     }
-    match sort_job(ask(rt, connection, caller, &Call::TakeJob)) {
+    match sort_job(ask(rt, tools.connection, caller, &Call::TakeJob)) {
         Found::Asked {
             stream,
             kind,
             message,
         } => {
-            put(alloc, routes, jobs, stream, kind, message);
-            go_first(rt, alloc, connection, caller, routes, gate, jobs, most)
+            put(tools.alloc, tools.routes, jobs, stream, kind, message);
+            go_first(rt, tools, caller, jobs)
         }
         Found::Pushed => Progress::Worked(Worked::Served {
             stream: 0,
@@ -277,39 +241,32 @@ fn take_job<R: Wait, T: Tape, F: Handler, G: Gate>(
 // Goes on with the first job of which a reply is accepted, or takes one.
 fn serve<R: Wait, T: Tape, F: Handler, G: Gate>(
     rt: &R,
-    alloc: Global,
-    connection: &Connection<T>,
+    tools: &Tools<'_, T, F, G>,
     caller: &mut Caller<T>,
-    routes: &Routes<F>,
-    gate: &G,
     jobs: &mut Vec<OpenJob>,
-    most: Option<u64>,
 ) -> Progress
-    requires of { caller.old.of ≡ connection.now }
-    requires routed { AreRouted routes.now jobs.old.items }
-    ensures same { caller.new ≡
-        record caller.old { front = caller.new.front; note = caller.new.note } }
-    ensures works { WorksOn caller.old.names caller.old.number caller.old.front caller.new.front }
-    ensures routed { AreRouted routes.now jobs.new.items }
-    ensures kept { Keeps caller.old.names routes.now caller.old.front caller.new.front
-        jobs.old.items jobs.new.items }
-    ensures cause { CauseOfProgress connection.now.settings routes.now caller.old.names
-        caller.old.number most caller.old.front caller.new.front jobs.old.items jobs.new.items
-        result }
-    ensures whole { WholeOfProgress connection.now.settings routes.now caller.old.names
-        caller.old.number caller.old.front caller.new.front jobs.old.items jobs.new.items result }
-    ensures unbounded { most ≡ None → IsNotMore result }
+    requires of { caller.old.of ≡ tools.now.connection.now }
+    requires routed { AreRouted tools.now.routes.now jobs.old.items }
+    ensures at_work { IsAtWork tools.now.routes.now caller.old caller.new jobs.old.items
+        jobs.new.items }
+    ensures cause { CauseOfProgress tools.now.connection.now.settings tools.now.routes.now
+        caller.old.names caller.old.number tools.now.most caller.old.front caller.new.front
+        jobs.old.items jobs.new.items result }
+    ensures waits { WaitingOfProgress tools.now.connection.now.settings tools.now.routes.now
+        caller.old.names caller.old.number caller.old.front caller.new.front jobs.old.items
+        jobs.new.items result }
+    ensures whole { WholeOfProgress tools.now.connection.now.settings tools.now.routes.now
+        caller.old.names caller.old.number caller.old.front caller.new.front jobs.old.items
+        jobs.new.items result }
+    ensures unbounded { tools.now.most ≡ None → IsNotMore result }
 {
     let count = jobs.len();
     for place in 0..count {
-        let tried = try_job(
-            rt, alloc, connection, caller, routes, gate, jobs, place, most,
-        );
-        if let Some(progress) = tried {
+        if let Some(progress) = try_job(rt, tools, caller, jobs, place) {
             return progress;
         }
     }
-    take_job(rt, alloc, connection, caller, routes, gate, jobs, most)
+    take_job(rt, tools, caller, jobs)
 }
 
 /// Goes on with one job: it tries the next reply of each job in the work, in their order, and goes on
@@ -335,19 +292,20 @@ pub fn serve_job<R: Wait, T: Tape, F: Handler, G: Gate>(
         Serving caller.old.names caller.new.front routes.now work.new }
     ensures cause { CauseOfWorked connection.now.settings routes.now caller.old.names
         caller.old.number caller.old.front caller.new.front work.old work.new result }
+    // Nothing was called on the streams of an idle worker's jobs since they were hindered.
+    ensures waits { WaitingOfWorked connection.now.settings routes.now caller.old.names
+        caller.old.number caller.old.front caller.new.front work.old work.new result }
     ensures whole { WholeOfWorked connection.now.settings routes.now caller.old.names
         caller.old.number caller.old.front caller.new.front work.old work.new result }
 {
-    match serve(
-        rt,
+    let tools = Tools {
         alloc,
         connection,
-        caller,
         routes,
         gate,
-        &mut work.jobs,
-        None,
-    ) {
+        most: None,
+    };
+    match serve(rt, &tools, caller, &mut work.jobs) {
         Progress::Worked(worked) => worked,
         Progress::More(_) => unreachable!(),
     }
@@ -376,17 +334,18 @@ pub fn serve_some<R: Wait, T: Tape, F: Handler, G: Gate>(
         Serving caller.old.names caller.new.front routes.now work.new }
     ensures cause { CauseOfProgress connection.now.settings routes.now caller.old.names
         caller.old.number (Some most) caller.old.front caller.new.front work.old work.new result }
+    // Nothing was called on the streams of an idle worker's jobs since they were hindered.
+    ensures waits { WaitingOfProgress connection.now.settings routes.now caller.old.names
+        caller.old.number caller.old.front caller.new.front work.old work.new result }
     ensures whole { WholeOfProgress connection.now.settings routes.now caller.old.names
         caller.old.number caller.old.front caller.new.front work.old work.new result }
 {
-    serve(
-        rt,
+    let tools = Tools {
         alloc,
         connection,
-        caller,
         routes,
         gate,
-        &mut work.jobs,
-        Some(most),
-    )
+        most: Some(most),
+    };
+    serve(rt, &tools, caller, &mut work.jobs)
 }

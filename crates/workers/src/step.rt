@@ -1,6 +1,6 @@
 //! One step of a job: at most one call.
 
-ghost use Rattle.std.specs.Prelude.{◌≡◌, ◌+◌, ◌≤◌, ℕ, List, true, IsTrue, is_some};
+ghost use Rattle.std.specs.Prelude.{◌≡◌, ◌+◌, ◌≤◌, List, true, is_some};
 ghost use Rattle.rs_wire.specs.Calls.{CanBeAsked};
 ghost use Rattle.rs_wire.specs.declared.words.Kind.TheVariants as kinds;
 ghost use Rattle.handlers.specs.Listed.{Listed};
@@ -18,10 +18,10 @@ use crate::gate::Gate;
 use crate::job::{OpenJob, Stage};
 use crate::outcome::{Outcome, Taken, judge, sort};
 use crate::plan::{Plan, make_plan};
+use crate::tools::Tools;
 use conn::{Caller, Connection};
-use handlers::{Handler, Routes};
+use handlers::Handler;
 use rs_wire::{Call, Kind};
-use std::alloc::Global;
 use std::sync::Wait;
 use tape::{Answer, Tape};
 
@@ -168,30 +168,28 @@ fn say<R: Wait, T: Tape>(
 }
 
 // Makes the next reply, by the handler where there is one.
-fn answer<R: Wait, T: Tape, F: Handler>(
+fn answer<R: Wait, T: Tape, F: Handler, G: Gate>(
     rt: &R,
-    alloc: Global,
-    connection: &Connection<T>,
+    tools: &Tools<'_, T, F, G>,
     caller: &mut Caller<T>,
-    routes: &Routes<F>,
     job: &mut OpenJob,
 ) -> Step
-    requires of { caller.old.of ≡ connection.now }
-    requires routed { IsRouted routes.now job.old }
+    requires of { caller.old.of ≡ tools.now.connection.now }
+    requires routed { IsRouted tools.now.routes.now job.old }
     ensures same { caller.new ≡
         record caller.old { front = caller.new.front; note = caller.new.note } }
     ensures worked { HasWorked caller.old.names caller.old.number caller.old.front
         caller.new.front job.old job.new }
     ensures job { IsSameJob job.old job.new }
-    ensures cause { CauseOfStep connection.now.settings routes.now caller.old.names
-        caller.old.number caller.old.front caller.new.front job.new result }
-    ensures kept { HasGone caller.old.names routes.now caller.old.front caller.new.front job.old
-        (left_by_step result job.new) }
-    ensures whole { WholeOfStep caller.old.names routes.now caller.old.front caller.new.front
-        job.old result }
+    ensures cause { CauseOfStep tools.now.connection.now.settings tools.now.routes.now
+        caller.old.names caller.old.number caller.old.front caller.new.front job.new result }
+    ensures kept { HasGone caller.old.names tools.now.routes.now caller.old.front
+        caller.new.front job.old (left_by_step result job.new) }
+    ensures whole { WholeOfStep caller.old.names tools.now.routes.now caller.old.front
+        caller.new.front job.old result }
 {
-    match make_plan(alloc, routes, job) {
-        Plan::Say { call, last } => say(rt, connection, caller, job, &call, last),
+    match make_plan(tools.alloc, tools.routes, job) {
+        Plan::Say { call, last } => say(rt, tools.connection, caller, job, &call, last),
         Plan::Skip => {
             job.stage = Stage::Answered;
             Step::Went(0)
@@ -204,32 +202,29 @@ fn answer<R: Wait, T: Tape, F: Handler>(
 /// One step of a job: it takes the next content of a channel, or makes the next reply.
 pub fn make_step<R: Wait, T: Tape, F: Handler, G: Gate>(
     rt: &R,
-    alloc: Global,
-    connection: &Connection<T>,
+    tools: &Tools<'_, T, F, G>,
     caller: &mut Caller<T>,
-    routes: &Routes<F>,
-    gate: &G,
     job: &mut OpenJob,
 ) -> Step
-    requires of { caller.old.of ≡ connection.now }
-    requires routed { IsRouted routes.now job.old }
+    requires of { caller.old.of ≡ tools.now.connection.now }
+    requires routed { IsRouted tools.now.routes.now job.old }
     ensures same { caller.new ≡
         record caller.old { front = caller.new.front; note = caller.new.note } }
     ensures worked { HasWorked caller.old.names caller.old.number caller.old.front
         caller.new.front job.old job.new }
     ensures job { IsSameJob job.old job.new }
-    ensures cause { CauseOfStep connection.now.settings routes.now caller.old.names
-        caller.old.number caller.old.front caller.new.front job.new result }
-    ensures kept { HasGone caller.old.names routes.now caller.old.front caller.new.front job.old
-        (left_by_step result job.new) }
-    ensures whole { WholeOfStep caller.old.names routes.now caller.old.front caller.new.front
-        job.old result }
+    ensures cause { CauseOfStep tools.now.connection.now.settings tools.now.routes.now
+        caller.old.names caller.old.number caller.old.front caller.new.front job.new result }
+    ensures kept { HasGone caller.old.names tools.now.routes.now caller.old.front
+        caller.new.front job.old (left_by_step result job.new) }
+    ensures whole { WholeOfStep caller.old.names tools.now.routes.now caller.old.front
+        caller.new.front job.old result }
 {
     if awaits_content(job) {
-        return take_content(rt, connection, caller, job);
+        return take_content(rt, tools.connection, caller, job);
     }
-    gate.before(job.stream);
-    let step = answer(rt, alloc, connection, caller, routes, job);
-    gate.after(job.stream);
+    tools.gate.before(job.stream);
+    let step = answer(rt, tools, caller, job);
+    tools.gate.after(job.stream);
     step
 }

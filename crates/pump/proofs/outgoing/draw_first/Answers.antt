@@ -1,4 +1,4 @@
-use Rattle.std.proofs.Common.{rules, ◌≡◌, arith, take, drop, length, ap, subst}
+use Rattle.std.proofs.Common.{rules, ◌≡◌, take, length, subst}
 use Rattle.std.proofs.lemmas.Slice.{overwrites}
 use Rattle.conn_shared.specs.Calls.{IsDrawCall}
 use Rattle.pump.proofs.outgoing.draw_first.Goals as goal

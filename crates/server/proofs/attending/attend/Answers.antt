@@ -55,8 +55,8 @@ loop-preserved g c =
     let own_mid : MovesAlone now conn → MovesAlone mid conn = λ own. own_before mid now conn c.help.ensures.same (goes_continues P mid now.front helped) own in
     let own_was : MovesAlone mid conn → MovesAlone was conn = λ own. own_before was mid conn c.turn-turned.ensures.same (goes_continues P was mid.front turned) own in
     let on_time : MovesAlone mid conn → IsOnTime st me.names me.front mid s t c.turn-turned.new.self = λ own.
-        on_time_turn st moments me.names me.front was mid s m t c.loop.pump c.turn-turned.new.self c.turn-turned.result named_was c.turn-turned.ensures.same short c.turn-turned.ensures.counted going
-        (subst (MovesAlone mid) (sym i.3) own) turn (c.turn-turned.ensures.read (late_of c.turn-turned.result going)) (i.9 (own_was own)) in
+    on_time_turn st moments me.names me.front was mid s m t c.loop.pump c.turn-turned.new.self c.turn-turned.result named_was c.turn-turned.ensures.same short c.turn-turned.ensures.counted going
+    (subst (MovesAlone mid) (sym i.3) own) turn (c.turn-turned.ensures.read (late_of c.turn-turned.result going)) (i.9 (own_was own)) in
     let spares : GoesOn (Spares c.turn-turned.new.self.conn) mid now.front = goes_as (IsHelped (is_some c.loop.jobs)) (Spares c.turn-turned.new.self.conn) mid now.front (helped_spares (is_some c.loop.jobs) c.turn-turned.new.self.conn) c.help.ensures.goes in
     let quiet : GoesOn IsNoTick mid now.front = goes_as (IsHelped (is_some c.loop.jobs)) IsNoTick mid now.front (helped_quiet (is_some c.loop.jobs)) c.help.ensures.goes in (
       on_both me mid now on_mid c.help.ensures.same,

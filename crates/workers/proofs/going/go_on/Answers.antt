@@ -14,7 +14,7 @@ loop-preserved g c = record {
   same = on_both c.args.caller.now c.loop.caller c.make_step.new.caller c.loop.invariant.same c.make_step.ensures.same;
   job = same_both c.args.job.now c.loop.job c.make_step.new.job c.loop.invariant.job c.make_step.ensures.job;
   worked = worked_after c.args.caller.now c.loop.caller c.make_step.new.caller c.args.job.now c.loop.job c.make_step.new.job c.loop.invariant.same c.loop.invariant.job c.loop.invariant.worked c.make_step.ensures.worked;
-  gone = gone_after c.args.caller.now c.loop.caller c.make_step.new.caller c.args.routes.now c.args.job.now c.loop.job _ c.loop.invariant.same c.loop.invariant.job c.loop.invariant.gone c.in-Went.ensures.kept;
+  gone = gone_after c.args.caller.now c.loop.caller c.make_step.new.caller c.args.tools.now.routes.now c.args.job.now c.loop.job _ c.loop.invariant.same c.loop.invariant.job c.loop.invariant.gone c.in-Went.ensures.kept;
   sent = (let le : c.saturating_add-sent.result ≤ c.loop.sent + c.in-Went.bytes = omega (arith, c.saturating_add-sent.ensures) in
       sent_after c.args.caller.now c.loop.caller c.make_step.new.caller c.loop.sent c.in-Went.bytes c.saturating_add-sent.result c.loop.invariant.same le c.loop.invariant.sent c.in-Went.ensures.cause);
 }
@@ -31,7 +31,7 @@ returns-in-Blocked-clause-worked g c =
 
 pub returns-in-Blocked-clause-cause : goal.returns-in-Blocked-clause-cause
 returns-in-Blocked-clause-cause g c =
-    waiting_after c.args.connection.now.settings c.args.routes.now c.args.caller.now c.loop.caller c.make_step.new.caller c.args.job.now c.loop.job c.make_step.new.job
+    waiting_after c.args.tools.now.connection.now.settings c.args.tools.now.routes.now c.args.caller.now c.loop.caller c.make_step.new.caller c.args.job.now c.loop.job c.make_step.new.job
     c.loop.invariant.same c.loop.invariant.worked c.in-Blocked.ensures.cause
 
 pub returns-in-Stopped-clause-worked : goal.returns-in-Stopped-clause-worked
@@ -41,7 +41,7 @@ returns-in-Stopped-clause-worked g c =
 
 pub returns-in-Stopped-clause-cause : goal.returns-in-Stopped-clause-cause
 returns-in-Stopped-clause-cause g c =
-    stopped_after c.args.connection.now.settings c.args.routes.now c.args.caller.now c.loop.caller c.make_step.new.caller c.args.job.now c.loop.job c.make_step.new.job c.in-Stopped.answer
+    stopped_after c.args.tools.now.connection.now.settings c.args.tools.now.routes.now c.args.caller.now c.loop.caller c.make_step.new.caller c.args.job.now c.loop.job c.make_step.new.job c.in-Stopped.answer
     c.loop.invariant.same c.loop.invariant.worked c.in-Stopped.ensures.cause
 
 pub returns-in-OutOfMemory-clause-worked : goal.returns-in-OutOfMemory-clause-worked
@@ -51,12 +51,12 @@ returns-in-OutOfMemory-clause-worked g c =
 
 pub returns-in-Served-clause-whole : goal.returns-in-Served-clause-whole
 returns-in-Served-clause-whole g c =
-    whole_after c.args.caller.now c.loop.caller c.make_step.new.caller c.args.routes.now c.args.job.now c.loop.job c.in-Served.items
+    whole_after c.args.caller.now c.loop.caller c.make_step.new.caller c.args.tools.now.routes.now c.args.job.now c.loop.job c.in-Served.items
     c.loop.invariant.same c.loop.invariant.job c.loop.invariant.gone c.in-Served.ensures.whole
 
 pub returns-then-is_enough-clause-cause : goal.returns-then-is_enough-clause-cause
 returns-then-is_enough-clause-cause g c =
     let le : c.saturating_add-sent.result ≤ c.loop.sent + c.in-Went.bytes = omega (arith, c.saturating_add-sent.ensures) in
-    enough_sent c.args.caller.now.names c.args.most c.args.caller.now.front c.make_step.new.caller.front c.saturating_add-sent.result
+    enough_sent c.args.caller.now.names c.args.tools.now.most c.args.caller.now.front c.make_step.new.caller.front c.saturating_add-sent.result
     (λ none. true≢false (sym c.if-is_enough.true ∙ c.is_enough.ensures.none none)) (c.is_enough.ensures.enough c.if-is_enough.true)
     (sent_after c.args.caller.now c.loop.caller c.make_step.new.caller c.loop.sent c.in-Went.bytes c.saturating_add-sent.result c.loop.invariant.same le c.loop.invariant.sent c.in-Went.ensures.cause)

@@ -9,5 +9,5 @@ invariant-loop g l = record {
   job : IsSameJob l.fn.job l.job;
   worked : HasWorked l.fn.caller.names l.fn.caller.number l.fn.caller.front l.caller.front l.fn.job l.job;
   sent : HasSent l.fn.caller.names l.fn.caller.front l.caller.front l.sent;
-  gone : HasGone l.fn.caller.names l.routes l.fn.caller.front l.caller.front l.fn.job (l.job ∷ []);
+  gone : HasGone l.fn.caller.names l.tools.routes.now l.fn.caller.front l.caller.front l.fn.job (l.job ∷ []);
 }

@@ -6,8 +6,8 @@ use Rattle.workers.proofs.serve.go_at.Goals as goal
 
 pub go_on-requires-clause-routed : goal.go_on-requires-clause-routed
 go_on-requires-clause-routed g c =
-    subst (IsRouted c.args.routes.now) (sym c.index_mut.ensures.value)
-    (routed_at c.args.routes.now c.args.jobs.now.items c.args.place c.index_mut.result.now c.requires.place c.requires.routed)
+    subst (IsRouted c.args.tools.now.routes.now) (sym c.index_mut.ensures.value)
+    (routed_at c.args.tools.now.routes.now c.args.jobs.now.items c.args.place c.index_mut.result.now c.requires.place c.requires.routed)
 
 pub returns-clause-went : goal.returns-clause-went
 returns-clause-went g c =

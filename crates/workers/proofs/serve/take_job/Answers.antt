@@ -1,59 +1,69 @@
 use Rattle.std.proofs.Common.{◌∙◌, inr, refl, subst, sym}
 use Rattle.rs_wire.specs.declared.call.Call.TheVariants as call
-use Rattle.workers.specs.Courses.{IsWorkersCall}
+use Rattle.workers.specs.declared.outcome.Found.TheVariants as found
 use Rattle.workers.specs.Serving.{AreRouted}
 use Rattle.workers.specs.Causes.{IsRefusedOrFull, WasAnswered}
 use Rattle.workers.specs.Going.{IsPut, Keeps}
+use Rattle.workers.proofs.AtWork.{at_work_after, none_at_work, quiet_at_work}
 use Rattle.workers.proofs.Ended.{was_pushed, whole_since}
-use Rattle.workers.proofs.Fronts.{goes_later, goes_longer, goes_none, job_taken_quietly, works_quietly}
-use Rattle.workers.proofs.Putting.{had_put, keeps_put, no_more_found, not_yet_found, put_routed}
-use Rattle.workers.proofs.Served.{jobs_after, keeps_after, taking_of_jobs, works_since}
+use Rattle.workers.proofs.Fronts.{goes_later, goes_longer, job_taken_quietly}
+use Rattle.workers.proofs.Putting.{had_put, keeps_put, no_job, no_more_found, not_yet_found, put_routed, told_no_job}
+use Rattle.workers.proofs.Served.{jobs_after, taking_of_jobs}
 use Rattle.workers.proofs.serve.take_job.Goals as goal
 
-pub returns-then-is_err-clause-works : goal.returns-then-is_err-clause-works
-returns-then-is_err-clause-works g c = works_quietly _ _ _ _ (goes_none IsWorkersCall _ _ _)
+pub returns-then-is_err-clause-at_work : goal.returns-then-is_err-clause-at_work
+returns-then-is_err-clause-at_work g c = none_at_work c.args.tools.now.routes.now c.args.caller.now c.args.jobs.now.items c.reserve.new.self.items c.reserve.ensures.items c.requires.routed
 
 pub go_first-requires-clause-routed : goal.go_first-requires-clause-routed
 go_first-requires-clause-routed g c =
-    put_routed c.args.routes.now _ _ _ c.reserve.new.self.items c.put.new.jobs.items c.put.ensures
-    (subst (AreRouted c.args.routes.now) (sym c.reserve.ensures.items) c.requires.routed)
+    put_routed c.args.tools.now.routes.now _ _ _ c.reserve.new.self.items c.put.new.jobs.items c.put.ensures
+    (subst (AreRouted c.args.tools.now.routes.now) (sym c.reserve.ensures.items) c.requires.routed)
 
-pub returns-in-Asked-clause-works : goal.returns-in-Asked-clause-works
-returns-in-Asked-clause-works g c =
-    works_since c.args.caller.now c.ask.new.caller c.go_first.new.caller c.ask.ensures.same (job_taken_quietly _ _ _ _ c.ask.result c.ask.ensures.goes) c.go_first.ensures.works
-
-pub returns-in-Asked-clause-kept : goal.returns-in-Asked-clause-kept
-returns-in-Asked-clause-kept g c =
-    keeps_after c.args.caller.now c.ask.new.caller c.go_first.new.caller c.args.routes.now c.args.jobs.now.items c.put.new.jobs.items c.go_first.new.jobs.items c.ask.ensures.same
-    (subst (λ jobs. Keeps c.args.caller.now.names c.args.routes.now c.args.caller.now.front c.ask.new.caller.front jobs c.put.new.jobs.items) c.reserve.ensures.items
-    (keeps_put _ c.args.routes.now _ _ _ _ _ c.ask.result c.reserve.new.self.items c.put.new.jobs.items (sym c.sort_job.ensures ∙ c.in-Asked.is) c.ask.ensures.told
+pub returns-in-Asked-clause-at_work : goal.returns-in-Asked-clause-at_work
+returns-in-Asked-clause-at_work g c =
+    at_work_after c.args.tools.now.routes.now c.args.caller.now c.ask.new.caller c.go_first.new.caller c.args.jobs.now.items c.put.new.jobs.items c.go_first.new.jobs.items c.ask.ensures.same
+    (job_taken_quietly _ _ _ _ c.ask.result c.ask.ensures.goes)
+    (subst (λ jobs. Keeps c.args.caller.now.names c.args.tools.now.routes.now c.args.caller.now.front c.ask.new.caller.front jobs c.put.new.jobs.items) c.reserve.ensures.items
+    (keeps_put _ c.args.tools.now.routes.now _ _ _ _ _ c.ask.result c.reserve.new.self.items c.put.new.jobs.items (sym c.sort_job.ensures ∙ c.in-Asked.is) c.ask.ensures.told
     (goes_longer _ _ _ _ _ _ c.ask.ensures.goes) c.put.ensures))
-    c.go_first.ensures.kept
+    c.go_first.ensures.at_work
 
 pub returns-in-Asked-clause-cause : goal.returns-in-Asked-clause-cause
 returns-in-Asked-clause-cause g c =
-    taking_of_jobs _ c.args.routes.now _ _ c.args.most _ _ c.args.jobs.now.items c.go_first.new.jobs.items c.go_first.result
-    (jobs_after c.args.connection.now.settings c.args.routes.now c.args.most c.args.caller.now c.ask.new.caller c.go_first.new.caller c.args.jobs.now.items c.put.new.jobs.items c.go_first.new.jobs.items c.go_first.result
+    taking_of_jobs _ c.args.tools.now.routes.now _ _ c.args.tools.now.most _ _ c.args.jobs.now.items c.go_first.new.jobs.items c.go_first.result
+    (jobs_after c.args.tools.now.connection.now.settings c.args.tools.now.routes.now c.args.tools.now.most c.args.caller.now c.ask.new.caller c.go_first.new.caller c.args.jobs.now.items c.put.new.jobs.items c.go_first.new.jobs.items c.go_first.result
     c.ask.ensures.same (goes_later _ _ _ _ _ _ c.ask.ensures.goes)
-    (subst (λ jobs. Keeps c.args.caller.now.names c.args.routes.now c.args.caller.now.front c.ask.new.caller.front jobs c.put.new.jobs.items) c.reserve.ensures.items
-    (keeps_put _ c.args.routes.now _ _ _ _ _ c.ask.result c.reserve.new.self.items c.put.new.jobs.items (sym c.sort_job.ensures ∙ c.in-Asked.is) c.ask.ensures.told
+    (subst (λ jobs. Keeps c.args.caller.now.names c.args.tools.now.routes.now c.args.caller.now.front c.ask.new.caller.front jobs c.put.new.jobs.items) c.reserve.ensures.items
+    (keeps_put _ c.args.tools.now.routes.now _ _ _ _ _ c.ask.result c.reserve.new.self.items c.put.new.jobs.items (sym c.sort_job.ensures ∙ c.in-Asked.is) c.ask.ensures.told
     (goes_longer _ _ _ _ _ _ c.ask.ensures.goes) c.put.ensures))
-    (had_put c.args.connection.now.settings c.args.caller.now.number c.args.caller.now.front c.ask.new.caller.front c.go_first.new.caller.front c.args.routes.now c.in-Asked.stream c.in-Asked.kind c.in-Asked.message c.ask.result c.args.jobs.now.items c.put.new.jobs.items
-    (sym c.sort_job.ensures ∙ c.in-Asked.is) c.ask.ensures.was (goes_later _ _ _ _ _ _ c.ask.ensures.goes) (c.go_first.ensures.works.more, c.go_first.ensures.works.on)
-    (subst (λ jobs. IsPut c.args.routes.now c.in-Asked.stream c.in-Asked.kind c.in-Asked.message jobs c.put.new.jobs.items) c.reserve.ensures.items c.put.ensures))
+    (had_put c.args.tools.now.connection.now.settings c.args.caller.now.number c.args.caller.now.front c.ask.new.caller.front c.go_first.new.caller.front c.args.tools.now.routes.now c.in-Asked.stream c.in-Asked.kind c.in-Asked.message c.ask.result c.args.jobs.now.items c.put.new.jobs.items
+    (sym c.sort_job.ensures ∙ c.in-Asked.is) c.ask.ensures.was (goes_later _ _ _ _ _ _ c.ask.ensures.goes) (c.go_first.ensures.at_work.works.more, c.go_first.ensures.at_work.works.on)
+    (subst (λ jobs. IsPut c.args.tools.now.routes.now c.in-Asked.stream c.in-Asked.kind c.in-Asked.message jobs c.put.new.jobs.items) c.reserve.ensures.items c.put.ensures))
     c.go_first.ensures.cause)
 
-pub returns-in-Pushed-clause-works : goal.returns-in-Pushed-clause-works
-returns-in-Pushed-clause-works g c = works_quietly _ _ _ _ (job_taken_quietly _ _ _ _ c.ask.result c.ask.ensures.goes)
+pub returns-in-Pushed-clause-at_work : goal.returns-in-Pushed-clause-at_work
+returns-in-Pushed-clause-at_work g c =
+    quiet_at_work c.args.tools.now.routes.now c.args.caller.now c.ask.new.caller c.ask.result found.Pushed c.args.jobs.now.items c.reserve.new.self.items c.ask.ensures.same (sym c.sort_job.ensures ∙ c.in-Pushed.is) tt
+    c.ask.ensures.told c.ask.ensures.goes c.reserve.ensures.items c.requires.routed
 
-pub returns-in-NotYet-clause-works : goal.returns-in-NotYet-clause-works
-returns-in-NotYet-clause-works g c = works_quietly _ _ _ _ (job_taken_quietly _ _ _ _ c.ask.result c.ask.ensures.goes)
+pub returns-in-NotYet-clause-at_work : goal.returns-in-NotYet-clause-at_work
+returns-in-NotYet-clause-at_work g c =
+    quiet_at_work c.args.tools.now.routes.now c.args.caller.now c.ask.new.caller c.ask.result found.NotYet c.args.jobs.now.items c.reserve.new.self.items c.ask.ensures.same (sym c.sort_job.ensures ∙ c.in-NotYet.is) tt
+    c.ask.ensures.told c.ask.ensures.goes c.reserve.ensures.items c.requires.routed
 
-pub returns-in-OutOfMemory-clause-works : goal.returns-in-OutOfMemory-clause-works
-returns-in-OutOfMemory-clause-works g c = works_quietly _ _ _ _ (job_taken_quietly _ _ _ _ c.ask.result c.ask.ensures.goes)
+pub returns-in-OutOfMemory-clause-at_work : goal.returns-in-OutOfMemory-clause-at_work
+returns-in-OutOfMemory-clause-at_work g c =
+    quiet_at_work c.args.tools.now.routes.now c.args.caller.now c.ask.new.caller c.ask.result found.OutOfMemory c.args.jobs.now.items c.reserve.new.self.items c.ask.ensures.same (sym c.sort_job.ensures ∙ c.in-OutOfMemory.is) tt
+    c.ask.ensures.told c.ask.ensures.goes c.reserve.ensures.items c.requires.routed
 
-pub returns-in-NoMore-clause-works : goal.returns-in-NoMore-clause-works
-returns-in-NoMore-clause-works g c = works_quietly _ _ _ _ (job_taken_quietly _ _ _ _ c.ask.result c.ask.ensures.goes)
+pub returns-in-NoMore-clause-at_work : goal.returns-in-NoMore-clause-at_work
+returns-in-NoMore-clause-at_work g c =
+    quiet_at_work c.args.tools.now.routes.now c.args.caller.now c.ask.new.caller c.ask.result (found.NoMore c.in-NoMore.answer) c.args.jobs.now.items c.reserve.new.self.items c.ask.ensures.same (sym c.sort_job.ensures ∙ c.in-NoMore.is) tt
+    c.ask.ensures.told c.ask.ensures.goes c.reserve.ensures.items c.requires.routed
+
+pub returns-in-NotYet-clause-still : goal.returns-in-NotYet-clause-still
+returns-in-NotYet-clause-still g c = λ idle s.
+    c.ask.ensures.told s ∙ told_no_job s c.ask.result _ (subst no_job (sym (not_yet_found c.ask.result (sym c.sort_job.ensures ∙ c.in-NotYet.is))) tt)
 
 pub returns-in-NotYet-clause-cause : goal.returns-in-NotYet-clause-cause
 returns-in-NotYet-clause-cause g c =
@@ -67,14 +77,14 @@ returns-in-NoMore-clause-cause g c =
 
 pub returns-in-Asked-clause-whole : goal.returns-in-Asked-clause-whole
 returns-in-Asked-clause-whole g c =
-    whole_since c.args.connection.now.settings c.args.caller.now c.ask.new.caller c.go_first.new.caller c.args.routes.now c.args.jobs.now.items c.put.new.jobs.items c.go_first.new.jobs.items c.go_first.result
+    whole_since c.args.tools.now.connection.now.settings c.args.caller.now c.ask.new.caller c.go_first.new.caller c.args.tools.now.routes.now c.args.jobs.now.items c.put.new.jobs.items c.go_first.new.jobs.items c.go_first.result
     c.ask.ensures.same (goes_later _ _ _ _ _ _ c.ask.ensures.goes)
-    (subst (λ jobs. Keeps c.args.caller.now.names c.args.routes.now c.args.caller.now.front c.ask.new.caller.front jobs c.put.new.jobs.items) c.reserve.ensures.items
-    (keeps_put _ c.args.routes.now _ _ _ _ _ c.ask.result c.reserve.new.self.items c.put.new.jobs.items (sym c.sort_job.ensures ∙ c.in-Asked.is) c.ask.ensures.told
+    (subst (λ jobs. Keeps c.args.caller.now.names c.args.tools.now.routes.now c.args.caller.now.front c.ask.new.caller.front jobs c.put.new.jobs.items) c.reserve.ensures.items
+    (keeps_put _ c.args.tools.now.routes.now _ _ _ _ _ c.ask.result c.reserve.new.self.items c.put.new.jobs.items (sym c.sort_job.ensures ∙ c.in-Asked.is) c.ask.ensures.told
     (goes_longer _ _ _ _ _ _ c.ask.ensures.goes) c.put.ensures))
-    (had_put c.args.connection.now.settings c.args.caller.now.number c.args.caller.now.front c.ask.new.caller.front c.go_first.new.caller.front c.args.routes.now c.in-Asked.stream c.in-Asked.kind c.in-Asked.message c.ask.result c.args.jobs.now.items c.put.new.jobs.items
-    (sym c.sort_job.ensures ∙ c.in-Asked.is) c.ask.ensures.was (goes_later _ _ _ _ _ _ c.ask.ensures.goes) (c.go_first.ensures.works.more, c.go_first.ensures.works.on)
-    (subst (λ jobs. IsPut c.args.routes.now c.in-Asked.stream c.in-Asked.kind c.in-Asked.message jobs c.put.new.jobs.items) c.reserve.ensures.items c.put.ensures))
+    (had_put c.args.tools.now.connection.now.settings c.args.caller.now.number c.args.caller.now.front c.ask.new.caller.front c.go_first.new.caller.front c.args.tools.now.routes.now c.in-Asked.stream c.in-Asked.kind c.in-Asked.message c.ask.result c.args.jobs.now.items c.put.new.jobs.items
+    (sym c.sort_job.ensures ∙ c.in-Asked.is) c.ask.ensures.was (goes_later _ _ _ _ _ _ c.ask.ensures.goes) (c.go_first.ensures.at_work.works.more, c.go_first.ensures.at_work.works.on)
+    (subst (λ jobs. IsPut c.args.tools.now.routes.now c.in-Asked.stream c.in-Asked.kind c.in-Asked.message jobs c.put.new.jobs.items) c.reserve.ensures.items c.put.ensures))
     c.go_first.ensures.whole
 
 pub returns-in-Pushed-clause-whole : goal.returns-in-Pushed-clause-whole

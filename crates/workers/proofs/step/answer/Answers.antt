@@ -11,15 +11,15 @@ returns-in-Skip-clause-cause g c = sent_none _ _
 
 pub returns-in-Skip-clause-kept : goal.returns-in-Skip-clause-kept
 returns-in-Skip-clause-kept g c =
-    gone_skipped _ c.args.routes.now _ c.args.job.now
-    (sym (subst (IsPlan (plan_of (law_of c.args.routes.now c.args.job.now.kind c.args.job.now.message) c.args.job.now)) c.in-Skip.is c.make_plan.ensures))
+    gone_skipped _ c.args.tools.now.routes.now _ c.args.job.now
+    (sym (subst (IsPlan (plan_of (law_of c.args.tools.now.routes.now c.args.job.now.kind c.args.job.now.message) c.args.job.now)) c.in-Skip.is c.make_plan.ensures))
 
 pub returns-in-Nothing-clause-kept : goal.returns-in-Nothing-clause-kept
 returns-in-Nothing-clause-kept g c =
-    gone_unsaid _ c.args.routes.now _ c.args.job.now
-    (sym (subst (IsPlan (plan_of (law_of c.args.routes.now c.args.job.now.kind c.args.job.now.message) c.args.job.now)) c.in-Nothing.is c.make_plan.ensures))
+    gone_unsaid _ c.args.tools.now.routes.now _ c.args.job.now
+    (sym (subst (IsPlan (plan_of (law_of c.args.tools.now.routes.now c.args.job.now.kind c.args.job.now.message) c.args.job.now)) c.in-Nothing.is c.make_plan.ensures))
 
 pub returns-in-Nothing-clause-whole : goal.returns-in-Nothing-clause-whole
 returns-in-Nothing-clause-whole g c =
-    whole_quietly _ c.args.routes.now _ c.args.job.now
-    (sym (subst (IsPlan (plan_of (law_of c.args.routes.now c.args.job.now.kind c.args.job.now.message) c.args.job.now)) c.in-Nothing.is c.make_plan.ensures))
+    whole_quietly _ c.args.tools.now.routes.now _ c.args.job.now
+    (sym (subst (IsPlan (plan_of (law_of c.args.tools.now.routes.now c.args.job.now.kind c.args.job.now.message) c.args.job.now)) c.in-Nothing.is c.make_plan.ensures))

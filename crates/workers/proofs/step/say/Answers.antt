@@ -4,7 +4,8 @@ use Rattle.workers.specs.declared.outcome.Outcome.{Outcome}
 use Rattle.workers.specs.declared.outcome.Outcome.TheVariants as outcome
 use Rattle.workers.specs.Going.{HasGone}
 use Rattle.workers.proofs.Ended.{whole_said}
-use Rattle.workers.proofs.Gone.{made_after, said_by, stopped_reply, waiting_reply, went_reply, worked_said}
+use Rattle.workers.proofs.Gone.{made_after, said_by, worked_said}
+use Rattle.workers.proofs.Reasons.{stopped_reply, waiting_reply, went_reply}
 use Rattle.workers.proofs.step.say.Goals as goal
 
 pub returns-in-Accepted-clause-worked : goal.returns-in-Accepted-clause-worked

@@ -1,6 +1,8 @@
 use Rattle.std.proofs.Common.{refl, sym, ◌∙◌}
 use Rattle.workers.specs.declared.outcome.Taken.TheVariants as taken
-use Rattle.workers.proofs.Gone.{stopped_take, took_by, waiting_take, worked_took}
+use Rattle.workers.proofs.AtEnd.{take_ends}
+use Rattle.workers.proofs.Gone.{took_by, worked_took}
+use Rattle.workers.proofs.Reasons.{stopped_take, waiting_take}
 use Rattle.workers.proofs.step.take_content.Goals as goal
 
 pub returns-in-Item-clause-worked : goal.returns-in-Item-clause-worked
@@ -22,14 +24,16 @@ returns-clause-cause g c = λ routes w.
 
 pub returns-in-Item-clause-kept : goal.returns-in-Item-clause-kept
 returns-in-Item-clause-kept g c = λ routes w.
-    took_by _ routes _ _ _ c.args.job.now c.ask.result (taken.Item c.in-Item.content) (sym c.sort.ensures ∙ c.in-Item.is) w c.ask.ensures.may c.ask.ensures.told c.ask.ensures.goes c.ask.ensures.full
+    took_by _ routes _ _ _ c.args.job.now c.ask.result (taken.Item c.in-Item.content) (sym c.sort.ensures ∙ c.in-Item.is) w
+    (take_ends c.args.connection.now.settings routes _ _ _ _ c.args.job.now c.ask.result c.ask.ensures.lawful c.ask.ensures.was w) c.ask.ensures.may c.ask.ensures.told c.ask.ensures.goes c.ask.ensures.full
 
 pub returns-in-End-clause-worked : goal.returns-in-End-clause-worked
 returns-in-End-clause-worked g c = worked_took _ _ _ _ c.args.job.now _ c.ask.result refl c.ask.ensures.goes
 
 pub returns-in-End-clause-kept : goal.returns-in-End-clause-kept
 returns-in-End-clause-kept g c = λ routes w.
-    took_by _ routes _ _ _ c.args.job.now c.ask.result taken.End (sym c.sort.ensures ∙ c.in-End.is) w c.ask.ensures.may c.ask.ensures.told c.ask.ensures.goes c.ask.ensures.full
+    took_by _ routes _ _ _ c.args.job.now c.ask.result taken.End (sym c.sort.ensures ∙ c.in-End.is) w
+    (take_ends c.args.connection.now.settings routes _ _ _ _ c.args.job.now c.ask.result c.ask.ensures.lawful c.ask.ensures.was w) c.ask.ensures.may c.ask.ensures.told c.ask.ensures.goes c.ask.ensures.full
 
 pub returns-in-Blocked-clause-worked : goal.returns-in-Blocked-clause-worked
 returns-in-Blocked-clause-worked g c = worked_took _ _ _ _ c.args.job.now _ c.ask.result refl c.ask.ensures.goes
@@ -42,4 +46,5 @@ returns-clause-worked g c = worked_took _ _ _ _ c.args.job.now _ c.ask.result re
 
 pub returns-clause-kept : goal.returns-clause-kept
 returns-clause-kept g c = λ routes w.
-    took_by _ routes _ _ _ c.args.job.now c.ask.result (taken.Final c.in-Final.answer) (sym c.sort.ensures ∙ c.in-Final.is) w c.ask.ensures.may c.ask.ensures.told c.ask.ensures.goes c.ask.ensures.full
+    took_by _ routes _ _ _ c.args.job.now c.ask.result (taken.Final c.in-Final.answer) (sym c.sort.ensures ∙ c.in-Final.is) w
+    (take_ends c.args.connection.now.settings routes _ _ _ _ c.args.job.now c.ask.result c.ask.ensures.lawful c.ask.ensures.was w) c.ask.ensures.may c.ask.ensures.told c.ask.ensures.goes c.ask.ensures.full

@@ -2,7 +2,7 @@ use Rattle.std.proofs.Common.{rules, ◌≡◌, ◌∙◌, ◌&&◌, inl, inr, t
 use Rattle.tape.specs.declared.event.Event.TheVariants as event
 use Rattle.conn_shared.specs.Members.{Knowledge}
 use Rattle.pump.specs.declared.numbers.TheConstants.{PIECE}
-use Rattle.pump.specs.Turns.{BeginsSo, DrawsWhere, IsPumped, Names, goes_on_after, goes_on_from, has, is_empty, is_ended}
+use Rattle.pump.specs.Turns.{DrawsWhere, IsPumped, Names, goes_on_after, has, is_empty, is_ended}
 use Rattle.pump.proofs.Adding.{continues_same, goes_called, goes_continues}
 use Rattle.pump.proofs.Drawing.{from_draw}
 use Rattle.pump.proofs.Events.{brought_for, brought_wider}

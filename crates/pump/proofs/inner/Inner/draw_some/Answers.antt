@@ -1,5 +1,5 @@
 use Rattle.std.proofs.lemmas.Bool.Decides.{nat_tests}
-use Rattle.std.proofs.Common.{rules, ◌≡◌, ◌∙◌, arith, length, false, Option, Some, None, refl, ap, sym, subst}
+use Rattle.std.proofs.Common.{rules, ◌≡◌, ◌∙◌, arith, length, false, Some, None, refl, ap, sym, subst}
 use Rattle.tape.specs.declared.event.Event.TheVariants as event
 use Rattle.conn_shared.specs.Members.{SharedId}
 use Rattle.pump.specs.Turns.{DrawsWhere, Names, has, is_empty}

@@ -1,12 +1,7 @@
-use Rattle.std.proofs.Common.{rules, ◌≡◌, ◌∙◌, ◌-◌, ◌≤◌, ◌++◌, arith, ap, List, ℕ, length, take, drop, refl, sym, subst}
+use Rattle.std.proofs.Common.{rules, ◌≡◌, ◌∙◌, ◌-◌, arith, ap, take}
 use Rattle.std.specs.Vec.{with_items}
-use Rattle.std.proofs.lemmas.List.{length-append, length-take-le, take-append-le, with_items_is}
-use Rattle.rs_wire.specs.declared.settings.Settings.{Settings}
-use Rattle.tape.specs.declared.entry.Entry.{Entry}
-use Rattle.tape.specs.declared.answer.Answer.{Answer}
-use Rattle.conn_shared.specs.Members.{Knowledge}
+use Rattle.std.proofs.lemmas.List.{with_items_is}
 use Rattle.link_model.specs.Giving.{count_drawn}
-use Rattle.pump.specs.Turns.{HasDrawn, HasDrawnInto}
 use Rattle.pump.proofs.Drawing.{drawn_into}
 use Rattle.pump.proofs.outgoing.Outgoing.draw.Goals as goal
 

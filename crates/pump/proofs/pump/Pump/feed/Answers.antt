@@ -1,4 +1,4 @@
-use Rattle.std.proofs.Common.{◌≡◌, ◌∙◌, refl, subst, sym, true≢false}
+use Rattle.std.proofs.Common.{◌∙◌, refl, subst, sym, true≢false}
 use Rattle.link_model.specs.Carrying.{Between}
 use Rattle.link_model.proofs.Kept.{keeps_take}
 use Rattle.pump.specs.Halves.{and_taken}

@@ -1,4 +1,4 @@
-use Rattle.std.proofs.Common.{◌≡◌, ◌∙◌, ◌++◌, [], ap, refl, subst, sym, append-nil}
+use Rattle.std.proofs.Common.{◌≡◌, ◌∙◌, ◌++◌, ap, refl, subst, sym, append-nil}
 use Rattle.link_model.specs.Carrying.{Between}
 use Rattle.link_model.proofs.Kept.{keeps_give}
 use Rattle.pump.specs.Halves.{and_given}

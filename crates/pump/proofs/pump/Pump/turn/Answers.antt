@@ -7,6 +7,7 @@ use Rattle.tape.specs.declared.entry.Entry.{Entry}
 use Rattle.tape.specs.declared.event.Event.TheVariants as event
 use Rattle.conn_shared.specs.Calls.{IsCalled}
 use Rattle.conn_shared.specs.Members.{Continues, Follows, Knowledge}
+use Rattle.link_model.specs.Carrying.{Between}
 use Rattle.link_model.specs.Reading.{IsWaiting}
 use Rattle.pump.specs.declared.inner.Inner.{Inner}
 use Rattle.pump.specs.declared.bringing.Brought.{Brought}
@@ -14,7 +15,8 @@ use Rattle.pump.specs.declared.bringing.Brought.TheVariants as brings
 use Rattle.pump.specs.declared.outgoing.Gave.{Gave}
 use Rattle.pump.specs.Moves.{Comes, HasGrown, all_of}
 use Rattle.pump.specs.declared.numbers.TheConstants.{PIECE}
-use Rattle.pump.specs.Turns.{Arrives, BroughtFor, GoesOn, HadOnlyFrames, HasArrived, HasMoved, HasWaiting, IsPumped, Names, SumsUp, goes_on_after, goes_on_from, has, is_last}
+use Rattle.pump.specs.Parts.{SumsUp}
+use Rattle.pump.specs.Turns.{Arrives, BroughtFor, GoesOn, HadOnlyFrames, HasArrived, HasMoved, HasWaiting, IsKept, IsPumped, IsTurned, Names, goes_on_after, goes_on_from, has, is_last}
 use Rattle.pump.specs.declared.outgoing.Gave.TheVariants as gaves
 use Rattle.pump.proofs.Adding.{IsOn, continues_both, goes_both, goes_continues, goes_follows, goes_none, on_both}
 use Rattle.pump.proofs.Keeping.{kept_follows, kept_moved}
@@ -22,12 +24,13 @@ use Rattle.pump.proofs.Drawing.{found_none, idle_by, was_empty, went_ticked}
 use Rattle.pump.proofs.Going.{begun_on}
 use Rattle.pump.proofs.Outcomes.{began_for, ended_early, ended_last, gave_more, no_more, none_ended, none_fell, none_fell_both, read_out, ruled_out, rules_out, stall_of, took_more, turned_for}
 use Rattle.pump.proofs.Progress.{progress}
-use Rattle.pump.proofs.inner.Inner.turn.Goals as goal
+use Rattle.pump.proofs.pump.Pump.turn.Goals as goal
 
 -- ---- where it ends after the draw
 
 pub returns-in-Some-clause-kept : goal.returns-in-Some-clause-kept
-returns-in-Some-clause-kept g c k = c.begin-begun.ensures.kept (g.L.Link.shown c.args.link.now) k
+returns-in-Some-clause-kept g c k =
+    c.begin-begun.ensures.kept (g.L.Link.shown c.args.link.now) (subst (IsKept c.args.caller.now (g.L.Link.shown c.args.link.now)) (sym c.self.view_is) k)
 
 pub returns-in-Some-clause-turned : goal.returns-in-Some-clause-turned
 returns-in-Some-clause-turned g c =
@@ -35,9 +38,10 @@ returns-in-Some-clause-turned g c =
     let d = c.begin-begun.new.caller in
     let last = ended_last c.begin-begun.result _ (search rules) in
     let early = ended_early c.begin-begun.result _ (search rules) in
-    record {
+    let s = g.L.Link.shown c.args.link.now in
+    subst (λ (b : Between). IsTurned c.args.connection.now.settings (g.K.Clock.moments c.args.clock.now) me d.front s s b c.in-Some.turned) c.self.view_is (record {
       left = c.begin-begun.new.self.outgoing;
-      turn = record { begun = d.front; begins = c.begin-begun.ensures.begins.begins; arrivals = goes_none (Arrives c.args.self.now.conn) (record me { front = d.front; note = None }); ended = λ none. refl };
+      turn = record { begun = d.front; begins = c.begin-begun.ensures.begins.begins; arrivals = goes_none (Arrives c.self.inside.inner.conn) (record me { front = d.front; note = None }); ended = λ none. refl };
       grown = (no_more (g.L.Link.shown c.args.link.now).given, no_more (g.L.Link.shown c.args.link.now).taken);
       progress = λ goes_on. absurd (true≢false (sym last ∙ goes_on));
       waited = λ waits. refl;
@@ -45,7 +49,7 @@ returns-in-Some-clause-turned g c =
       drawn = λ late. absurd (true≢false (sym early ∙ late));
       dry = λ late none. absurd (true≢false (sym early ∙ late));
       still = λ lull. absurd (true≢false (sym last ∙ ap is_last lull));
-    }
+    })
 
 pub returns-in-Some-clause-cause : goal.returns-in-Some-clause-cause
 returns-in-Some-clause-cause g c =
@@ -72,7 +76,7 @@ returns-clause-kept g c k =
     let s = g.L.Link.shown c.args.link.now in
     let m = g.L.Link.shown c.give_some-gave.new.link in
     let t = g.L.Link.shown c.take_some-took.new.link in
-    let begun = c.begin-begun.ensures.kept s k in
+    let begun = c.begin-begun.ensures.kept s (subst (IsKept c.args.caller.now s) (sym c.self.view_is) k) in
     let gave = kept_moved d s m (has c.begin-begun.new.self) (has c.give_some-gave.new.self) (search rules) c.give_some-gave.ensures.kept begun in
     let took = kept_moved d m t (has c.give_some-gave.new.self) (has c.take_some-took.new.self) (search rules) c.take_some-took.ensures.kept gave in
     kept_follows h c.look-looked.new.caller t (has c.hear_all-heard.new.self) (search rules) c.look-looked.ensures.follows (c.hear_all-heard.ensures.kept t took)
@@ -86,7 +90,7 @@ returns-clause-turned g c =
     let d = c.begin-begun.new.caller in
     let h = c.hear_all-heard.new.caller in
     let n = c.look-looked.new.caller in
-    let p = c.args.self.now in
+    let p = c.self.inside.inner in
     let P = Arrives p.conn in
     let s = g.L.Link.shown c.args.link.now in
     let m = g.L.Link.shown c.give_some-gave.new.link in
@@ -105,7 +109,7 @@ returns-clause-turned g c =
     let ticked : Knowledge = record me { front = start_b.begins.ticked; note = None } in
     let left = c.begin-begun.new.self.outgoing in
     let none_due : left ≡ [] → IsCalled st ticked (event.Draw p.conn PIECE) answer.NotYet d.front = λ none. found_none st ticked p.conn start_b.begins.answer start_b.begins.drew p.outgoing left d.front start_b.begins.draw went none in
-    record {
+    subst (λ (b : Between). IsTurned st (g.K.Clock.moments c.args.clock.now) me n.front s t b c.sum_up.result) c.self.view_is (record {
       left = left;
       turn = record {
         begun = d.front;
@@ -128,7 +132,7 @@ returns-clause-turned g c =
       progress = λ goes_on. only s t st ticked d.front p left (was_empty st ticked p.conn PIECE (goes_on_after start_b.begins.answer) start_b.begins.drew p.outgoing left d.front start_b.begins.draw) none_due (progress s m t (has p) left c.give_some-gave.result c.take_some-took.result (c.sum_up.ensures.fine goes_on)
           c.give_some-gave.ensures.gave c.take_some-took.ensures.took c.take_some-took.ensures.given c.give_some-gave.ensures.taken c.give_some-gave.ensures.counted c.take_some-took.ensures.counted c.give_some-gave.ensures.nothing
           (λ nothing failed. waits p c.give_some-gave.new.self c.give_some-gave.result incoming bad failed (c.take_some-took.ensures.nothing nothing)));
-    }
+    })
   where
     waits_on : (p q : Inner) → q.incoming ≡ p.incoming → q.bad ≡ p.bad → HasWaiting (has p) → HasWaiting (has q)
     waits_on p q same bad h = (bad ∙ h.0, subst (λ (i : Comes). IsWaiting (all_of i) i.max_in) (sym same) h.1)
@@ -155,7 +159,7 @@ returns-clause-cause g c =
     let m = g.L.Link.shown c.give_some-gave.new.link in
     let t = g.L.Link.shown c.take_some-took.new.link in
     let conn : c.take_some-took.new.self.conn ≡ q.conn = sym c.hear_all-heard.ensures.conn in
-    let begun : Continues me.front d.front = begun_on st moments me c.args.self.now.conn _ _ d.front c.begin-begun.ensures.begins.begins in
+    let begun : Continues me.front d.front = begun_on st moments me c.self.inside.inner.conn _ _ d.front c.begin-begun.ensures.begins.begins in
     let names : h.names ≡ me.names = search rules in
     turned_for st moments me d h n.front s m t (has q) c.give_some-gave.result c.take_some-took.result c.hear_all-heard.result c.look-looked.result c.len-left.result c.sum_up.result
     (record {
@@ -191,7 +195,7 @@ returns-clause-read g c late =
     let n = c.look-looked.new.caller in
     let st = c.args.connection.now.settings in
     let moments = g.K.Clock.moments c.args.clock.now in
-    let begun : Continues me.front d.front = begun_on st moments me c.args.self.now.conn _ _ d.front c.begin-begun.ensures.begins.begins in
+    let begun : Continues me.front d.front = begun_on st moments me c.self.inside.inner.conn _ _ d.front c.begin-begun.ensures.begins.begins in
     let heard : Continues d.front h.front = goes_continues (Arrives c.take_some-took.new.self.conn) d h.front c.hear_all-heard.ensures.goes in
     let names : h.names ≡ me.names = search rules in
     read_out st me h.front n.front (has c.hear_all-heard.new.self) c.hear_all-heard.result (continues_both me.front d.front h.front begun heard) (subst (λ ns. Follows ns h.front n.front) names c.look-looked.ensures.follows) c.hear_all-heard.ensures.busy c.hear_all-heard.ensures.emptied (c.sum_up.ensures.heard late)

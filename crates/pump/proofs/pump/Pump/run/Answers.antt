@@ -1,15 +1,15 @@
 use Rattle.std.proofs.lemmas.Bool.Decides.{nat_tests}
-use Rattle.std.proofs.Common.{rules, ◌≡◌, ◌∙◌, ◌≤◌, ◌<◌, ◌+◌, max, inl, inr, ap, subst, arith}
+use Rattle.std.proofs.Common.{rules, ◌≡◌, ◌∙◌, ◌≤◌, ◌+◌, inl, inr, ap, subst, arith}
 use Rattle.conn_shared.specs.Members.{Knowledge}
 use Rattle.pump.specs.declared.turned.Turned.TheVariants as turned
-use Rattle.pump.specs.Turns.{GoesOn, IsPumped, has, is_early}
+use Rattle.pump.specs.Turns.{GoesOn, IsPumped, is_early}
 use Rattle.pump.specs.Runs.{IsRun, lulls_in, placed}
 use Rattle.pump.proofs.Adding.{goes_both, goes_continues, on_both}
 use Rattle.pump.proofs.Going.{turn_goes}
 use Rattle.pump.proofs.Outcomes.{lulled_more, none_fell_both, ran_for, read_wider}
-use Rattle.pump.proofs.Running.{and_another, few_more, has_ended, lulls_few, none_yet}
-use Rattle.pump.proofs.inner.Inner.run.Goals as goal
-use Rattle.pump.proofs.inner.Inner.run.Goals.{else-met-lulls-via-then-met-lulls+else-eq, else-met-lulls-via-else-met-lulls}
+use Rattle.pump.proofs.Running.{and_another, few_more, has_ended, lulls_few}
+use Rattle.pump.proofs.pump.Pump.run.Goals as goal
+use Rattle.pump.proofs.pump.Pump.run.Goals.{else-met-lulls-via-then-met-lulls+else-eq, else-met-lulls-via-else-met-lulls}
 
 pub loop-preserved : goal.loop-preserved
 loop-preserved g c =
@@ -36,8 +36,8 @@ loop-preserved g c =
       c.turn-turned.ensures.conn ∙ i.3,
       c.turn-turned.ensures.max_in ∙ i.4,
       none_fell_both s.counts m.counts t.counts i.5 c.turn-turned.ensures.counted,
-      lulled_more c.args.connection.now.settings moments was now.front s m t (has c.turn-turned.new.self) c.turn-turned.result c.loop.met c.saturating_add-met.result c.turn-turned.ensures.counted i.6 c.turn-turned.ensures.cause le,
-      and_another c.args.connection.now.settings moments c.args.lulls c.loop.met c.saturating_add-met.result _ _ (placed now t (has c.turn-turned.new.self)) c.turn-turned.result i.7 (record { same = c.turn-turned.ensures.same; turned = turn; cause = c.turn-turned.ensures.cause; order = c.turn-turned.ensures.order }) (search rules) count (few_more c.loop.met c.args.lulls c.saturating_add-met.result c.turn-turned.result i.7.few count on),
+      lulled_more c.args.connection.now.settings moments was now.front s m t c.turn-turned.new.self c.turn-turned.result c.loop.met c.saturating_add-met.result c.turn-turned.ensures.counted i.6 c.turn-turned.ensures.cause le,
+      and_another c.args.connection.now.settings moments c.args.lulls c.loop.met c.saturating_add-met.result _ _ (placed now t c.turn-turned.new.self) c.turn-turned.result i.7 (record { same = c.turn-turned.ensures.same; turned = turn; cause = c.turn-turned.ensures.cause; order = c.turn-turned.ensures.order }) (search rules) count (few_more c.loop.met c.args.lulls c.saturating_add-met.result c.turn-turned.result i.7.few count on),
     )
 
 -- ---- where a turn was the last
@@ -61,7 +61,7 @@ returns-then-is_last-clause-cause g c =
     let me = c.args.caller.now in
     let was = c.loop.caller in
     let moments = g.K.Clock.moments c.args.clock.now in
-    ran_for c.args.connection.now.settings moments c.args.lulls me was c.turn-turned.new.caller.front (g.L.Link.shown c.args.link.now) (g.L.Link.shown c.loop.link) (g.L.Link.shown c.turn-turned.new.link) (has c.turn-turned.new.self) c.turn-turned.result
+    ran_for c.args.connection.now.settings moments c.args.lulls me was c.turn-turned.new.caller.front (g.L.Link.shown c.args.link.now) (g.L.Link.shown c.loop.link) (g.L.Link.shown c.turn-turned.new.link) c.turn-turned.new.self c.turn-turned.result
     (ap (λ (x : Knowledge). x.number) i.0) (search rules) (goes_continues (IsPumped moments c.args.self.now.conn) me was.front i.2) i.5 c.turn-turned.ensures.cause
 
 pub returns-then-is_last-clause-read : goal.returns-then-is_last-clause-read
@@ -70,7 +70,7 @@ returns-then-is_last-clause-read g c late =
     let me = c.args.caller.now in
     let was = c.loop.caller in
     let moments = g.K.Clock.moments c.args.clock.now in
-    read_wider c.args.connection.now.settings me was (has c.turn-turned.new.self) c.turn-turned.new.caller.front (ap (λ (x : Knowledge). x.names) i.0) (goes_continues (IsPumped moments c.args.self.now.conn) me was.front i.2) (c.turn-turned.ensures.read late)
+    read_wider c.args.connection.now.settings me was c.turn-turned.new.self c.turn-turned.new.caller.front (ap (λ (x : Knowledge). x.names) i.0) (goes_continues (IsPumped moments c.args.self.now.conn) me was.front i.2) (c.turn-turned.ensures.read late)
 
 -- ---- where it has lulled so often
 
@@ -94,16 +94,16 @@ returns-then-eq-clause-read g c late =
     let was = c.loop.caller in
     let moments = g.K.Clock.moments c.args.clock.now in
     let is : c.turn-turned.result ≡ turned.Lull = search rules in
-    read_wider c.args.connection.now.settings me was (has c.turn-turned.new.self) c.turn-turned.new.caller.front (ap (λ (x : Knowledge). x.names) i.0) (goes_continues (IsPumped moments c.args.self.now.conn) me was.front i.2) (c.turn-turned.ensures.read (ap is_early is))
+    read_wider c.args.connection.now.settings me was c.turn-turned.new.self c.turn-turned.new.caller.front (ap (λ (x : Knowledge). x.names) i.0) (goes_continues (IsPumped moments c.args.self.now.conn) me was.front i.2) (c.turn-turned.ensures.read (ap is_early is))
 
 pub returns-then-is_last-clause-turns : goal.returns-then-is_last-clause-turns
 returns-then-is_last-clause-turns g c =
-    has_ended c.args.connection.now.settings (g.K.Clock.moments c.args.clock.now) c.args.lulls c.loop.met _ _ (placed c.turn-turned.new.caller (g.L.Link.shown c.turn-turned.new.link) (has c.turn-turned.new.self)) c.turn-turned.result c.loop.invariant.7
+    has_ended c.args.connection.now.settings (g.K.Clock.moments c.args.clock.now) c.args.lulls c.loop.met _ _ (placed c.turn-turned.new.caller (g.L.Link.shown c.turn-turned.new.link) c.turn-turned.new.self) c.turn-turned.result c.loop.invariant.7
     (record { same = c.turn-turned.ensures.same; turned = c.turn-turned.ensures.turned; cause = c.turn-turned.ensures.cause; order = c.turn-turned.ensures.order }) (inl (search rules))
 
 pub returns-then-eq-clause-turns : goal.returns-then-eq-clause-turns
 returns-then-eq-clause-turns g c =
     let is : c.turn-turned.result ≡ turned.Lull = search rules in
-    subst (λ r. IsRun c.args.connection.now.settings (g.K.Clock.moments c.args.clock.now) c.args.lulls (placed c.args.caller.now (g.L.Link.shown c.args.link.now) (has c.args.self.now)) (placed c.turn-turned.new.caller (g.L.Link.shown c.turn-turned.new.link) (has c.turn-turned.new.self)) r) is
-    (has_ended c.args.connection.now.settings (g.K.Clock.moments c.args.clock.now) c.args.lulls c.loop.met _ _ (placed c.turn-turned.new.caller (g.L.Link.shown c.turn-turned.new.link) (has c.turn-turned.new.self)) c.turn-turned.result c.loop.invariant.7
+    subst (λ r. IsRun c.args.connection.now.settings (g.K.Clock.moments c.args.clock.now) c.args.lulls (placed c.args.caller.now (g.L.Link.shown c.args.link.now) c.args.self.now) (placed c.turn-turned.new.caller (g.L.Link.shown c.turn-turned.new.link) c.turn-turned.new.self) r) is
+    (has_ended c.args.connection.now.settings (g.K.Clock.moments c.args.clock.now) c.args.lulls c.loop.met _ _ (placed c.turn-turned.new.caller (g.L.Link.shown c.turn-turned.new.link) c.turn-turned.new.self) c.turn-turned.result c.loop.invariant.7
     (record { same = c.turn-turned.ensures.same; turned = c.turn-turned.ensures.turned; cause = c.turn-turned.ensures.cause; order = c.turn-turned.ensures.order }) (inr (is, search rules)))
