@@ -171,7 +171,7 @@ agreed_since : (g : Settings) (moments : Option (List ℕ)) (helps : Bool) (gran
     → g.side ≡ Server → Parts g moments helps grant c routes was now link first r old mid new → resumption_agreed g new.front ≡ may_resume (wish_of first)
 agreed_since g moments helps grant c routes was now link first r old mid new side p =
     let here : IsAgreed mid.front (may_resume (wish_of first)) = subst (λ (es : List Entry). IsAgreed es (may_resume (wish_of first))) (sym p.opened.newest)
-        (agreed_here g p.opened.before mid.number first p.opened.taken c (subst (Legal g) p.opened.newest p.legal)) in
+    (agreed_here g p.opened.before mid.number first p.opened.taken c (subst (Legal g) p.opened.newest p.legal)) in
     ap (resumption_agreed g) p.since ∙ agreed_on g p.more mid.front (may_resume (wish_of first)) side here
 
 left_by : (g : Settings) (news : List Knowledge) (link : Shown) (at c : ℕ) (s : Served) → (s ≢ served.OutOfMemory → At news at (λ me. IsHeld c me.number me.front → Left g me.front link c)) → IsLeft g news link (s, Some (at, c))

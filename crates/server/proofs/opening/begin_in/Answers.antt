@@ -22,4 +22,4 @@ returns-clause-begins g c =
     let same : c.place_of-found.result ≡ place_in slots (slot_of c.args.token c.args.sessions.now) = search rules in
     subst (λ f. BeginsAt c.args.settings.now moments c.args.slot f c.args.token olds news c.args.first c.open_here-opening.result.answer) same
     (begins_after c.args.settings.now moments c.args.slot c.place_of-found.result c.args.token olds c.is_taken-taken.new.callers news c.args.first c.is_taken-taken.result c.open_here-opening.result.answer c.open_here-opening.result.dead
-      c.requires.asks c.is_taken-taken.ensures.follow c.is_taken-taken.ensures.here c.is_taken-taken.ensures.taken c.open_here-opening.ensures.tries)
+    c.requires.asks c.is_taken-taken.ensures.follow c.is_taken-taken.ensures.here c.is_taken-taken.ensures.taken c.open_here-opening.ensures.tries)

@@ -43,7 +43,7 @@ returns-in_default g c =
     let most : c.take_first.new.reader.max_in ≡ st.max_in = search rules in
     let life : c.settings-2.result.now.lifetime_ms ≡ st.lifetime_ms = ap (λ (x : Settings). x.lifetime_ms) c.settings-2.ensures.value in
     let cause : FirstFor moments st.lifetime_ms old bytes st.max_in first =
-        subst (λ m. FirstFor moments st.lifetime_ms old bytes m first) most (subst (λ l. FirstFor moments l old bytes c.take_first.new.reader.max_in first) life c.take_first.ensures.cause) in
+    subst (λ m. FirstFor moments st.lifetime_ms old bytes m first) most (subst (λ l. FirstFor moments l old bytes c.take_first.new.reader.max_in first) life c.take_first.ensures.cause) in
     let s = unbegun_so st moments (is_some c.args.jobs.now) c.args.grant c.args.slot c.args.routes.now past c.args.jobs.now old link bytes first c.unbegun.result c.take_first.ensures.taken c.take_first.ensures.given cause c.unbegun.ensures.gives c.unbegun.ensures.says in
     record {
       same = s.same;

@@ -65,7 +65,7 @@ returns-in-Opened-clause-serves g c =
     let begins = begins_at st.max_in c.args.reader.max_in c.args.frame s c.args.reader.bytes c.pass.new.self.bytes c.requires.limit c.requires.first c.pass.ensures.passed in
     subst (λ (v : Served). ServedSo st moments helps c.args.grant c.args.slot c.args.routes.now olds news c.args.jobs.now c.serve_at-turned.new.jobs t (v, Some (at, conn))) (sym c.served_by.ensures)
     (opened_as st moments helps c.args.grant c.args.slot at conn c.args.routes.now olds mids news c.args.jobs.now c.serve_at-turned.new.jobs s t c.args.frame c.pass.new.self.bytes c.serve_at-turned.ensures.taken.0 c.serve_at-turned.result resumes
-      c.requires.server c.open.ensures.back c.serve_at-turned.ensures.back opens begins c.serve_at-turned.ensures.taken.1 c.serve_at-turned.ensures.serves asks)
+    c.requires.server c.open.ensures.back c.serve_at-turned.ensures.back opens begins c.serve_at-turned.ensures.taken.1 c.serve_at-turned.ensures.serves asks)
 
 pub returns-in_default-answer-clause-serves : goal.returns-in_default-answer-clause-serves
 returns-in_default-answer-clause-serves g c =
@@ -74,11 +74,9 @@ returns-in_default-answer-clause-serves g c =
     let at = c.in-Ok-open.opening.slot in
     let olds = c.args.callers.now in
     let news = c.open.new.callers in
-    let met = c.in_default-answer.answer in
-    let is : c.in-Ok-open.opening.answer ≡ met = search rules in
-    let opens : OpensAt st moments c.args.slot at olds news c.args.frame met = subst (λ (a : Answer). OpensAt st moments c.args.slot at olds news c.args.frame a) is c.in-Ok-open.ensures.opens in
+    let met = c.in-Ok-open.opening.answer in
     let wish : c.in-Ok.wish ≡ wish_of c.args.frame = c.in-Ok.ensures in
     let asks : c.is_resume-resuming.result ≡ is_resume (wish_of c.args.frame) = c.is_resume-resuming.ensures ∙ ap is_resume wish in
     let begins : IsFirstOf c.args.frame c.args.reader.bytes st.max_in (g.L.Link.shown c.args.link.now) = subst (λ n. IsFirstOf c.args.frame c.args.reader.bytes n (g.L.Link.shown c.args.link.now)) c.requires.limit c.requires.first in
     refused_as st moments (is_some c.args.jobs.now) c.args.grant c.args.slot at c.args.routes.now olds news c.args.jobs.now (g.L.Link.shown c.args.link.now) (g.L.Link.shown c.refused.new.link) c.args.frame c.args.reader.bytes met c.refused.result c.is_resume-resuming.result
-    asks c.open.ensures.back begins opens c.in_default-answer.not-Opened c.refused.ensures.taken c.refused.ensures.says c.refused.ensures.gives c.refused.ensures.nothing
+    asks c.open.ensures.back begins c.in-Ok-open.ensures.opens (λ n opened. c.in_default-answer.not-Opened n opened) c.refused.ensures.taken c.refused.ensures.says c.refused.ensures.gives c.refused.ensures.nothing
