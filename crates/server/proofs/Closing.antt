@@ -1,12 +1,10 @@
 -- A connection from its opening to its cut.
 use Rattle.std.specs.List.{AllByRecursion}
-use Rattle.std.proofs.lemmas.List.{append_cancel_right}
-use Rattle.std.proofs.Common.{◌≡◌, ◌<◌, ◌≤◌, ◌+◌, ◌^◌, ◌⊎◌, ◌∙◌, inl, inr, ℕ, Bool, true, false, true≢false, List, [], ◌∷◌, ◌++◌, is_some, length, Option, Some, None, refl, sym, ap, subst, arith}
+use Rattle.std.proofs.Common.{◌≡◌, ◌<◌, ◌≤◌, ◌+◌, ◌⊎◌, ◌∙◌, inl, inr, ℕ, Bool, true, false, true≢false, List, [], ◌∷◌, ◌++◌, Option, Some, None, refl, sym, ap, subst, arith}
 use Rattle.rs_wire.specs.declared.settings.Settings.{Settings}
 use Rattle.rs_frame.specs.declared.frame.Frame.{Frame}
 use Rattle.outside.specs.Links.{Shown}
 use Rattle.tape.specs.declared.event.Event.{Event}
-use Rattle.tape.specs.declared.event.Event.TheVariants as event
 use Rattle.tape.specs.declared.answer.Answer.{Answer}
 use Rattle.tape.specs.declared.answer.Answer.TheVariants as answer
 use Rattle.tape.specs.declared.entry.Entry.{Entry}
@@ -16,7 +14,7 @@ use Rattle.session_model.specs.Life.{closed}
 use Rattle.session_laws.proofs.Growth.{stays_closed}
 use Rattle.conn_lock.specs.Callers.{times}
 use Rattle.conn_shared.specs.Members.{Knowledge}
-use Rattle.link_model.specs.Carrying.{Between, Carried, IsAlone, is_of}
+use Rattle.link_model.specs.Carrying.{Carried, IsAlone, is_of}
 use Rattle.link_model.specs.Leaving.{Left}
 use Rattle.link_model.proofs.Fresh.{is_carried}
 use Rattle.link_model.proofs.Same.{opened_on}
@@ -24,12 +22,12 @@ use Rattle.pump.specs.declared.turned.Turned.{Turned}
 use Rattle.pump.specs.declared.turned.Turned.TheVariants as turned
 use Rattle.pump.specs.Turns.{GoesOn, IsKept, MovesAlone, Names, Spares, Ticks, TurnedFor, WasNoted, is_last, moved}
 use Rattle.pump.proofs.Adding.{IsOn, IsOwn, all_split, continues_both, goes_as, goes_both, goes_continues, on_both}
-use Rattle.pump.proofs.Events.{longer_still, was_wider}
+use Rattle.pump.proofs.Events.{longer_still}
 use Rattle.pump.proofs.Going.{kept_goes}
 use Rattle.link_laws.specs.Opened.{IsJustOpened}
 use Rattle.link_laws.specs.Staying.{IsHeld}
 use Rattle.link_laws.proofs.Ending.{left_later}
-use Rattle.server.specs.Attending.{AreFewTicks, HaveFewTicks, IsAtTop, IsAttended, IsCut, IsServed, ticks_by}
+use Rattle.server.specs.Attending.{AreFewTicks, IsAtTop, IsAttended, IsCut, IsServed, ticks_by}
 use Rattle.server.specs.Running.{AttendsSo, EndedFor, Ran}
 use Rattle.server.proofs.Helped.{IsRun, attended_served, cut_quiet, cut_served, run_goes, run_quiet}
 use Rattle.server.proofs.Ticking.{IsNoTick, none_goes, ticks_both}

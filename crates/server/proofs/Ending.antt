@@ -1,6 +1,5 @@
 -- Why the link of a connection may be left, as its caller knows.
-use Rattle.std.specs.List.{AllByRecursion}
-use Rattle.std.proofs.Common.{◌≡◌, ◌<◌, ◌^◌, ◌∙◌, ◌||◌, ◌⊎◌, inl, inr, ℕ, Bool, true, false, true≢false, List, [], ◌∷◌, ◌++◌, length, Option, Some, None, refl, sym, ap, subst, arith, append_assoc}
+use Rattle.std.proofs.Common.{◌≡◌, ◌<◌, ◌∙◌, ◌||◌, inl, inr, ℕ, true, false, true≢false, List, [], ◌∷◌, ◌++◌, Option, Some, refl, sym, ap, subst, arith, append_assoc}
 use Rattle.std.proofs.lemmas.List.{append_cancel_right}
 use Rattle.std.proofs.lemmas.Grind.{common_steps}
 use Rattle.std.proofs.lemmas.Bool.Decides.{nat_tests}
@@ -16,12 +15,12 @@ use Rattle.tape.specs.declared.answer.Answer.TheVariants as answer
 use Rattle.tape.specs.declared.entry.Entry.{Entry}
 use Rattle.session_model.specs.Answers.{answer_to, facts}
 use Rattle.session_model.specs.Life.{closed, is_live, live}
-use Rattle.session_model.specs.Frames.{queued, was_opened}
+use Rattle.session_model.specs.Frames.{queued}
 use Rattle.session_model.specs.Legal.{Legal}
 use Rattle.session_model.specs.Means.{Means}
 use Rattle.session_model.proofs.Meaning.{meaning}
 use Rattle.conn_lock.specs.Callers.{times}
-use Rattle.conn_shared.specs.Members.{Continues, Knowledge}
+use Rattle.conn_shared.specs.Members.{Knowledge}
 use Rattle.link_model.specs.Carrying.{Between, IsAlone, Keeps, is_of}
 use Rattle.link_model.specs.Leaving.{ComesInTime, Heard, IsBroken, Left, displaced}
 use Rattle.pump.specs.declared.turned.Turned.{Turned}
@@ -31,7 +30,7 @@ use Rattle.pump.proofs.Adding.{IsOn, IsOwn, all_as, all_split}
 use Rattle.pump.proofs.ReadOut.{is_heard}
 use Rattle.link_laws.specs.Opened.{IsJustOpened}
 use Rattle.link_laws.specs.Staying.{IsHeld, StaysOn, ends}
-use Rattle.link_laws.proofs.Staying.{displaced_more, on_or_displaced}
+use Rattle.link_laws.proofs.Staying.{displaced_more}
 use Rattle.link_laws.proofs.Ended.{in_time, not_local}
 use Rattle.link_laws.proofs.Ending.{left_dead, left_over, left_stale, stays_held}
 

@@ -1,5 +1,5 @@
 -- What is kept of a link from its opening on, before a pump moves its bytes.
-use Rattle.std.proofs.Common.{◌≡◌, ◌≤◌, ◌+◌, ◌^◌, ◌∙◌, ◌⊎◌, inl, inr, ℕ, Bool, true, false, true≢false, List, [], length, Option, Some, None, refl, sym, ap, subst, arith}
+use Rattle.std.proofs.Common.{◌≡◌, ◌≤◌, ◌^◌, ◌∙◌, ◌⊎◌, inl, inr, ℕ, Bool, true, false, true≢false, List, [], length, Option, Some, None, refl, sym, ap, subst, arith}
 use Rattle.rs_wire.specs.declared.settings.Settings.{Settings}
 use Rattle.outside.specs.Links.{Shown}
 use Rattle.tape.specs.declared.answer.Answer.{Answer}

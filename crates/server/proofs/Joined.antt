@@ -1,5 +1,5 @@
 -- One link from its first frame on, put together from what its parts say.
-use Rattle.std.proofs.Common.{◌≡◌, ◌≢◌, ◌≤◌, ◌<◌, ◌+◌, ◌^◌, ◌∙◌, ◌⊎◌, inl, inr, ℕ, Bool, true, false, List, [], ◌∷◌, ◌++◌, Option, Some, None, IfSome, slice_get, refl, sym, ap, subst}
+use Rattle.std.proofs.Common.{◌≡◌, ◌≢◌, ◌∙◌, ◌⊎◌, inl, inr, ℕ, Bool, false, List, [], Option, Some, None, IfSome, refl, sym, ap, subst}
 use Rattle.rs_wire.specs.declared.settings.Settings.{Settings}
 use Rattle.rs_frame.specs.declared.frame.Frame.{Frame}
 use Rattle.rs_frame.specs.declared.frame.Frame.TheVariants as frame
@@ -14,7 +14,7 @@ use Rattle.session_model.specs.Lists.{IsPrefix}
 use Rattle.conn_shared.specs.Members.{Knowledge}
 use Rattle.link_model.specs.Reading.{BeginsBad, IsPart}
 use Rattle.link_model.proofs.Bytes.{if_some}
-use Rattle.link_laws.specs.Unopened.{Earns, HasPassed, IsTurnedAway, IsUnbegun, bad_first, turned_away_by}
+use Rattle.link_laws.specs.Unopened.{Earns, IsTurnedAway, bad_first, turned_away_by}
 use Rattle.handlers.specs.Listed.{Listed}
 use Rattle.workers.specs.declared.job.OpenJob.{OpenJob}
 use Rattle.server.specs.Attended.{IsFirstOf}
@@ -27,7 +27,7 @@ use Rattle.server.specs.declared.served.Served.{Served}
 use Rattle.server.specs.declared.served.Served.TheVariants as served
 use Rattle.server.specs.Serving.{Adds, IsLeft, IsRefusedBy, IsUnopened, KeepsServing, LeavesUnbegun, NoneOpened, ServedFor, ServedSo, is_resume, unbegun_by}
 use Rattle.server.proofs.Places.{back_same}
-use Rattle.server.proofs.Turned.{GaveAll, full_one, full_tries, gave_all, gave_none, in_one, told_full, turned_by, turned_tries}
+use Rattle.server.proofs.Turned.{full_one, full_tries, gave_all, gave_none, in_one, told_full, turned_by, turned_tries}
 
 -- ---- out of memory, or not
 

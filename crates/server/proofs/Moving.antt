@@ -5,22 +5,19 @@ use Rattle.std.proofs.lemmas.List.{length-append}
 use Rattle.std.proofs.Common.{◌≡◌, ◌<◌, ◌≤◌, ◌+◌, ◌-◌, ◌^◌, ◌⊎◌, ◌∙◌, inl, inr, ℕ, Bool, true, false, true≢false, List, [], ◌∷◌, ◌++◌, Option, Some, None, is_some, refl, sym, ap, subst, arith, append_assoc}
 use Rattle.rs_wire.specs.declared.settings.Settings.{Settings}
 use Rattle.outside.specs.Links.{NoneFell, Shown}
-use Rattle.tape.specs.declared.event.Event.{Event}
 use Rattle.tape.specs.declared.event.Event.TheVariants as event
 use Rattle.tape.specs.declared.entry.Entry.{Entry}
-use Rattle.tape.specs.declared.answer.Answer.TheVariants as answer
 use Rattle.conn_lock.specs.Callers.{times}
-use Rattle.conn_shared.specs.Calls.{IsCalled}
 use Rattle.conn_shared.specs.Members.{Continues, Follows, Knowledge}
 use Rattle.session_model.specs.Frames.{queued}
-use Rattle.session_model.specs.Life.{is_live, live}
+use Rattle.session_model.specs.Life.{live}
 use Rattle.link_model.specs.Carrying.{Between, IsAlone, is_of}
-use Rattle.link_model.specs.Reading.{IsPart, IsWaiting}
+use Rattle.link_model.specs.Reading.{IsWaiting}
 use Rattle.pump.specs.declared.turned.Turned.{Turned}
 use Rattle.pump.specs.declared.numbers.TheConstants.{PIECE}
 use Rattle.pump.specs.Moves.{HasGrown}
-use Rattle.pump.specs.Turns.{GoesOn, HadOnlyFrames, HasMoved, IsBusy, IsEmptied, IsReadOut, IsTurned, MovesAlone, Spares, WasBusy, is_last, length_shown, moved}
-use Rattle.pump.proofs.Adding.{IsOn, IsOwn, all_split, goes_as, goes_both, goes_called, goes_continues, goes_follows, goes_none, on_both}
+use Rattle.pump.specs.Turns.{GoesOn, HadOnlyFrames, HasMoved, IsBusy, IsEmptied, IsReadOut, IsTurned, MovesAlone, Spares, is_last, length_shown, moved}
+use Rattle.pump.proofs.Adding.{IsOn, IsOwn, all_split, goes_both, goes_called, goes_follows}
 use Rattle.pump.proofs.Drawing.{idle_by}
 use Rattle.server.specs.Attending.{HaveFewTicks, IsAtTop, ticks_by}
 use Rattle.server.proofs.Ticking.{IsNoTick, none_goes, turn_adds}

@@ -1,5 +1,5 @@
 -- One link whose connection was opened, put together from its opening and from what attended it.
-use Rattle.std.proofs.Common.{◌≡◌, ◌≢◌, ◌<◌, ◌≤◌, ◌^◌, ◌∙◌, inl, inr, ℕ, zero, suc, Bool, true, false, List, [], ◌∷◌, ◌++◌, length, Option, Some, None, IfSome, slice_get, refl, sym, ap, subst}
+use Rattle.std.proofs.Common.{◌≡◌, ◌≢◌, ◌∙◌, inl, inr, ℕ, zero, suc, Bool, true, false, List, [], ◌∷◌, ◌++◌, Option, Some, None, IfSome, slice_get, refl, sym, ap, subst}
 use Rattle.rs_wire.specs.declared.words.Side.TheVariants.{Server}
 use Rattle.rs_wire.specs.declared.settings.Settings.{Settings}
 use Rattle.rs_frame.specs.declared.frame.Frame.{Frame}
@@ -25,7 +25,7 @@ use Rattle.link_laws.proofs.Opened.{just_opened}
 use Rattle.pump.specs.declared.turned.Turned.{Turned}
 use Rattle.pump.specs.declared.turned.Turned.TheVariants as turned
 use Rattle.pump.specs.Turns.{GoesOn, Names, Ticks, WasNoted}
-use Rattle.pump.proofs.Adding.{IsOn, called_continues, continues_both, continues_same, follows_continues, goes_as, goes_both, goes_called, goes_continues}
+use Rattle.pump.proofs.Adding.{IsOn, called_continues, continues_both, continues_same, follows_continues, goes_both, goes_called, goes_continues}
 use Rattle.pump.proofs.Events.{was_wider}
 use Rattle.handlers.specs.Listed.{Listed}
 use Rattle.workers.specs.declared.job.OpenJob.{OpenJob}
@@ -33,10 +33,10 @@ use Rattle.workers.specs.Courses.{IsNoWork}
 use Rattle.workers.specs.Serving.{Serving}
 use Rattle.server.specs.Attended.{BeginsBy, HasOpened, IsFirstOf, OpenedAt, ServesAt, ServesOne}
 use Rattle.server.specs.Attending.{Attends, Grants, KeepsWork}
-use Rattle.server.specs.Opening.{AreBack, HasTicked, IsFirst, OpensAfter, OpensAt, TriesToOpen, fronts, wish_of}
+use Rattle.server.specs.Opening.{AreBack, IsFirst, OpensAfter, OpensAt, TriesToOpen, wish_of}
 use Rattle.server.specs.declared.served.Served.{Served}
 use Rattle.server.specs.declared.served.Served.TheVariants as served
-use Rattle.server.specs.Serving.{Agrees, At, Between, IsLeft, IsUnopened, KeepsServing, Opened, ServedFor, ServedSo, may_resume, served_by}
+use Rattle.server.specs.Serving.{At, Between, IsLeft, IsUnopened, KeepsServing, ServedFor, ServedSo, may_resume, served_by}
 use Rattle.server.proofs.Agreed.{IsAgreed, agreed_here, agreed_on}
 use Rattle.server.proofs.FirstFrame.{first_still, fresh_by}
 use Rattle.server.proofs.Kept.{serving_goes}

@@ -1,7 +1,7 @@
 -- Ticks, counted.
 use Rattle.std.specs.List.{AllByRecursion}
 use Rattle.std.proofs.lemmas.Bool.Decides.{nat_tests}
-use Rattle.std.proofs.Common.{◌≡◌, ◌<◌, ◌≤◌, ◌+◌, ◌&&◌, ◌∙◌, ℕ, Bool, true, false, true≢false, nat_lt, if◌then◌else◌, List, [], ◌∷◌, ◌++◌, Option, Some, None, refl, sym, ap, subst, arith}
+use Rattle.std.proofs.Common.{◌≡◌, ◌≤◌, ◌+◌, ◌&&◌, ◌∙◌, ℕ, Bool, true, false, true≢false, nat_lt, if◌then◌else◌, List, [], ◌∷◌, ◌++◌, Option, Some, None, refl, sym, ap, subst, arith}
 use Rattle.rs_wire.specs.declared.settings.Settings.{Settings}
 use Rattle.tape.specs.Answers.{leaves}
 use Rattle.tape.specs.Told.{entry_of}
@@ -11,7 +11,7 @@ use Rattle.tape.specs.declared.answer.Answer.{Answer}
 use Rattle.tape.specs.declared.entry.Entry.{Entry}
 use Rattle.conn_lock.specs.Callers.{times}
 use Rattle.conn_shared.specs.Calls.{IsCalled}
-use Rattle.conn_shared.specs.Members.{Follows, Knowledge}
+use Rattle.conn_shared.specs.Members.{Knowledge}
 use Rattle.pump.specs.Turns.{Arrives, DrawsWhere, GoesOn, IsTurn, goes_on_after, is_empty}
 use Rattle.pump.specs.declared.numbers.TheConstants.{PIECE}
 use Rattle.pump.proofs.Adding.{IsOwn, goes_as, goes_called, goes_follows}

@@ -1,13 +1,8 @@
 -- What serving one link came to. Entries stand newest first.
-use Rattle.std.specs.Prelude.{◌++◌, ◌≡◌, ◌≢◌, ◌<◌, ◌≤◌, ◌+◌, ◌^◌, ◌⊎◌, ℕ, Bool, true, false, List, [], slice_get, Option, Some, None, IfSome, is_some}
-use Rattle.rs_wire.specs.declared.fault.Gone.{Gone}
-use Rattle.rs_wire.specs.declared.fault.Gone.TheVariants as gone
-use Rattle.rs_wire.specs.declared.fault.SetupFault.TheVariants as fault
+use Rattle.std.specs.Prelude.{◌++◌, ◌≡◌, ◌≢◌, ◌<◌, ◌≤◌, ◌+◌, ◌⊎◌, ℕ, Bool, true, false, List, slice_get, Option, Some, None, IfSome}
 use Rattle.rs_wire.specs.declared.settings.Settings.{Settings}
 use Rattle.rs_frame.specs.declared.frame.Frame.{Frame}
 use Rattle.rs_frame.specs.Framed.{framed_frame}
-use Rattle.rs_frame.specs.Spelling.{IsSpellable, Spells}
-use Rattle.rs_chunk.specs.Stream.{IsWhole, first_frame}
 use Rattle.outside.specs.Causes.{IsMoment}
 use Rattle.outside.specs.Links.{Shown}
 use Rattle.tape.specs.declared.answer.Answer.{Answer}

@@ -1,8 +1,5 @@
-use Rattle.std.proofs.Common.{rules, ◌≡◌, ◌<◌, ◌∙◌, ◌++◌, ℕ, List, [], Option, Some, None, IfSome, refl, sym, ap, subst, arith}
-use Rattle.std.specs.Io.KnownBytes.{append_known}
-use Rattle.outside.specs.Causes.{one_more}
-use Rattle.outside.specs.Links.{Counts, NoneFell, Shown}
-use Rattle.link_model.proofs.Bytes.{if_more, if_some}
+use Rattle.std.proofs.Common.{rules, ◌≡◌, ◌∙◌, [], IfSome, sym, ap, subst}
+use Rattle.outside.specs.Links.{Counts}
 use Rattle.pump.proofs.Outcomes.{none_fell_both}
 use Rattle.server.specs.First.{IsTakenOn}
 use Rattle.server.proofs.Taking.{still_taken, took_more}

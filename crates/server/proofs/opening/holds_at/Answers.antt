@@ -1,5 +1,5 @@
-use Rattle.std.proofs.Common.{rules, ◌≡◌, ◌<◌, ◌∙◌, length, slice_index_or, sym, ap, subst}
-use Rattle.conn_shared.specs.Members.{Follows, Knowledge}
+use Rattle.std.proofs.Common.{rules, ◌≡◌, ◌<◌, ◌∙◌, length, slice_index_or, sym, subst}
+use Rattle.conn_shared.specs.Members.{Knowledge}
 use Rattle.pump.proofs.Adding.{IsOn}
 use Rattle.server.proofs.Places.{back_at, follow_set, holds_set, of_at, same_length, stay_beside}
 use Rattle.server.proofs.opening.holds_at.Goals as goal

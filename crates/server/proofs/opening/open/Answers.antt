@@ -1,4 +1,4 @@
-use Rattle.std.proofs.Common.{◌≡◌, ℕ, false, true, true≢false, refl, sym, subst}
+use Rattle.std.proofs.Common.{ℕ, false, true≢false, refl, sym, subst}
 use Rattle.server.specs.Opening.{OpensAt}
 use Rattle.server.proofs.Places.{follow_same, opens_after}
 use Rattle.server.proofs.opening.open.Goals as goal

@@ -1,4 +1,4 @@
-use Rattle.std.proofs.Common.{rules, ◌≡◌, ◌<◌, ◌∙◌, is_some, length, slice_index_or, refl, sym, ap, subst}
+use Rattle.std.proofs.Common.{rules, ◌≡◌, ◌<◌, ◌∙◌, is_some, length, slice_index_or, sym, ap, subst}
 use Rattle.rs_wire.specs.declared.settings.Settings.{Settings}
 use Rattle.session_model.specs.Legal.{Legal}
 use Rattle.conn_shared.specs.Members.{Knowledge, SharedId}

@@ -1,8 +1,7 @@
-use Rattle.std.proofs.Common.{rules, ◌≡◌, is_some, ap, subst, arith}
+use Rattle.std.proofs.Common.{rules, ◌≡◌, is_some, ap, subst}
 use Rattle.pump.proofs.Outcomes.{none_fell_both}
 use Rattle.rs_wire.specs.declared.settings.Settings.{Settings}
 use Rattle.server.specs.First.{FirstFor}
-use Rattle.server.specs.declared.first.First.TheVariants as firsts
 use Rattle.server.proofs.Joined.{unbegun_so}
 use Rattle.server.proofs.serving.serve_connection.Goals as goal
 

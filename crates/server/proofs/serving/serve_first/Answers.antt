@@ -1,4 +1,4 @@
-use Rattle.std.proofs.Common.{rules, ◌≡◌, ◌≢◌, ◌∙◌, ℕ, List, [], is_some, Option, Some, None, IfSome, refl, sym, ap, subst}
+use Rattle.std.proofs.Common.{rules, ◌≡◌, ◌∙◌, List, [], is_some, Option, Some, None, IfSome, refl, sym, ap, subst}
 use Rattle.handlers.specs.Listed.{Listed}
 use Rattle.workers.specs.declared.job.OpenJob.{OpenJob}
 use Rattle.workers.specs.Serving.{AreRouted}
@@ -6,7 +6,6 @@ use Rattle.server.specs.Attending.{AreRoutedIn}
 use Rattle.tape.specs.declared.answer.Answer.{Answer}
 use Rattle.tape.specs.declared.answer.Answer.TheVariants as answer
 use Rattle.server.specs.declared.served.Served.{Served}
-use Rattle.server.specs.declared.opening.Wish.{Wish}
 use Rattle.server.specs.Attended.{IsFirstOf}
 use Rattle.server.specs.Opening.{OpensAt, wish_of}
 use Rattle.server.specs.Serving.{ServedSo, is_resume, may_resume}
