@@ -224,8 +224,12 @@ reasons g moments slot at olds news old link first bytes met (answer.ResumeRefus
 }
 reasons g moments slot at olds news old link first bytes met answer.TapeFull r gives =
     let full : met ≡ answer.TapeFull = told_full (resumes first) met (sym r.is) in
-    let one = full_one news at r.opens.new r.opens.is (full_tries g moments r.opens.old first r.opens.taken r.opens.new.front (subst (λ (a : Answer). TriesToOpen g moments r.opens.old first r.opens.taken a r.opens.new.front) full r.opens.tries)) in
-    record { unopened = inr (inr one); cause = one }
+    let opens : OpensAt g moments slot at olds news first answer.TapeFull = subst (λ (a : Answer). OpensAt g moments slot at olds news first a) full r.opens in
+    let long = full_tries g moments opens.old first opens.taken opens.new.front opens.tries in
+    record {
+      unopened = inr (inr (full_one news at opens.new opens.is long));
+      cause = record { at = at; first = first; is_first = first_of g.max_in old link first bytes r.begins r.taken; opens = opens; full = long };
+    }
 reasons g moments slot at olds news old link first bytes met _ r gives = record { unopened = tt; cause = tt }
 
 -- all that is said of a link whose opening was not accepted

@@ -36,12 +36,11 @@ use Rattle.server.specs.Attending.{Attends, Grants, KeepsWork}
 use Rattle.server.specs.Opening.{AreBack, IsFirst, OpensAfter, OpensAt, TriesToOpen, wish_of}
 use Rattle.server.specs.declared.served.Served.{Served}
 use Rattle.server.specs.declared.served.Served.TheVariants as served
-use Rattle.server.specs.Serving.{At, Between, IsLeft, IsUnopened, KeepsServing, ServedFor, ServedSo, may_resume, served_by}
+use Rattle.server.specs.Serving.{At, Between, IsFull, IsLeft, IsUnopened, KeepsServing, ServedFor, ServedSo, may_resume, served_by}
 use Rattle.server.proofs.Agreed.{IsAgreed, agreed_here, agreed_on}
 use Rattle.server.proofs.FirstFrame.{first_still, fresh_by}
 use Rattle.server.proofs.Kept.{serving_goes}
 use Rattle.server.proofs.Places.{back_both, same_got}
-use Rattle.server.proofs.Turned.{full_one}
 
 -- ---- at a place
 
@@ -197,7 +196,7 @@ ended_so g moments helps grant slot at c routes olds news was now link first tur
 ended_so g moments helps grant slot at c routes olds news was now link first turned.End false old mid new there is p agreed = (p.serves.cause, at_of news at new _ is agreed)
 ended_so g moments helps grant slot at c routes olds news was now link first turned.LinkFault true old mid new there is p agreed = (inl p.serves.cause, at_of news at new _ is agreed)
 ended_so g moments helps grant slot at c routes olds news was now link first turned.LinkFault false old mid new there is p agreed = (p.serves.cause, at_of news at new _ is agreed)
-ended_so g moments helps grant slot at c routes olds news was now link first turned.TapeFull resumes old mid new there is p agreed = full_one news at new is p.serves.cause
+ended_so g moments helps grant slot at c routes olds news was now link first turned.TapeFull resumes old mid new there is p agreed = at_of news at new IsFull is p.serves.cause
 ended_so g moments helps grant slot at c routes olds news was now link first turned.OutOfMemory resumes old mid new there is p agreed = tt
 ended_so g moments helps grant slot at c routes olds news was now link first (turned.Moved given taken) resumes old mid new there is p agreed = absurd p.serves.cause
 ended_so g moments helps grant slot at c routes olds news was now link first (turned.Busy q) resumes old mid new there is p agreed = absurd p.serves.cause
@@ -242,7 +241,7 @@ opened_so g moments helps grant slot at c routes olds mids news was now link fir
         others = s.serves.others;
         lease = p.serves.attends.lease;
         attends = p.serves.attends.attends;
-        want = λ out. out_by r resumes (p.serves.attends.want out);
+        memory = λ out. out_by r resumes (p.serves.attends.want out);
         ticks = p.serves.ticks;
       };
       carried = at_of news at new _ s.serves.is p.serves.carried;

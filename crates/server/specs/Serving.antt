@@ -1,5 +1,5 @@
 -- What serving one link came to. Entries stand newest first.
-use Rattle.std.specs.Prelude.{◌++◌, ◌≡◌, ◌≢◌, ◌<◌, ◌≤◌, ◌+◌, ◌⊎◌, ℕ, Bool, true, false, List, slice_get, Option, Some, None, IfSome}
+use Rattle.std.specs.Prelude.{◌≡◌, ◌≢◌, ◌<◌, ◌≤◌, ◌+◌, ◌^◌, ◌++◌, ◌⊎◌, ℕ, Bool, true, false, List, length, slice_get, Option, Some, None, IfSome}
 use Rattle.rs_wire.specs.declared.settings.Settings.{Settings}
 use Rattle.rs_frame.specs.declared.frame.Frame.{Frame}
 use Rattle.rs_frame.specs.Framed.{framed_frame}
@@ -15,7 +15,7 @@ use Rattle.link_model.specs.Carrying.{Carried, IsAlone}
 use Rattle.link_model.specs.Leaving.{IsBroken, Left}
 use Rattle.link_model.specs.Reading.{BeginsBad}
 use Rattle.link_laws.specs.Staying.{IsHeld}
-use Rattle.link_laws.specs.Unopened.{IsOneFull, Unopened, bad_first, turned_away_by}
+use Rattle.link_laws.specs.Unopened.{Unopened, bad_first, turned_away_by}
 use Rattle.pump.specs.declared.turned.Turned.{Turned}
 use Rattle.pump.specs.declared.turned.Turned.TheVariants as turned
 use Rattle.pump.specs.Turns.{Names, Ticks, WasNoted}
@@ -78,7 +78,8 @@ pub record Opened (g : Settings) (moments : Option (List ℕ)) (helps : Bool) (g
   pub others : StayBeside at mid news
   pub lease : Answer
   pub attends : Attends g moments helps grant c old lease new.front
-  pub want : lease ≡ answer.OutOfMemory → s ≡ served.OutOfMemory
+  -- a lease that found no memory makes the whole find none
+  pub memory : lease ≡ answer.OutOfMemory → s ≡ served.OutOfMemory
   pub ticks : IsAlone c new.number new.front → (more : List Entry) → new.front ≡ more ++ old.front → AreFewTicks new.names more link
 
 abbrev pub Adds : Settings → Option (List ℕ) → Bool → Option ℕ → ℕ → List Knowledge → List Knowledge → Shown → Outcome → Type 0
@@ -124,6 +125,18 @@ pub record IsRefusedBy (g : Settings) (moments : Option (List ℕ)) (slot : ℕ)
 abbrev pub Between : List Knowledge → List Knowledge → ℕ → (Knowledge → Knowledge → Type 0) → Type 0
 Between olds news at P = At olds at (λ old. At news at (λ new. P old new))
 
+-- what the caller has seen takes no more entries
+abbrev pub IsFull : Knowledge → Type 0
+IsFull me = 2 ^ 63 ≤ length me.front
+
+-- the opening by the first frame met a full tape, or the tick before it did
+pub record MetFull (g : Settings) (moments : Option (List ℕ)) (slot : ℕ) (olds news : List Knowledge) (link : Shown) : Type 0 where
+  pub at : ℕ
+  pub first : Frame
+  pub is_first : IsFirst g.max_in link first
+  pub opens : OpensAt g moments slot at olds news first answer.TapeFull
+  pub full : IsFull opens.new
+
 -- the session of the caller at that place agreed to resumption, or did not
 abbrev pub Agrees : Settings → Bool → List Knowledge → ℕ → Type 0
 Agrees g agreed callers at = At callers at (λ me. resumption_agreed g me.front ≡ agreed)
@@ -142,7 +155,8 @@ ServedFor g moments slot olds news link (served.SetupRefused fault, None) = IsRe
 ServedFor g moments slot olds news link (served.ResumeRefused gone, None) = IsRefusedBy g moments slot olds news link (answer.ResumeRefused gone)
 ServedFor g moments slot olds news link (served.BadFirst number, None) = IfSome link.taken (λ bytes. BeginsBad number g.max_in bytes)
 ServedFor g moments slot olds news link (served.NoFirst now, None) = (0 < link.counts.lulls) × ((start : ℕ) × IsMoment moments start × IsMoment moments now × (start + g.lifetime_ms ≤ now))
-ServedFor g moments slot olds news link (served.TapeFull, opened) = IsOneFull (fronts news)
+ServedFor g moments slot olds news link (served.TapeFull, None) = MetFull g moments slot olds news link
+ServedFor g moments slot olds news link (served.TapeFull, Some (at, c)) = At news at IsFull
 ServedFor g moments slot olds news link (served.OutOfMemory, opened) = Unit {0}
 ServedFor g moments slot olds news link _ = ⊥
 
