@@ -1,0 +1,5 @@
+pub mod Following
+pub mod Client
+pub mod Acting
+pub mod Handing
+pub mod Carrying

@@ -1,0 +1,139 @@
+//! Connections are opened and cut, and moments told.
+
+ghost use Rattle.std.specs.Prelude.{◌≡◌, ◌<◌, ◌^◌, ◌++◌, ◌∷◌, [], List, false, IfOk, OnOk};
+ghost use Rattle.rtrb.specs.Ring.{SameConsumer, SameProducer, received, sent};
+ghost use Rattle.rs_wire.specs.declared.words.Side.TheVariants.{Client};
+ghost use Rattle.cable_script.specs.declared.line.Line.{Line};
+ghost use Rattle.cable_script.specs.declared.line.Line.TheVariants as line;
+ghost use Rattle.ring.specs.declared.item.Mark.TheVariants as marks;
+ghost use Rattle.threaded_client.specs.Carrying.{IsCarrying, IsSound};
+
+use crate::carrier::ClientCarrier;
+use carriers::{lose, push_mark, tell};
+use conn::Connection;
+use pump::Pump;
+use ring::{Mark, Stop};
+use rs_chunk::Reader;
+use std::alloc::Global;
+use std::sync::Wait;
+use tape::{Answer, Event, Tape};
+
+// A pump for a connection on which nothing came.
+fn pump_for(alloc: Global, conn: u64, max_in: u32) -> Result<Pump, Stop>
+    requires { max_in < 2 ^ 24 }
+    ensures { IfOk result (λ p. p ≡ record {
+      conn = conn;
+      left = [];
+      rest = [];
+      max_in = max_in;
+      bad = false;
+    }) }
+{
+    match Pump::new(alloc, conn, Reader::new(alloc, max_in)) {
+        Ok(pump) => Ok(pump),
+        Err(_) => Err(Stop::OutOfMemory),
+    }
+}
+
+// The mark is that of a cut. In a run no other comes there.
+fn is_cut(mark: Mark) -> Result<(), Stop>
+    ensures { OnOk result (mark ≡ marks.Cut) }
+{
+    match mark {
+        Mark::Cut => Ok(()),
+        _ => Err(Stop::Gone),
+    }
+}
+
+impl<T: Tape> ClientCarrier<T> {
+    /// Opens a connection, where none joins the ends.
+    pub fn open<R: Wait>(
+        &mut self,
+        rt: &R,
+        alloc: Global,
+        connection: &Connection<T>,
+    ) -> Result<(), Stop>
+        requires of { self.old.caller.of ≡ connection.now }
+        requires sound { IsSound connection.now.settings self.old.conn self.old.pump }
+        requires client { connection.now.settings.side ≡ Client }
+        ensures same { self.new.caller ≡ record self.old.caller {
+          front = self.new.caller.front;
+          note = self.new.caller.note;
+        } }
+        ensures out { SameProducer self.old.out self.new.out }
+        ensures from { SameConsumer self.old.from self.new.from }
+        ensures sound { OnOk result (IsSound connection.now.settings self.new.conn self.new.pump) }
+        ensures kept { OnOk result ((done : List Line) →
+            IsCarrying self.old.caller done self.old.pump (sent self.old.out)
+            (received self.old.from) → IsCarrying self.new.caller (done ++ line.Open ∷ []) self.new.pump
+            (sent self.new.out) (received self.new.from)) }
+    {
+        if self.pump.is_some() {
+            return Ok(());
+        }
+        let answer = tell(rt, connection, &mut self.caller, &Event::opening())?;
+        let Answer::Opened(conn) = answer else {
+            return Ok(());
+        };
+        self.conn = conn;
+        self.pump = Some(pump_for(alloc, conn, connection.max_in())?);
+        Ok(())
+    }
+
+    /// Cuts the connection that joins the ends, and reads up to the server's answer. What comes before
+    /// it is not brought any more. Where none joins them a line is over, and that is all.
+    pub(crate) fn cut<R: Wait>(
+        &mut self,
+        rt: &R,
+        alloc: Global,
+        connection: &Connection<T>,
+    ) -> Result<(), Stop>
+        requires of { self.old.caller.of ≡ connection.now }
+        requires sound { IsSound connection.now.settings self.old.conn self.old.pump }
+        ensures same { self.new.caller ≡ record self.old.caller {
+          front = self.new.caller.front;
+          note = self.new.caller.note;
+        } }
+        ensures out { SameProducer self.old.out self.new.out }
+        ensures from { SameConsumer self.old.from self.new.from }
+        ensures sound { OnOk result (IsSound connection.now.settings self.new.conn self.new.pump) }
+        ensures kept { OnOk result ((done : List Line) →
+            IsCarrying self.old.caller done self.old.pump (sent self.old.out)
+            (received self.old.from) → IsCarrying self.new.caller (done ++ line.Cut ∷ []) self.new.pump
+            (sent self.new.out) (received self.new.from)) }
+    {
+        let Some(pump) = self.pump.take() else {
+            return push_mark(rt, &mut self.out, Mark::Line);
+        };
+        let mut pump = pump;
+        let conn = self.conn;
+        tell(rt, connection, &mut self.caller, &Event::Cut { conn })?;
+        push_mark(rt, &mut self.out, Mark::Cut)?;
+        is_cut(lose(rt, alloc, &mut pump, &mut self.from)?)
+    }
+
+    /// Tells a moment, in milliseconds.
+    pub(crate) fn tick<R: Wait>(
+        &mut self,
+        rt: &R,
+        connection: &Connection<T>,
+        now: u64,
+    ) -> Result<(), Stop>
+        requires of { self.old.caller.of ≡ connection.now }
+        requires sound { IsSound connection.now.settings self.old.conn self.old.pump }
+        ensures same { self.new.caller ≡ record self.old.caller {
+          front = self.new.caller.front;
+          note = self.new.caller.note;
+        } }
+        ensures out { SameProducer self.old.out self.new.out }
+        ensures from { SameConsumer self.old.from self.new.from }
+        ensures sound { OnOk result (IsSound connection.now.settings self.new.conn self.new.pump) }
+        ensures kept { OnOk result ((done : List Line) →
+            IsCarrying self.old.caller done self.old.pump (sent self.old.out)
+            (received self.old.from) → IsCarrying self.new.caller (done ++ line.Tick now ∷ []) self.new.pump
+            (sent self.new.out) (received self.new.from)) }
+    {
+        tell(rt, connection, &mut self.caller, &Event::Tick { now })?;
+        Ok(())
+    }
+}
