@@ -1,5 +1,5 @@
 -- What holds where a call answered Ok, by facts that hold there.
-use Rattle.std.proofs.Common.{◌≡◌, ◌⊎◌, Bool, true, false, Result, Ok, Err, OnOk, IfOk, IfSome, Option, Some, None, is_some, ℕ, refl, subst}
+use Rattle.std.proofs.Common.{◌≡◌, Bool, true, false, Result, Ok, Err, OnOk, IfOk, Option, Some, None, is_some, ℕ, refl, subst}
 use Rattle.rs_wire.specs.declared.settings.Settings.{Settings}
 use Rattle.tape.specs.declared.answer.Answer.{Answer}
 use Rattle.tape.specs.declared.answer.Answer.TheVariants as answer

@@ -1,4 +1,4 @@
-use Rattle.std.proofs.Common.{◌≡◌, ◌∙◌, ◌++◌, ◌∷◌, [], ℕ, false, List, Option, Some, None, ap, refl, subst, sym}
+use Rattle.std.proofs.Common.{◌≡◌, ◌∙◌, ◌++◌, ◌∷◌, [], ℕ, false, Option, Some, None, refl, subst, sym}
 use Rattle.rtrb.specs.Ring.{received, sent}
 use Rattle.ring.specs.declared.item.Mark.{Mark}
 use Rattle.ring.specs.declared.item.Mark.TheVariants as mark

@@ -1,4 +1,4 @@
-use Rattle.std.proofs.Common.{◌≡◌, ◌∙◌, ◌++◌, ◌∷◌, [], List, Option, ap, subst, sym}
+use Rattle.std.proofs.Common.{Option, subst, sym}
 use Rattle.rtrb.specs.Ring.{received, sent}
 use Rattle.ring.specs.declared.item.Mark.{Mark}
 use Rattle.link_model.specs.Carrying.{Between}

@@ -1,6 +1,5 @@
-use Rattle.std.proofs.Common.{◌≡◌, ◌++◌, ◌∷◌, [], List, ap}
+use Rattle.std.proofs.Common.{ap}
 use Rattle.rtrb.specs.Ring.{received, sent}
-use Rattle.cable_script.specs.declared.line.Line.TheVariants as line
 use Rattle.threaded_client.proofs.Answering.{idle_line, is_idle, on_ok_one}
 use Rattle.threaded_client.proofs.Carrying.{carrying_idle}
 use Rattle.threaded_client.proofs.carrier.ClientCarrier.line.Goals as goal
