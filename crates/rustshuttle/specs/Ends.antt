@@ -1,5 +1,6 @@
 -- What a program sees of an end, and what one call does to it.
 use Rattle.std.specs.Prelude.{◌≡◌, ◌↔◌, ◌≤◌, ◌^◌, ℕ, Bool, true, false, List, [], ◌∷◌, ◌++◌, length, take, drop, Option, Some, None}
+use Rattle.rs_wire.specs.declared.message.Message.{Message}
 use Rattle.rs_wire.specs.declared.words.Side.{Side}
 use Rattle.rs_wire.specs.declared.words.Side.TheVariants.{Client, Server}
 use Rattle.rs_frame.specs.Spelling.{IsSpellable, Spells}
@@ -17,6 +18,10 @@ use Rattle.link_model.specs.Reading.{BeginsBad, IsInFront, IsPart}
 use Rattle.rustshuttle.specs.declared.fault.EndFault.{EndFault}
 use Rattle.rustshuttle.specs.declared.fault.EndFault.TheVariants as fault
 use Rattle.rustshuttle.specs.declared.endpoint.TheConstants.{CALLER}
+
+-- content without metadata
+abbrev pub plain : List ℕ → Message
+plain content = record { metadata = None; content = content }
 
 pub record EndSeen : Type 0 where
   pub session : Seen

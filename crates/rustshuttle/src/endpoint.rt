@@ -19,12 +19,11 @@ ghost use Rattle.session_core.specs.Seen.{IsNoDrawEvent, told_by};
 ghost use Rattle.link_model.specs.Reading.{BeginsBad, IsInFront, IsPart};
 ghost use Rattle.rustshuttle.specs.Ends.{Brings, EndSeen, FaultFor, GivesOut, HasAnswered, HasAppended, HasBrought, HasNone, IsAsBefore, IsDrawFault, IsFaultBy, IsFirst, IsFirstFault, IsNextOf, connection_after, is_bad, left_after, rest_after};
 
+use crate::coming::{fault_of, first_event, is_bad, next_event};
 use crate::fault::EndFault;
-use rs_chunk::{Front, Reader};
-use rs_frame::{decode, rule_number};
+use rs_chunk::Reader;
 use rs_wire::{Call, Checked, OutOfMemory, Side};
 use session_core::Session;
-use session_model::LONG_FRAME;
 use std::alloc::Global;
 use std::marker::Model;
 use tape::{Answer, Event, Tape};
@@ -75,71 +74,6 @@ impl<T: Tape> Model for Endpoint<T> {
     // The reader's limit is that of the settings.
     ghost invariant = { λ e. (e.reader.max_in ≡ e.session.settings.max_in)
         × (e.session.settings.max_in < 2 ^ 24) };
-}
-
-// The first frame of a connection, where it is whole.
-fn first_event(alloc: Global, reader: &Reader) -> Result<Option<Event>, EndFault>
-    requires { reader.now.max_in < 2 ^ 24 }
-    ensures some { IfOk result (λ found. IfSome found
-        (IsFirst reader.now.bytes reader.now.max_in)) }
-    ensures none { IfOk result (λ found. found ≡ None → IsPart reader.now.bytes reader.now.max_in) }
-    ensures fault { IfErr result (IsFirstFault reader.now.bytes reader.now.max_in) }
-{
-    match reader.front() {
-        Front::Part => Ok(None),
-        Front::TooLong(_) => Err(EndFault::NoFirstFrame(LONG_FRAME)),
-        Front::Whole(bytes) => match decode(alloc, bytes) {
-            Ok(first) => Ok(Some(Event::opened_by(first))),
-            Err(fault) => Err(rule_number(fault).map_or(
-                EndFault::OutOfMemory,
-                EndFault::NoFirstFrame,
-            )),
-        },
-    }
-}
-
-// What stands in front on connection `conn`.
-fn next_event(alloc: Global, reader: &Reader, conn: u64) -> Result<Option<Event>, EndFault>
-    requires { reader.now.max_in < 2 ^ 24 }
-    ensures some { IfOk result (λ found. IfSome found
-        (IsInFront conn reader.now.bytes reader.now.max_in)) }
-    ensures none { IfOk result (λ found. found ≡ None → IsPart reader.now.bytes reader.now.max_in) }
-    ensures fault { IfErr result (λ fault. fault ≡ EndFault.OutOfMemory) }
-{
-    match reader.front() {
-        Front::Part => Ok(None),
-        Front::TooLong(_) => Ok(Some(Event::Bad {
-            conn,
-            rule: LONG_FRAME,
-        })),
-        Front::Whole(bytes) => match decode(alloc, bytes) {
-            Ok(frame) => Ok(Some(Event::Came { conn, frame })),
-            Err(fault) => match rule_number(fault) {
-                Some(rule) => Ok(Some(Event::Bad { conn, rule })),
-                None => Err(EndFault::OutOfMemory),
-            },
-        },
-    }
-}
-
-// Why what stands in front stays there, where it does after this answer.
-fn fault_of(answer: &Answer) -> Option<EndFault>
-    ensures some { is_some result ≡ not (leaves answer.now) }
-    ensures cause { IfSome result (IsFaultBy answer.now) }
-{
-    match answer {
-        Answer::OutBusy(queued) => Some(EndFault::Busy(*queued)),
-        Answer::TapeFull => Some(EndFault::TapeFull),
-        Answer::NotYet | Answer::OutOfMemory => Some(EndFault::OutOfMemory),
-        _ => None,
-    }
-}
-
-// Whether bytes came that are no frame.
-fn is_bad(event: &Event) -> bool
-    ensures { result ≡ is_bad event.now }
-{
-    matches!(event, Event::Bad { .. })
 }
 
 impl<T: Tape> Endpoint<T> {
