@@ -4,7 +4,7 @@ ghost use Rattle.std.specs.Prelude.{◌≡◌, ◌<◌, length};
 ghost use Rattle.rs_wire.specs.declared.words.Side.TheVariants.{Server};
 ghost use Rattle.server.specs.Opening.{AreOf};
 
-use super::slots::{PLAIN, Plan, Shared, link, serve, shared, slots};
+use super::slots::{PLAIN, Plan, Shared, link, make_shared, serve, slots};
 use super::tokens::{RESUME, RESUMING_SETUP};
 use conn::{Caller, Connection};
 use outside::After;
@@ -222,7 +222,7 @@ where
     H::Tape: Drop,
 {
     for row in ROWS {
-        let shared = shared(rt, alloc, row.resume, row.lease);
+        let shared = make_shared(rt, alloc, row.resume, row.lease);
         let (connections, mut callers) = slots(rt, alloc, shelf, row.resume, row.lease);
         play(rt, alloc, &connections, &mut callers, &shared, row);
     }

@@ -126,7 +126,7 @@ pub fn blob<R: Abort>(rt: &R, alloc: Global, bytes: &[u8]) -> Blob {
 }
 
 /// What the slots of a server share that resumes or not, and has leases or not.
-pub fn shared<R: Abort>(rt: &R, alloc: Global, resume: bool, lease: bool) -> Shared
+pub fn make_shared<R: Abort>(rt: &R, alloc: Global, resume: bool, lease: bool) -> Shared
     ensures { result.settings ≡ record (usual Server) { resume = resume; lease = lease } }
 {
     let mut routes = Routes::new(alloc);

@@ -4,7 +4,7 @@ ghost use Rattle.std.specs.Prelude.{◌≡◌, length};
 ghost use Rattle.rs_wire.specs.declared.words.Side.TheVariants.{Server};
 ghost use Rattle.server.specs.Opening.{AreOf};
 
-use super::slots::{PLAIN, Plan, Shared, blob, link, serve, shared, slots};
+use super::slots::{PLAIN, Plan, Shared, blob, link, make_shared, serve, slots};
 use conn::{Caller, Connection};
 use outside::After;
 use rs_wire::{Gone, SetupFault};
@@ -122,7 +122,7 @@ where
     H::Tape: Drop,
 {
     for call in 0..CALLS {
-        let shared = shared(rt, alloc, true, false);
+        let shared = make_shared(rt, alloc, true, false);
         let (connections, mut callers) = slots(rt, alloc, shelf, true, false);
         fail_and_resume(rt, alloc, &connections, &mut callers, &shared, call);
     }
@@ -218,7 +218,7 @@ fn share_on<R: Abort + Wait, H: Shelf>(rt: &R, alloc: Global, shelf: &mut H)
 where
     H::Tape: Drop,
 {
-    let shared = shared(rt, alloc, true, false);
+    let shared = make_shared(rt, alloc, true, false);
     let (connections, mut callers) = slots(rt, alloc, shelf, true, false);
     share_token(rt, alloc, &connections, &mut callers, &shared);
 }
