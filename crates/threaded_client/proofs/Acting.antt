@@ -1,7 +1,6 @@
 -- What the carrier of the client keeps where it opens, cuts and ticks. Entries stand newest first.
 use Rattle.std.proofs.lemmas.Bool.Decides.{nat_tests}
-use Rattle.std.proofs.Common.{◌≡◌, ◌≢◌, ◌<◌, ◌≤◌, ◌+◌, ◌==◌, ◌⊎◌, ◌||◌, inl, inr, ◌∙◌, ℕ, Bool, true, false, cond, List, [], ◌∷◌, ◌++◌, Option, Some, None, IfSome, refl, ap, sym, subst, arith, append-nil}
-use Rattle.std.specs.List.{AllByRecursion}
+use Rattle.std.proofs.Common.{◌≡◌, ◌≢◌, ◌<◌, ◌≤◌, ◌+◌, ◌==◌, ◌⊎◌, ◌||◌, inl, inr, ◌∙◌, ℕ, Bool, true, false, cond, List, [], ◌∷◌, ◌++◌, Option, Some, None, refl, ap, sym, subst, arith}
 use Rattle.rs_wire.specs.declared.settings.Settings.{Settings}
 use Rattle.tape.specs.declared.entry.Entry.{Entry}
 use Rattle.tape.specs.declared.event.Event.{Event}
@@ -23,10 +22,10 @@ use Rattle.cable_script.specs.declared.line.Line.TheVariants as line
 use Rattle.ring.specs.declared.item.Item.{Item}
 use Rattle.ring.specs.Parts.{cuts, ends, part}
 use Rattle.threaded_model.specs.Threaded.{act, acts, has_cut, is_act, is_asked, joins_after}
-use Rattle.carriers.specs.Alone.{IsOurs, NeverAsks, linked}
+use Rattle.carriers.specs.Alone.{NeverAsks, linked}
 use Rattle.threaded_client.specs.Following.{ActsTo}
-use Rattle.threaded_client.specs.Carrying.{ClientCarries, Former, IsKnown, IsStill, Joining, Joins, conn_of}
-use Rattle.carriers.proofs.Items.{Cuts, Grows}
+use Rattle.threaded_client.specs.Carrying.{ClientCarries, Former, IsStill, Joins, conn_of}
+use Rattle.carriers.proofs.Items.{Cuts}
 use Rattle.threaded_client.proofs.Following.{acts_more, acts_one}
 use Rattle.carriers.proofs.Blocks.{is_first, keeps_block, accepted_block}
 use Rattle.threaded_client.proofs.Client.{former_block, still_block}

@@ -1,5 +1,5 @@
 -- What the carrier of the client keeps, by what its caller knows. Entries stand newest first.
-use Rattle.std.proofs.Common.{◌≡◌, ◌<◌, ◌⊎◌, inl, inr, ◌∙◌, ℕ, true, false, List, [], ◌∷◌, ◌++◌, Option, Some, None, refl, ap, sym, subst, append-nil}
+use Rattle.std.proofs.Common.{◌≡◌, ◌<◌, ◌∙◌, ℕ, true, false, List, [], ◌∷◌, ◌++◌, Option, Some, None, refl, ap, sym, subst, append-nil}
 use Rattle.std.specs.List.{AllByRecursion}
 use Rattle.rs_wire.specs.declared.settings.Settings.{Settings}
 use Rattle.tape.specs.Told.{entry_of}
@@ -22,14 +22,13 @@ use Rattle.ring.specs.declared.item.Mark.{Mark}
 use Rattle.ring.specs.declared.item.Mark.TheVariants as mark
 use Rattle.ring.specs.declared.item.Item.{Item}
 use Rattle.ring.specs.declared.item.Item.TheVariants as item
-use Rattle.ring.specs.Parts.{bytes_of, cuts, part}
 use Rattle.threaded_model.specs.Threaded.{act, joins_after}
 use Rattle.carriers.specs.Alone.{IsOurs, OthersAsk, linked}
 use Rattle.carriers.specs.Moves.{HasGiven, HasHeard, HasLost, HasTaken, HasTold}
 use Rattle.carriers.proofs.Items.{Cuts, Grows, IsPlain, cuts_at_once, cuts_now, grows_bytes, grows_mark, grows_none, grows_read}
 use Rattle.carriers.proofs.Blocks.{accepted_block, asked_spares, keeps_block, ours_are}
 use Rattle.carriers.proofs.Alone.{IsNone, asks_back, gained, gained_others, joined_others, moves_alone}
-use Rattle.threaded_client.specs.Carrying.{ClientCarries, IsCarrying, Joining, Joins, conn_of}
+use Rattle.threaded_client.specs.Carrying.{ClientCarries, IsCarrying, Joins, conn_of}
 use Rattle.threaded_client.proofs.Client.{client_adds, client_idle}
 use Rattle.threaded_client.specs.Handing.{ClientHands}
 use Rattle.threaded_client.proofs.Acting.{client_begun, client_cut, client_open, client_refused, client_tick, new_pump}

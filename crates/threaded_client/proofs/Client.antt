@@ -1,26 +1,20 @@
 -- What the carrier of the client keeps, as entries are added and items follow. Entries stand newest first.
 use Rattle.std.proofs.lemmas.Bool.Decides.{nat_tests}
-use Rattle.std.proofs.Common.{◌≡◌, ◌≢◌, ◌<◌, ◌≤◌, ◌+◌, ◌==◌, ◌⊎◌, inl, inr, ◌∙◌, ℕ, Bool, true, false, cond, List, [], ◌∷◌, ◌++◌, Option, Some, None, IfSome, refl, ap, sym, subst, arith, append-nil}
+use Rattle.std.proofs.Common.{◌≡◌, ◌<◌, ◌==◌, ◌⊎◌, inl, inr, ◌∙◌, ℕ, true, false, List, [], ◌∷◌, ◌++◌, Option, Some, None, IfSome, refl, ap, sym, subst, arith}
 use Rattle.std.specs.List.{AllByRecursion}
 use Rattle.rs_wire.specs.declared.settings.Settings.{Settings}
 use Rattle.tape.specs.declared.entry.Entry.{Entry}
 use Rattle.tape.specs.declared.event.Event.{Event}
-use Rattle.tape.specs.declared.event.Event.TheVariants as event
-use Rattle.tape.specs.declared.answer.Answer.{Answer}
-use Rattle.tape.specs.declared.answer.Answer.TheVariants as answer
-use Rattle.session_model.specs.Frames.{came, first_bad}
-use Rattle.session_model.specs.Joined.{is_accepted}
 use Rattle.link_model.specs.Carrying.{Between, Keeps, is_of}
 use Rattle.cable_script.specs.declared.line.Line.{Line}
-use Rattle.cable_script.specs.declared.line.Line.TheVariants as line
 use Rattle.ring.specs.declared.item.Item.{Item}
-use Rattle.ring.specs.Parts.{cuts, ends, part}
-use Rattle.threaded_model.specs.Threaded.{act, acts, has_cut, is_act, is_asked, joins_after}
-use Rattle.carriers.specs.Alone.{IsOurs, NeverAsks, linked}
+use Rattle.ring.specs.Parts.{cuts, part}
+use Rattle.threaded_model.specs.Threaded.{act, acts, is_act, is_asked}
+use Rattle.carriers.specs.Alone.{IsOurs, linked}
 use Rattle.threaded_client.specs.Following.{ActsTo}
-use Rattle.threaded_client.specs.Carrying.{ClientCarries, Former, IsKnown, IsStill, Joining, Joins, conn_of}
-use Rattle.carriers.proofs.Items.{Cuts, Grows}
-use Rattle.threaded_client.proofs.Following.{acts_block, acts_idle, acts_more, acts_one}
+use Rattle.threaded_client.specs.Carrying.{ClientCarries, Former, IsStill, Joins, conn_of}
+use Rattle.carriers.proofs.Items.{Grows}
+use Rattle.threaded_client.proofs.Following.{acts_block, acts_idle}
 use Rattle.carriers.proofs.Blocks.{accepted_block, asked_acts, asked_first, asked_spares, bad_block, came_block, cut_block, is_first, keeps_block, moves_acts, moves_asked, moves_first, never_asks_block, of_one, ours_are}
 
 -- the event moves bytes of the connection that joins the ends

@@ -1,5 +1,5 @@
 -- The lines that the client follows, one more at a time.
-use Rattle.std.proofs.Common.{◌≡◌, ◌⊎◌, inl, inr, ◌∙◌, ℕ, Bool, true, false, List, [], ◌∷◌, ◌++◌, Option, Some, None, refl, ap, sym, subst, append-nil}
+use Rattle.std.proofs.Common.{◌≡◌, inl, inr, ◌∙◌, ℕ, true, false, List, [], ◌∷◌, ◌++◌, Option, Some, None, refl, ap, subst, append-nil}
 use Rattle.std.specs.List.{AllByRecursion}
 use Rattle.tape.specs.declared.entry.Entry.{Entry}
 use Rattle.cable_script.specs.declared.line.Line.{Line}

@@ -1,6 +1,6 @@
 -- What the carrier of the client hands back, by what it keeps. Entries stand newest first.
 use Rattle.std.proofs.lemmas.Bool.Decides.{nat_tests}
-use Rattle.std.proofs.Common.{◌≡◌, ◌≢◌, ◌<◌, ◌≤◌, ◌+◌, ◌==◌, ◌⊎◌, inl, inr, ◌∙◌, ℕ, Bool, true, false, cond, nat_lt, List, [], ◌∷◌, ◌++◌, Option, Some, None, IfSome, refl, ap, sym, subst, arith, append-nil}
+use Rattle.std.proofs.Common.{◌≡◌, ◌≢◌, ◌<◌, ◌≤◌, ◌==◌, ◌⊎◌, inl, inr, ◌∙◌, ℕ, true, false, cond, nat_lt, List, [], ◌∷◌, ◌++◌, Option, Some, None, IfSome, refl, ap, sym, subst, arith, append-nil}
 use Rattle.rs_wire.specs.declared.settings.Settings.{Settings}
 use Rattle.tape.specs.declared.entry.Entry.{Entry}
 use Rattle.session_model.specs.Frames.{came, first_bad, given, was_opened}
@@ -11,11 +11,11 @@ use Rattle.cable_script.specs.declared.line.Line.{Line}
 use Rattle.ring.specs.declared.item.Item.{Item}
 use Rattle.ring.specs.declared.item.Item.TheVariants as item
 use Rattle.ring.specs.declared.item.Mark.TheVariants as mark
-use Rattle.ring.specs.Parts.{IsEnded, cuts, ends, part}
+use Rattle.ring.specs.Parts.{cuts, part}
 use Rattle.threaded_model.specs.Handed.{ClientKeeps, IsReadOn}
 use Rattle.threaded_model.specs.Threaded.{acts, has_cut}
 use Rattle.carriers.specs.Alone.{linked}
-use Rattle.threaded_client.specs.Carrying.{ClientCarries, IsKnown, IsStill, Joining, Joins, conn_of}
+use Rattle.threaded_client.specs.Carrying.{ClientCarries, Joins, conn_of}
 use Rattle.threaded_client.specs.Handing.{ClientHands, IsPresent}
 use Rattle.carriers.proofs.Items.{cuts_both, part_later, part_marked}
 use Rattle.threaded_client.proofs.Following.{acts_of}

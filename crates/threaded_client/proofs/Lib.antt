@@ -3,3 +3,4 @@ pub mod Client
 pub mod Acting
 pub mod Handing
 pub mod Carrying
+pub mod Answering

@@ -1,12 +1,10 @@
 -- What the carrier of the client hands back. Entries stand newest first.
-use Rattle.std.specs.Prelude.{◌≡◌, ◌<◌, ℕ, true, List, ◌∷◌, ◌++◌, [], Option, Some, None, IfSome}
+use Rattle.std.specs.Prelude.{◌≡◌, ◌<◌, ℕ, true, List, [], Option, None, IfSome}
 use Rattle.rs_wire.specs.declared.settings.Settings.{Settings}
 use Rattle.tape.specs.declared.entry.Entry.{Entry}
 use Rattle.link_model.specs.Carrying.{Between, Keeps}
 use Rattle.cable_script.specs.declared.line.Line.{Line}
 use Rattle.ring.specs.declared.item.Item.{Item}
-use Rattle.ring.specs.declared.item.Item.TheVariants as item
-use Rattle.ring.specs.declared.item.Mark.TheVariants as mark
 use Rattle.ring.specs.Parts.{IsEnded, IsFinished, cuts, part}
 use Rattle.threaded_model.specs.Handed.{ClientKeeps}
 use Rattle.threaded_model.specs.Threaded.{Acts, acts, has_cut}

@@ -51,7 +51,11 @@ impl<T: Tape> ClientCarrier<T> {
             Line::Cut => self.cut(rt, alloc, connection),
             Line::Open => self.open(rt, alloc, connection),
             Line::Tick { now } => self.tick(rt, connection, *now),
-            Line::Ask { .. } | Line::Many { .. } | Line::Drop | Line::Late { .. } => Ok(()),
+            // The calls are another caller's, and a connection is given up at both ends or at none.
+            Line::Ask { .. } => Ok(()),
+            Line::Many { .. } => Ok(()),
+            Line::Drop => Ok(()),
+            Line::Late { .. } => Ok(()),
         }
     }
 

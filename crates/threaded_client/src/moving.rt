@@ -121,8 +121,8 @@ impl<T: Tape> ClientCarrier<T> {
         ensures out { SameProducer self.old.out self.new.out }
         ensures kept { OnOk result ((done : List Line) →
             IsCarrying self.old.caller done self.old.pump (sent self.old.out)
-            (received self.old.from) → IsCarrying self.old.caller done self.old.pump
-            (sent self.new.out) (received self.old.from)) }
+            (received self.old.from) → IsCarrying self.new.caller done self.new.pump
+            (sent self.new.out) (received self.new.from)) }
     {
         push_mark(rt, &mut self.out, mark_of(more))
     }
