@@ -1,0 +1,15 @@
+//! What a client's call asks, prints and leaves: definitions over the entries of its session, the
+//! newest first, and over the links that were put back.
+//!
+//! `specs/Saying.antt` says what a call prints and when its end has come, `Order.antt` in which order
+//! it is asked, `Timing.antt` how often it ticks, `Leaving.antt` what holds of each link that was put
+//! back, and when no try is left, and `Ran.antt` what each way says in which a call comes to its end.
+//! The promise to the layer above is a law: what was taken of a stream is a prefix of what was
+//! delivered on it, and all of it where a Take gets nothing.
+//!
+//! Left out: the calling end itself, which stands above.
+#![tactic(auto)]
+
+mod laws;
+
+pub use laws::takes_are_delivered;
