@@ -1,1 +1,5 @@
 pub mod Takes
+pub mod Ordering
+pub mod Links
+pub mod Ending
+pub mod Present
