@@ -3,3 +3,4 @@ pub mod Ordering
 pub mod Links
 pub mod Ending
 pub mod Present
+pub mod Standing

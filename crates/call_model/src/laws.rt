@@ -1,6 +1,6 @@
 //! Laws of calls. Entries stand newest first.
 
-ghost use Rattle.std.specs.Prelude.{◌≡◌, ◌<◌, ◌≤◌, ◌+◌, ◌++◌, ◌∷◌, [], ℕ, length, List, None, false, true};
+ghost use Rattle.std.specs.Prelude.{◌≡◌, ◌<◌, ◌≤◌, ◌+◌, ◌++◌, ◌∷◌, [], ℕ, Option, length, List, None, false, true};
 ghost use Rattle.rs_wire.specs.declared.settings.Settings.{Settings};
 ghost use Rattle.rs_wire.specs.declared.call.Call.TheVariants as call;
 ghost use Rattle.tape.specs.declared.entry.Entry.{Entry};
@@ -13,10 +13,11 @@ ghost use Rattle.session_model.specs.Life.{begun, openings};
 ghost use Rattle.std.specs.List.{AllByRecursion};
 ghost use Rattle.outside.specs.Links.{Shown};
 ghost use Rattle.session_model.specs.Legal.{Legal};
-ghost use Rattle.call_model.specs.Order.{Asking, InOrder, is_taken, moves_only, next_call};
+ghost use Rattle.call_model.specs.Order.{Asking, InOrder, comes, is_taken, moves_only, next_call};
 ghost use Rattle.link_model.specs.Carrying.{Between, Keeps};
 ghost use Rattle.link_model.specs.Leaving.{IsBroken, IsReadOut, Left};
 ghost use Rattle.call_model.specs.Present.{HasJoined};
+ghost use Rattle.call_model.specs.Standing.{IsUnended, Stands};
 ghost use Rattle.call_model.specs.Leaving.{AreCarried, AreLeft, AreTimely};
 ghost use Rattle.call_model.specs.Ran.{FindsDead};
 ghost use Rattle.rs_wire.specs.declared.words.Side.TheVariants.{Client};
@@ -59,6 +60,15 @@ pub fn broken_links_may_be_left()
     ensures { (g : Settings) (past : List Entry) (link : Shown) (c : ℕ) (b : Between) →
         Legal g past → HasJoined g past c → b.conn ≡ c → Keeps g past link b →
         IsReadOut g past c b.rest → IsBroken link → Left g past link c }
+{}
+
+/// Where a call stands, it stands once something came.
+pub fn calls_go_on()
+    ensures { (g : Settings) (w : Asking) (moments : Option (List ℕ)) (more past : List Entry)
+        (stream : Option ℕ) (fresh : ℕ) →
+        AllByRecursion (λ (x : Entry). comes x.event ≡ true) more → Legal g (more ++ past) →
+        next_call w past ≡ None → Stands w moments past stream fresh × IsUnended past →
+        Stands w moments (more ++ past) stream fresh × IsUnended (more ++ past) }
 {}
 
 /// What was taken of a stream is what its words say; it is a prefix of what was delivered on it,

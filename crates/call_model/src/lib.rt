@@ -12,4 +12,4 @@
 
 mod laws;
 
-pub use laws::{broken_links_may_be_left, dead_peers_are_late, links_stay_left, order_goes_on, takes_are_delivered};
+pub use laws::{broken_links_may_be_left, calls_go_on, dead_peers_are_late, links_stay_left, order_goes_on, takes_are_delivered};
