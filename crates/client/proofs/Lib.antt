@@ -1,0 +1,4 @@
+pub mod Alone
+pub mod Says
+pub mod Sent
+pub mod OverTurns
