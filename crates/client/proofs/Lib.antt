@@ -1,4 +1,10 @@
 pub mod Alone
-pub mod Says
-pub mod Sent
+pub mod Opening
 pub mod OverTurns
+pub mod OverTakes
+pub mod OverEnds
+pub mod OverSteps
+pub mod OverLinks
+pub mod OverRuns
+pub mod OverFollows
+pub mod OverStarts

@@ -6,6 +6,8 @@ use Rattle.std.proofs.lemmas.List.{length-append, length-take}
 use Rattle.std.specs.List.{AllByRecursion}
 use Rattle.std.proofs.Common.{◌≡◌, ◌≢◌, ◌<◌, ◌≤◌, ◌+◌, ◌-◌, ◌^◌, ◌==◌, ◌&&◌, ◌⊎◌, inl, inr, ◌∙◌, not, ℕ, Bool, true, false, true≢false, List, [], ◌∷◌, ◌++◌, length, Option, Some, None, IfSome, is_none, is_some, refl, sym, ap, subst, arith, append-nil, append_assoc}
 use Rattle.rs_wire.specs.declared.settings.Settings.{Settings}
+use Rattle.rs_wire.specs.declared.words.Kind.{Kind}
+use Rattle.rs_wire.specs.declared.words.Kind.TheVariants as kind
 use Rattle.rs_wire.specs.declared.words.Side.TheVariants.{Client}
 use Rattle.outside.specs.Causes.{IsMoment, Rose}
 use Rattle.outside.specs.Links.{NoneFell, Shown}
@@ -39,14 +41,15 @@ use Rattle.pump.specs.Turns.{Arrives, Begins, DrawsWhere, GoesOn, HasDrawn, IsKe
 use Rattle.call_model.specs.Order.{Asking, MayFollow, comes, is_leased, is_request, is_taken, moves_only, next_call, owes_request}
 use Rattle.call_model.specs.Timing.{HasMoment}
 use Rattle.call_model.specs.Ran.{FindsDead, HasDied, HasPlace}
-use Rattle.call_model.specs.Saying.{started}
+use Rattle.call_model.specs.Saying.{end_line, got_in, got_of, lines_of, said, started}
 use Rattle.call_model.specs.Standing.{IsPaid, IsUnended, Stands}
 use Rattle.call_model.specs.Present.{HasDrawnAll, HasJoined, IsServed}
-use Rattle.call_model.proofs.Ending.{dead_late, died_here, died_more}
-use Rattle.call_model.proofs.Ordering.{next_none, owes_same}
+use Rattle.call_model.proofs.Ending.{dead_late, delivered_same, died_here, died_more, says_none, tick_says_none}
+use Rattle.call_model.proofs.Ordering.{got_same, next_none, owes_same, started_same}
 use Rattle.call_model.proofs.Present.{all_given, heard_here, joined_on, left_here, nothing_in, served_drawn, still_on}
 use Rattle.call_model.proofs.Standing.{arrivals_stand, is_plain, plain_on}
 use Rattle.client.specs.Alone.{AreNamed, IsOwn, IsSole}
+use Rattle.client.specs.Takes.{IsTakenIn}
 use Rattle.client.specs.Turning.{HasTurned, Pumps, SaysOf}
 use Rattle.client.proofs.Alone.{Adds, IsSame, all_rest, follows_alone, own_before, own_call, own_lawful, own_named, rest_lawful}
 
@@ -84,7 +87,7 @@ all_as : {P Q : Entry → Type 0} → ((x : Entry) → P x → Q x) → (xs : Li
 all_as f [] h = tt
 all_as f (x ∷ xs) h = (f x h.0, all_as f xs h.1)
 
-all_both : (P : Entry → Type 0) (xs ys : List Entry) → AllByRecursion P xs → AllByRecursion P ys → AllByRecursion P (xs ++ ys)
+pub all_both : (P : Entry → Type 0) (xs ys : List Entry) → AllByRecursion P xs → AllByRecursion P ys → AllByRecursion P (xs ++ ys)
 all_both P [] ys a b = b
 all_both P (x ∷ xs) ys a b = (a.0, all_both P xs ys a.1 b)
 
@@ -110,16 +113,61 @@ record At (w : Asking) (moments : Option (List ℕ)) (g : Settings) (past new : 
   calm : still → displaced new c ≡ false
   next : next_call w new ≡ None
   owes : owes_request new ≡ owes_request past
+  takes : (k : Kind) → IsTakenIn k g past → IsTakenIn k g new
+  same : (k : Kind) → said k false new ≡ said k false past
 
 here : (w : Asking) (moments : Option (List ℕ)) (g : Settings) (past : List Entry) (c : ℕ) (stream : Option ℕ) (fresh : ℕ) → HasPlace past → Stands w moments past stream fresh → IsUnended past → HasJoined g past c → displaced past c ≡ false → At w moments g past past c stream fresh (Unit {0})
 here w moments g past c stream fresh place stands unended joined still = record {
-  more = []; on = refl; only = tt; stands = stands; unended = unended; joined = joined; calm = λ u. still; next = stands.free place; owes = refl;
+  more = []; on = refl; only = tt; stands = stands; unended = unended; joined = joined; calm = λ u. still; next = stands.free place; owes = refl; takes = λ k whole. whole; same = λ k. refl;
 }
+
+-- what is said is the same, where an entry neither asks for the stream nor takes of it
+pub said_still : (g : Settings) (past : List Entry) (x : Entry) (k : Kind) → Legal g (x ∷ past) → is_request x.event ≡ false → ((s : ℕ) → got_in s x.answer x.event ≡ []) → said k false (x ∷ past) ≡ said k false past
+said_still g past x k legal asks gets = ap (λ (l : List ℕ). l ++ end_line k false) (ap (λ (o : Option ℕ). lines_of (got_of (x ∷ past) o)) (started_same g past x legal asks) ∙ by (started past))
+  where
+    by : (o : Option ℕ) → lines_of (got_of (x ∷ past) o) ≡ lines_of (got_of past o)
+    by None = refl
+    by (Some s) = ap lines_of (got_same past x s (gets s))
+
+arrives_gets : (c : ℕ) (a : Answer) (e : Event) (s : ℕ) → Arrives c e → got_in s a e ≡ []
+arrives_gets c (answer.Got d) (event.Came conn f) s is = refl
+arrives_gets c (answer.Got d) (event.Bad conn rule) s is = refl
+arrives_gets c (answer.Got d) _ s is = absurd is
+arrives_gets c _ e s is = refl
+
+arrives_asks : (c : ℕ) (e : Event) → Arrives c e → is_request e ≡ false
+arrives_asks c (event.Came conn f) is = refl
+arrives_asks c (event.Bad conn rule) is = refl
+arrives_asks c _ is = absurd is
+
+arrivals_said : (g : Settings) (k : Kind) (more past : List Entry) (c : ℕ) → Legal g (more ++ past) → AllByRecursion (λ (x : Entry). Arrives c x.event) more → said k false (more ++ past) ≡ said k false past
+unfolding Legal
+arrivals_said g k [] past c legal all = refl
+arrivals_said g k (x ∷ more) past c legal all = said_still g (more ++ past) x k legal (arrives_asks c x.event all.0) (λ s. arrives_gets c x.answer x.event s all.0) ∙ arrivals_said g k more past c legal.0 all.1
+
+-- what was taken in whole is so still, where an entry says nothing of a stream
+pub taken_still : (g : Settings) (past : List Entry) (x : Entry) (k : Kind) → Legal g (x ∷ past) → is_request x.event ≡ false → ((s : ℕ) → got_in s x.answer x.event ≡ []) → says_none x.answer x.event → IsTakenIn k g past → IsTakenIn k g (x ∷ past)
+taken_still g past x kind.Fnf legal asks gets silent whole = tt
+taken_still g past x _ legal asks gets silent whole =
+    λ s on. got_same past x s (gets s) ∙ (whole s (sym (started_same g past x legal asks) ∙ on) ∙ sym (delivered_same g past x s silent))
+
+plain_gets : (a : Answer) (e : Event) (s : ℕ) → is_plain e ≡ true → got_in s a e ≡ []
+plain_gets (answer.Got d) (event.Asked c) s is = absurd (true≢false (sym is))
+plain_gets (answer.Got d) e s is = refl
+plain_gets _ e s is = refl
+
+draw_says_none : (a : Answer) (c room : ℕ) → says_none a (event.Draw c room)
+draw_says_none answer.Handled c room covered held = refl
+draw_says_none (answer.Started id) c room covered held = refl
+draw_says_none answer.Done c room covered held = refl
+draw_says_none (answer.Got d) c room covered held = refl
+draw_says_none (answer.GotJob j) c room covered held = refl
+draw_says_none _ c room covered held = refl
 
 -- a plain entry more, that moves no other bytes
 plain_more : (w : Asking) (moments : Option (List ℕ)) (g : Settings) (past mid : List Entry) (x : Entry) (c : ℕ) (stream : Option ℕ) (fresh : ℕ) (P Q : Type 0) → HasPlace mid → Legal g (x ∷ mid) → is_plain x.event ≡ true → MayFollow w mid x.event → HasMoment moments x.event
-    → moves_only c x.event ≡ true → ends c x.event ≡ false → openings_in x.event ≡ 0 → is_request x.event ≡ false → is_leased x.event x.answer ≡ false → is_taken x.event x.answer ≡ false → (Q → P × (takes_place x.answer ≡ false)) → At w moments g past mid c stream fresh P → At w moments g past (x ∷ mid) c stream fresh Q
-plain_more w moments g past mid x c stream fresh P Q place legal plain may timed only stays none asks leases takes calm h =
+    → moves_only c x.event ≡ true → ends c x.event ≡ false → openings_in x.event ≡ 0 → is_request x.event ≡ false → is_leased x.event x.answer ≡ false → is_taken x.event x.answer ≡ false → says_none x.answer x.event → (Q → P × (takes_place x.answer ≡ false)) → At w moments g past mid c stream fresh P → At w moments g past (x ∷ mid) c stream fresh Q
+plain_more w moments g past mid x c stream fresh P Q place legal plain may timed only stays none asks leases takes silent calm h =
     let s = plain_on g w moments mid x stream fresh place plain may timed legal (h.stands, h.unended) in
     record {
       more = x ∷ h.more;
@@ -131,6 +179,8 @@ plain_more w moments g past mid x c stream fresh P Q place legal plain may timed
       calm = λ q. still_on mid x c (calm q).1 (h.calm (calm q).0);
       next = next_none w mid x h.stands.begins takes;
       owes = owes_same mid x asks leases ∙ h.owes;
+      takes = λ k whole. taken_still g mid x k legal asks (λ s. plain_gets x.answer x.event s plain) silent (h.takes k whole);
+      same = λ k. said_still g mid x k legal asks (λ s. plain_gets x.answer x.event s plain) ∙ h.same k;
     }
 
 tick_calm : (g : Settings) (past : List Entry) (a : Answer) (now : ℕ) → Means g (facts g past) (event.Tick now) a → goes_on_after a ≡ true → takes_place a ≡ false
@@ -170,14 +220,14 @@ tick_at w moments was c stream fresh now a ticked place moment lawful paid adds 
     x = entry_of was.number (event.Tick now) a
     by : ((leaves a ≡ false) × (ticked ≡ was.front)) ⊎ ((leaves a ≡ true) × (ticked ≡ x ∷ was.front) × HasPlace was.front) → At w moments g was.front ticked c stream fresh (goes_on_after a ≡ true)
     by (inl none) = subst (λ (l : List Entry). At w moments g was.front l c stream fresh (goes_on_after a ≡ true)) (sym none.1) (record {
-      more = h.more; on = h.on; only = h.only; stands = h.stands; unended = h.unended; joined = h.joined; calm = λ on. h.calm tt; next = h.next; owes = h.owes;
+      more = h.more; on = h.on; only = h.only; stands = h.stands; unended = h.unended; joined = h.joined; calm = λ on. h.calm tt; next = h.next; owes = h.owes; takes = h.takes; same = h.same;
     })
     by (inr some) =
       let legal : Legal g (x ∷ was.front) = subst (Legal g) some.1 lawful.legal in
       let quiet = quiet_tick a now in
       subst (λ (l : List Entry). At w moments g was.front l c stream fresh (goes_on_after a ≡ true)) (sym some.1)
       (plain_more w moments g was.front was.front x c stream fresh (Unit {0}) (goes_on_after a ≡ true) place legal refl (may_tick w was.front moments stream fresh now place h.stands paid) moment
-        refl refl refl refl quiet.0 quiet.1 (λ on. (tt, tick_calm g was.front a now (last_means g x was.front legal) on)) h)
+        refl refl refl refl quiet.0 quiet.1 (tick_says_none a now) (λ on. (tt, tick_calm g was.front a now (last_means g x was.front legal) on)) h)
 
 draw_at : (w : Asking) (moments : Option (List ℕ)) (g : Settings) (past : List Entry) (was : Knowledge) (c : ℕ) (stream : Option ℕ) (fresh : ℕ) (a : Answer) (begun : List Entry) (P : Type 0) → was.of.settings ≡ g → IsLawful g begun → Adds was (event.Draw c PIECE) a begun
     → At w moments g past was.front c stream fresh P → At w moments g past begun c stream fresh P
@@ -192,7 +242,7 @@ draw_at w moments g past was c stream fresh a begun P same lawful adds h = by ad
       let quiet = quiet_draw a c PIECE in
       let mine : (c == c) ≡ true = grind (arith, nat_tests) in
       subst (λ (l : List Entry). At w moments g past l c stream fresh P) (sym some.1)
-      (plain_more w moments g past was.front x c stream fresh P P some.2 legal refl tt tt mine refl refl refl quiet.0 quiet.1 (λ p. (p, draw_calm g was.front a c PIECE (last_means g x was.front legal))) h)
+      (plain_more w moments g past was.front x c stream fresh P P some.2 legal refl tt tt mine refl refl refl quiet.0 quiet.1 (draw_says_none a c PIECE) (λ p. (p, draw_calm g was.front a c PIECE (last_means g x was.front legal))) h)
 
 -- ---- a whole turn
 
@@ -234,7 +284,7 @@ died moments was new last client lawful n = by n.entry.event refl n.is
         (died_more g n.until.0 (n.entry ∷ n.before) last (died_here g n.before n.entry last (dead_late g n.before n.entry now last client lawful_there is n.answered)))
     by _ is tick = absurd tick
 
-rose_some : (old new : ℕ) → Rose old new → 0 < new
+pub rose_some : (old new : ℕ) → Rose old new → 0 < new
 rose_some old new (inl lt) = omega arith
 rose_some old new (inr is) = omega arith
 
@@ -321,7 +371,7 @@ says_by moments was now s t c d (turned.Dead last) client lawful cause lull left
 says_by moments was now s t c d (turned.Moved given taken) client lawful cause lull left = tt
 says_by moments was now s t c d (turned.Busy q) client lawful cause lull left = tt
 says_by moments was now s t c d (turned.Displaced n) client lawful cause lull left = tt
-says_by moments was now s t c d turned.TapeFull client lawful cause lull left = tt
+says_by moments was now s t c d turned.TapeFull client lawful cause lull left = cause
 says_by moments was now s t c d turned.OutOfMemory client lawful cause lull left = tt
 
 -- ---- all of it
@@ -401,6 +451,8 @@ has_turned w moments was now s t b d stream fresh r client same limit own p = (t
           served = served_now g now.front t c d (subst (λ (l : List Entry). HasJoined g l c) (sym none) served.joined) p.conn k;
           still = λ late place. absurd (off place);
           paid = λ lull place. absurd (off place);
+          takes = λ lull k whole. subst (IsTakenIn k g) (sym none) whole;
+          same = λ k. ap (said k false) none;
           says = says_by moments was now s t c d r client lawful p.cause (λ lull place. absurd (off place)) (λ late broken place. absurd (off place));
         }
     by stands unended paid served still (inl place) =
@@ -422,6 +474,8 @@ has_turned w moments was now s t b d stream fresh r client same limit own p = (t
           served = served_now g now.front t c d joined p.conn k;
           still = λ late room. calm late;
           paid = λ lull. lulled_paid stands paid drew (p.turned.still lull).0;
+          takes = λ lull k whole. subst (IsTakenIn k g) (sym (follows_alone was.names begun now.front (p.turned.still lull).0 (own_named was now same own))) (drew.takes k whole);
+          same = λ k. ap (said k false) back ∙ (arrivals_said g k arrivals.more begun c (subst (IsLawful g) arrivals.on lawful).legal come ∙ drew.same k);
           says = says_by moments was now s t c d r client lawful p.cause
             (λ lull room. (let late : is_early r ≡ false = ap is_early lull in (
               heard_here g now.front t c d lawful.legal joined (calm late) p.conn k (out late),

@@ -1,6 +1,7 @@
 -- What a turn of a call comes to. Entries stand newest first.
-use Rattle.std.specs.Prelude.{◌≡◌, ◌<◌, ◌⊎◌, ℕ, Bool, true, false, List, ◌++◌, Option, Some}
+use Rattle.std.specs.Prelude.{◌≡◌, ◌<◌, ◌≤◌, ◌^◌, ◌⊎◌, ℕ, Bool, true, false, List, length, ◌++◌, Option, Some}
 use Rattle.std.specs.List.{AllByRecursion}
+use Rattle.rs_wire.specs.declared.words.Kind.{Kind}
 use Rattle.rs_wire.specs.declared.settings.Settings.{Settings}
 use Rattle.outside.specs.Causes.{Rose}
 use Rattle.outside.specs.Links.{NoneFell, Shown}
@@ -15,7 +16,9 @@ use Rattle.pump.specs.Turns.{IsKept, IsReadOut, IsTurned, RulesOut, TurnedFor, i
 use Rattle.call_model.specs.Order.{Asking, moves_only}
 use Rattle.call_model.specs.Present.{IsServed}
 use Rattle.call_model.specs.Ran.{HasDied, HasPlace}
+use Rattle.call_model.specs.Saying.{said}
 use Rattle.call_model.specs.Standing.{IsPaid, IsUnended, Stands}
+use Rattle.client.specs.Takes.{EndsNow, HasPrinted, IsTakenIn}
 
 -- the pump turned
 pub record Pumps (moments : Option (List ℕ)) (was now : Knowledge) (s t : Shown) (b d : Between) (r : Turned) : Type 0 where
@@ -54,6 +57,7 @@ SaysOf g past link c turned.End = IsBroken link × (HasPlace past → Left g pas
 SaysOf g past link c turned.LinkFault = IsBroken link × (HasPlace past → Left g past link c)
 SaysOf g past link c (turned.Over cause) = closed g past ≡ Some cause
 SaysOf g past link c (turned.Dead last) = HasDied g past last
+SaysOf g past link c turned.TapeFull = 2 ^ 63 ≤ length past
 SaysOf g past link c _ = Unit {0}
 
 -- Where a call stands after a turn on connection c, with these entries more.
@@ -66,4 +70,29 @@ pub record HasTurned (w : Asking) (moments : Option (List ℕ)) (g : Settings) (
   pub served : IsServed g new link c b full
   pub still : is_early r ≡ false → HasPlace new → displaced new c ≡ false
   pub paid : r ≡ turned.Lull → IsPaid new stream
+  pub takes : r ≡ turned.Lull → (k : Kind) → IsTakenIn k g past → IsTakenIn k g new
+  pub same : (k : Kind) → said k false new ≡ said k false past
   pub says : SaysOf g new link c r
+
+-- Where a call stands after a step on connection c, with these entries more, and what it printed.
+pub record HasStepped (w : Asking) (moments : Option (List ℕ)) (g : Settings) (past new : List Entry) (link : Shown) (c : ℕ) (b : Between) (stream : Option ℕ) (fresh : ℕ) (full : Bool) (r : Turned) (ended : Bool) (out out' : List ℕ) : Type 0 where
+  pub more : List Entry
+  pub on : new ≡ more ++ past
+  pub only : AllByRecursion (λ x. moves_only c x.event ≡ true) more
+  pub stands : Stands w moments new stream fresh
+  pub served : IsServed g new link c b full
+  pub still : is_early r ≡ false → HasPlace new → displaced new c ≡ false
+  pub paid : IsPaid new stream
+  pub says : ended ≡ false → SaysOf g new link c r
+  pub prints : HasPrinted w.kind ended past new out out'
+  pub ends : EndsNow ended w.kind g new link c
+
+-- Where a call stands before a step on connection c.
+pub record IsReady (w : Asking) (moments : Option (List ℕ)) (g : Settings) (past : List Entry) (link : Shown) (c : ℕ) (b : Between) (stream : Option ℕ) (fresh : ℕ) (full : Bool) : Type 0 where
+  pub some : 0 < w.count
+  pub stands : Stands w moments past stream fresh
+  pub unended : IsUnended past
+  pub paid : IsPaid past stream
+  pub served : IsServed g past link c b full
+  pub still : HasPlace past → displaced past c ≡ false
+  pub whole : HasPlace past → IsTakenIn w.kind g past

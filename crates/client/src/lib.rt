@@ -21,6 +21,7 @@ mod laws;
 mod lines;
 mod plan;
 mod run;
+mod stepping;
 mod taking;
 mod turning;
 
@@ -28,5 +29,5 @@ pub use called::Called;
 pub use calling::Calling;
 pub use client::Client;
 pub use fault::BeginFault;
-pub use laws::{callers_are_alone, calls_go_on_over_turns};
+pub use laws::{callers_are_alone, calls_go_on_over_turns, openings_add};
 pub use plan::CallPlan;
