@@ -8,3 +8,4 @@ pub mod OverLinks
 pub mod OverRuns
 pub mod OverFollows
 pub mod OverStarts
+pub mod OverCalls

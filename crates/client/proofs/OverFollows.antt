@@ -148,9 +148,9 @@ went w moments c1 c2 pump t first links stream fresh most same has x own = (l.0,
     let o1 : openings kp.front ≡ openings kl.front = adds_openings kl (event.Cut c1.conn) cut.1.0 kp.front refl cut.1.1 in
     let o2 : openings kt.front ≡ openings kp.front = adds_openings kp (event.Tick x.changes.opens.now) ticked.1.0 kt.front refl ticked.1.2 in
     let o0 : openings kl.front ≡ openings start = ap openings l.1 in
-    let opened = open_on w moments start kt c2.caller.front first c1.conn c2.conn links t x.changes.link most stream fresh some at x.changes.new_link (own_lawful kt c2.caller same own) open.1 p2.1 (o2 ∙ (o1 ∙ (o0 ∙ last))) p2.0 in
+    let opened = open_on w moments start kt c2.caller.front first c1.conn c2.conn links t x.changes.link most stream fresh some at x.changes.new_link (own_lawful kt c2.caller same own) opens.1 p2.1 (o2 ∙ (o1 ∙ (o0 ∙ last))) p2.0 in
     record {
-      place = subst HasPlace l.1 (adds_place kl (event.Cut c1.conn) cut.1.0 kp.front cut.1.1 (adds_place kp (event.Tick x.changes.opens.now) ticked.1.0 kt.front ticked.1.2 (open_place kt c2.conn c2.caller.front open.1)));
+      place = subst HasPlace l.1 (adds_place kl (event.Cut c1.conn) cut.1.0 kp.front cut.1.1 (adds_place kp (event.Tick x.changes.opens.now) ticked.1.0 kt.front ticked.1.2 (open_place kt c2.conn c2.caller.front opens.1)));
       again = opened;
     }))
   where
@@ -164,12 +164,12 @@ went w moments c1 c2 pump t first links stream fresh most same has x own = (l.0,
     kp = on c1.caller x.changes.parted
     kt : Knowledge
     kt = on c1.caller x.changes.opens.ticked
-    open : IsOwn kt × Adds kt (event.Open None false) (answer.Opened c2.conn) c2.caller.front
-    open = own_call g kt c2.caller (event.Open None false) (answer.Opened c2.conn) refl same x.changes.opens.opens own
+    opens : IsOwn kt × Adds kt (event.Open None false) (answer.Opened c2.conn) c2.caller.front
+    opens = own_call g kt c2.caller (event.Open None false) (answer.Opened c2.conn) refl same x.changes.opens.opens own
     tk_own : IsOwn kt
-    tk_own = open.0
+    tk_own = opens.0
     ticked : IsOwn kp × ((a : Answer) × (a ≢ answer.OutOfMemory) × Adds kp (event.Tick x.changes.opens.now) a kt.front)
-    ticked = let h = own_call g kp kt (event.Tick x.changes.opens.now) x.changes.opens.tick.answer refl refl x.changes.opens.tick.called open.0 in (h.0, (x.changes.opens.tick.answer, x.changes.opens.tick.had refl, h.1))
+    ticked = let h = own_call g kp kt (event.Tick x.changes.opens.now) x.changes.opens.tick.answer refl refl x.changes.opens.tick.called opens.0 in (h.0, (x.changes.opens.tick.answer, x.changes.opens.tick.had refl, h.1))
     cuts : Cuts kl c1.conn kp.front
     cuts = subst (λ (o : Option Shown). PartsFrom o c1.conn kl kp.front) has x.changes.parts
     cut : IsOwn kl × ((a : Answer) × Adds kl (event.Cut c1.conn) a kp.front) × (0 < first → first + length links ≡ c1.conn → Parts w moments g start kl.front first c1.conn links t stream fresh → Parts w moments g start kp.front first c1.conn links t stream fresh)

@@ -1,6 +1,6 @@
 -- The first step of a call whose caller is alone: its request, right after the first opening.
 use Rattle.std.proofs.lemmas.Grind.{common_steps}
-use Rattle.std.proofs.Common.{◌≡◌, ◌<◌, ◌⊎◌, ◌&&◌, ◌||◌, inl, inr, ◌∙◌, not, ℕ, Bool, true, false, true≢false, cond, List, [], ◌∷◌, ◌++◌, length, Option, Some, None, Ok, refl, sym, ap, subst, arith, append-nil, if◌then◌else◌}
+use Rattle.std.proofs.Common.{◌≡◌, ◌<◌, ◌⊎◌, ◌&&◌, ◌||◌, inl, inr, ◌∙◌, not, ℕ, Bool, true, false, true≢false, cond, List, [], ◌∷◌, ◌++◌, length, Option, Some, None, Ok, refl, sym, ap, subst, arith, append-nil, if◌then◌else◌, ltb}
 use Rattle.rs_wire.specs.declared.settings.Settings.{Settings}
 use Rattle.rs_wire.specs.declared.words.Kind.{Kind}
 use Rattle.rs_wire.specs.declared.words.Kind.TheVariants as kind
@@ -19,7 +19,7 @@ use Rattle.tape.specs.declared.entry.Entry.{Entry}
 use Rattle.stream_model.specs.Arriving.{ours}
 use Rattle.stream_model.specs.Fair.{Fair as FairMarks}
 use Rattle.stream_model.specs.Marks.{Mark, Opening, Opens}
-use Rattle.stream_model.specs.Streams.{turn}
+use Rattle.stream_model.specs.Streams.{is_admitted, live as live_streams, turn}
 use Rattle.stream_model.specs.Turns.{Turn, delivered}
 use Rattle.stream_model.proofs.Ids.{turn_opened}
 use Rattle.session_model.specs.Lists.{first_of}
@@ -43,7 +43,7 @@ use Rattle.call_model.specs.Standing.{IsPaid, IsUnended, Stands}
 use Rattle.call_model.proofs.Ordering.{got_none, got_same}
 use Rattle.call_model.proofs.Present.{served_opened, still_opened}
 use Rattle.client.specs.Alone.{IsOwn}
-use Rattle.client.specs.Calling.{HasBegun, IsUnderWay}
+use Rattle.client.specs.Calling.{CanBegin, HasBegun, IsUnderWay}
 use Rattle.client.specs.Clients.{HasAsked}
 use Rattle.client.specs.Takes.{AsksMore, IsTakenIn}
 use Rattle.client.specs.Turning.{IsReady}
@@ -100,7 +100,7 @@ request_delivers g past n id k initial message complete lawful =
     let x = entry_of n (event.Asked (asks.Request k initial message complete)) (answer.Started id) in
     let fair = legal_fair g (x ∷ past) lawful.legal lawful.fair in
     let o = ours k initial message complete in
-    ap delivered_of (turn_opened g.max_streams (words g past) id o fair.1.fresh) ∙ opens_none _ o (ours_none k initial message complete)
+    ap delivered_of (turn_opened g.max_streams (words g past) id o fair.1.fresh) ∙ opens_none (is_admitted (ltb (live_streams g.max_streams (words g past)) g.max_streams) o) o (ours_none k initial message complete)
 
 -- ---- the start
 
@@ -148,10 +148,10 @@ begun_now x past c is = rw is (either (begun past))
 next_now : (w : Asking) (x : Entry) (past : List Entry) (c : ℕ) → x.answer ≡ answer.Opened c → begun past ≡ false → next_call w (x ∷ past) ≡ Some (request_of w)
 next_now w x past c is closed = rw (is, closed) refl
 
-pub starts : (w : Asking) (moments : Option (List ℕ)) (was now : Knowledge) (conn : ℕ) (link : Shown) (present : Option Shown) (k : Calling) (most : ℕ) → IsSame was now → present ≡ Some link → HasAsked was (request_of w) (Ok tt) None k.stream now.front
+pub starts : (w : Asking) (moments : Option (List ℕ)) (was now : Knowledge) (conn : ℕ) (present : Option Shown) (k : Calling) (most : ℕ) → IsSame was now → HasAsked was (request_of w) (Ok tt) None k.stream now.front
     → k.request ≡ request_of w → k.pump ≡ record { conn = conn; left = []; rest = []; max_in = most; bad = false } → k.fresh ≡ 0 → k.full ≡ false → 0 < w.count → IsOwn now
-    → IsOwn was × (HasBegun was.front conn → IsNew link → InOrder w was.front → AreMoments moments was.front → IsUnderWay w moments conn was.of.settings now.front conn present k [] × (said w.kind false now.front ≡ said w.kind false was.front))
-starts w moments was now conn link present k most same has asked request pump zero full some own = (h.0, by)
+    → IsOwn was × (CanBegin w moments was.front conn present → IsUnderWay w moments conn was.of.settings now.front conn present k [] × (said w.kind false now.front ≡ said w.kind false was.front))
+starts w moments was now conn present k most same asked request pump zero full some own = (h.0, by)
   where
     g : Settings
     g = was.of.settings
@@ -162,8 +162,12 @@ starts w moments was now conn link present k most same has asked request pump ze
     adds : Adds was (event.Asked (request_of w)) asked.came.answer now.front
     adds = (own_call g was now (event.Asked (request_of w)) asked.came.answer refl same asked.came.called own).1
 
-    by : HasBegun was.front conn → IsNew link → InOrder w was.front → AreMoments moments was.front → IsUnderWay w moments conn g now.front conn present k [] × (said w.kind false now.front ≡ said w.kind false was.front)
-    by b new order timed =
+    by : CanBegin w moments was.front conn present → IsUnderWay w moments conn g now.front conn present k [] × (said w.kind false now.front ≡ said w.kind false was.front)
+    by can =
+        let b = can.begins in
+        let link = can.link in
+        let order = can.order in
+        let timed = can.timed in
         let legal_x : Legal g (b.entry ∷ b.before) = subst (Legal g) b.is h.0.lawful.legal in
         let order_x : InOrder w (b.entry ∷ b.before) = subst (InOrder w) b.is order in
         let none_before : started b.before ≡ None = unstarted g w b.before (legal_of g b.entry b.before legal_x) (order_of w b.entry b.before order_x) b.first in
@@ -173,14 +177,14 @@ starts w moments was now conn link present k most same has asked request pump ze
         let waits : Waits w moments was.front k.fresh = record { order = order; timed = timed; begins = begins; none = none; zero = zero } in
         let p = h.1 some waits (λ place. inr next) in
         let served : IsServed g was.front link conn k.pump k.full = subst (λ f. IsServed g was.front link conn k.pump f) (sym full) (subst (λ (z : Between). IsServed g was.front link conn z false) (sym pump) (subst (λ (l : List Entry). IsServed g l link conn (record { conn = conn; left = []; rest = []; max_in = most; bad = false }) false) (sym b.is)
-            (served_opened g b.before b.entry link conn most legal_x b.event b.answered new))) in
+            (served_opened g b.before b.entry link conn most legal_x b.event b.answered can.new_link))) in
         let still : displaced was.front conn ≡ false = subst (λ (l : List Entry). displaced l conn ≡ false) (sym b.is) (still_opened g b.before b.entry conn legal_x b.event b.answered) in
         let last : openings was.front ≡ conn = served.joined.last in
         let above : 0 < conn = some_opening was.front b last in (
           record {
             request = request;
             link = link;
-            has = has;
+            has = can.has;
             at = ap (λ (z : Between). z.conn) pump;
             ready = record {
               some = some;
@@ -203,6 +207,4 @@ starts w moments was now conn link present k most same has asked request pump ze
         taken_in kind.Fnf whole = tt
         taken_in _ whole = whole
         some_opening : (past : List Entry) → HasBegun past conn → openings past ≡ conn → 0 < conn
-        some_opening past b last = subst (λ n. 0 < n) (sym (ap openings b.is) ∙ last) (counts b.entry b.before b.event)
-        counts : (x : Entry) (past : List Entry) → x.event ≡ event.Open None false → 0 < openings (x ∷ past)
-        counts x past is = opens_some x past is
+        some_opening past b last = subst (λ n. 0 < n) (sym (ap openings b.is) ∙ last) (opens_some b.entry b.before b.event)

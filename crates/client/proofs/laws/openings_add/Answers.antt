@@ -4,6 +4,7 @@ use Rattle.client.proofs.OverSteps.{stepped_by}
 use Rattle.client.proofs.OverRuns.{finished_here}
 use Rattle.client.proofs.OverFollows.{followed}
 use Rattle.client.proofs.OverStarts.{starts}
+use Rattle.client.proofs.OverCalls.{run_stops}
 use Rattle.client.proofs.laws.openings_add.Goals as goal
 
 pub returns : goal.returns
