@@ -1,5 +1,5 @@
 -- Why nothing was opened.
-use Rattle.std.proofs.Common.{◌≡◌, inl, inr, ℕ, Bool, List, Option, Result, Ok, Err, IfErr, OnErr, sym, subst}
+use Rattle.std.proofs.Common.{◌≡◌, inl, inr, ℕ, Bool, List, Option, Result, Ok, Err, IfErr, OnErr, OnOk, sym, subst}
 use Rattle.outside.specs.Links.{IsNew, Shown, and_then_one}
 use Rattle.outside.specs.declared.net.Ask.{Ask}
 use Rattle.client.specs.Clients.{FaultFor, IsRefusal, dialed}

@@ -7,8 +7,8 @@ use Rattle.client.specs.Clients.{OpensAgain, on}
 use Rattle.client.proofs.Opening.{on_ok}
 use Rattle.client.proofs.client.Client.open_after_tick.Goals as goal
 
-pub returns-in-Ok-clause-opens : goal.returns-in-Ok-clause-opens
-returns-in-Ok-clause-opens g c =
+pub returns-in-Ok-new_pump-clause-opens : goal.returns-in-Ok-new_pump-clause-opens
+returns-in-Ok-new_pump-clause-opens g c =
     let was : Knowledge = c.args.self.now.caller in
     let mine : c.self.inside.caller ≡ was = search rules in
     let had : c.tick.result ≡ false = search rules in
