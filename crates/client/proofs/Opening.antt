@@ -1,8 +1,14 @@
 -- Why nothing was opened.
-use Rattle.std.proofs.Common.{◌≡◌, inl, inr, ℕ, Bool, List, Option, Result, Ok, Err, IfErr, OnErr, OnOk, sym, subst}
+use Rattle.std.proofs.Common.{◌≡◌, inl, inr, ℕ, Bool, List, Option, Result, Ok, Err, Some, None, IfSome, IfNone, ◌⊎◌, IfErr, OnErr, OnOk, sym, subst}
 use Rattle.outside.specs.Links.{IsNew, Shown, and_then_one}
 use Rattle.outside.specs.declared.net.Ask.{Ask}
-use Rattle.client.specs.Clients.{FaultFor, IsRefusal, dialed}
+use Rattle.tape.specs.declared.entry.Entry.{Entry}
+use Rattle.conn_shared.specs.Members.{Follows}
+use Rattle.link_model.specs.Carrying.{Between}
+use Rattle.client.specs.Elsewhere.{Changes, GoesElsewhere, IsParted, StopsElsewhere, looking}
+use Rattle.client.specs.declared.called.Called.{Called}
+use Rattle.client.specs.declared.called.Called.TheVariants as called
+use Rattle.client.specs.Clients.{ClientSeen, FaultFor, IsRefusal, dialed}
 use Rattle.client.specs.declared.fault.BeginFault.{BeginFault}
 use Rattle.client.specs.declared.fault.BeginFault.TheVariants as begins
 
@@ -15,3 +21,14 @@ fault_for (Err begins.OutOfMemory) asks asks' back mid back' faults faults' addr
 
 pub on_ok : {P : Type 0} → (r : Result (Unit {0}) BeginFault) → r ≡ Ok tt → OnOk r P → P
 on_ok {P} r is h = subst (λ (x : Result (Unit {0}) BeginFault). OnOk x P) is h
+
+-- ---- another link
+
+pub goes_as : (moments : Option (List ℕ)) (r : Option Called) (was x now : ClientSeen) (pump : Between) (looked : List Entry) → IfNone r (Changes moments x now pump) → x ≡ looking was looked → Follows was.caller.names was.caller.front looked → IfNone r (GoesElsewhere moments was now pump)
+goes_as moments None was x now pump looked changes at follows = record { looked = looked; follows = follows; changes = subst (λ (z : ClientSeen). Changes moments z now pump) at changes }
+goes_as moments (Some r) was x now pump looked changes at follows = tt
+
+pub stops_as : (r : Option Called) (was x now : ClientSeen) (looked : List Entry) → IfSome r (λ c. (c ≡ called.OutOfMemory) ⊎ ((c ≡ called.Net) × IsParted x now)) → x ≡ looking was looked → Follows was.caller.names was.caller.front looked → IfSome r (StopsElsewhere was now)
+stops_as None was x now looked stops at follows = tt
+stops_as (Some r) was x now looked (inl is) at follows = subst (StopsElsewhere was now) (sym is) tt
+stops_as (Some r) was x now looked (inr parted) at follows = subst (StopsElsewhere was now) (sym parted.0) (inr (record { looked = looked; follows = follows; parted = subst (λ (z : ClientSeen). IsParted z now) at parted.1 }))

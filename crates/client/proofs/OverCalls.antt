@@ -1,5 +1,5 @@
 -- A whole call, step by step, where its caller is alone.
-use Rattle.std.proofs.Common.{◌≡◌, ◌∙◌, ℕ, Bool, true, false, List, [], ◌∷◌, ◌++◌, Option, Some, None, append_assoc, refl, sym, ap, subst}
+use Rattle.std.proofs.Common.{◌≡◌, ◌∙◌, ℕ, Bool, true, false, List, [], ◌∷◌, ◌++◌, Option, Some, None, append_assoc, append-nil, refl, sym, ap, subst}
 use Rattle.rs_wire.specs.declared.words.Kind.{Kind}
 use Rattle.rs_wire.specs.declared.settings.Settings.{Settings}
 use Rattle.outside.specs.Links.{Shown}
@@ -8,7 +8,7 @@ use Rattle.conn_shared.specs.Members.{Knowledge}
 use Rattle.call_model.specs.Order.{Asking}
 use Rattle.call_model.specs.Saying.{said}
 use Rattle.client.specs.Alone.{IsOwn}
-use Rattle.client.specs.Calling.{Comes, GoesFrom, HasEndedBy, IsUnderWay, Owns, StepsTo, StopsFrom, is_finished}
+use Rattle.client.specs.Calling.{CanBegin, Comes, GoesFrom, HasEndedBy, IsUnderWay, Owns, StepsTo, StopsFrom, is_finished}
 use Rattle.client.specs.Takes.{HasPrinted}
 use Rattle.client.specs.declared.called.Called.{Called}
 use Rattle.client.specs.declared.called.Called.TheVariants as called
@@ -66,3 +66,29 @@ module _ (w : Asking) (moments : Option (List ℕ)) (lulls first : ℕ) (g : Set
   run_stops (called.Dead last) h s own = (let b = s own in let a = h b.0 in (a.0, λ p. (let x = a.1 p in stops_both (called.Dead last) w moments lulls first g start.front mid.front now.front c present k out mid_out new_out x (b.1 first x.more x.under_way))))
   run_stops (called.Idle n) h s own = (let b = s own in let a = h b.0 in (a.0, λ p. (let x = a.1 p in stops_both (called.Idle n) w moments lulls first g start.front mid.front now.front c present k out mid_out new_out x (b.1 first x.more x.under_way))))
   run_stops (called.Refused why) h s own = (let b = s own in let a = h b.0 in (a.0, λ p. (let x = a.1 p in stops_both (called.Refused why) w moments lulls first g start.front mid.front now.front c present k out mid_out new_out x (b.1 first x.more x.under_way))))
+
+  -- the same, by what the steps say
+  pub run_on_by : (gm : Settings) (result : Option Called) → gm ≡ g → result ≡ None → Runs mid c present k mid_out
+      → (IsOwn now → Owns result (IsOwn mid × ((first' : ℕ) (links : List Shown) → IsUnderWay w moments first' gm mid.front c present k links → StepsTo result w moments lulls first' gm mid.front now.front c' present' k' links mid_out new_out))) → Runs now c' present' k' new_out
+  run_on_by gm result st is h s = run_on h
+      (subst (λ (z : Settings). IsOwn now → IsOwn mid × ((first' : ℕ) (links : List Shown) → IsUnderWay w moments first' z mid.front c present k links → GoesFrom w moments first' z mid.front now.front c' present' k' links mid_out new_out)) st
+      (subst (λ (o : Option Called). IsOwn now → Owns o (IsOwn mid × ((first' : ℕ) (links : List Shown) → IsUnderWay w moments first' gm mid.front c present k links → StepsTo o w moments lulls first' gm mid.front now.front c' present' k' links mid_out new_out))) is s))
+
+  pub run_stops_by : (gm : Settings) (result : Option Called) (r : Called) → gm ≡ g → result ≡ Some r → Runs mid c present k mid_out
+      → (IsOwn now → Owns result (IsOwn mid × ((first' : ℕ) (links : List Shown) → IsUnderWay w moments first' gm mid.front c present k links → StepsTo result w moments lulls first' gm mid.front now.front c' present' k' links mid_out new_out)))
+      → IsOwn now → Comes r (IsOwn start × (P → StopsFrom r w moments lulls first g start.front now.front [] out new_out))
+  run_stops_by gm result r st is h s = run_stops r h
+      (subst (λ (z : Settings). IsOwn now → Owns (Some r) (IsOwn mid × ((first' : ℕ) (links : List Shown) → IsUnderWay w moments first' z mid.front c present k links → StepsTo (Some r) w moments lulls first' z mid.front now.front c' present' k' links mid_out new_out))) st
+      (subst (λ (o : Option Called). IsOwn now → Owns o (IsOwn mid × ((first' : ℕ) (links : List Shown) → IsUnderWay w moments first' gm mid.front c present k links → StepsTo o w moments lulls first' gm mid.front now.front c' present' k' links mid_out new_out))) is s))
+
+-- the first step was the request
+pub run_start : (w : Asking) (moments : Option (List ℕ)) (first : ℕ) (g : Settings) (start now : Knowledge) (c0 c : ℕ) (present0 present : Option Shown) (k : Calling) (out : List ℕ)
+    → (IsOwn now → IsOwn start × ((m : Option (List ℕ)) → CanBegin w m start.front c0 present0 → IsUnderWay w m first g now.front c present k [] × (said w.kind false now.front ≡ said w.kind false start.front)))
+    → IsOwn now → IsOwn start × (CanBegin w moments start.front c0 present0 → GoesFrom w moments first g start.front now.front c present k [] out out)
+run_start w moments first g start now c0 c present0 present k out h own =
+    let a = h own in
+    (a.0, λ can. (let b = a.1 moments can in record {
+      more = [];
+      under_way = b.0;
+      prints = record { more = []; printed = sym (append-nil out); says = b.1 ∙ sym (append-nil (said w.kind false start.front)) };
+    }))

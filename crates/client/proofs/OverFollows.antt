@@ -384,10 +384,10 @@ same_link : (o : Option Shown) (s t : Shown) → o ≡ Some s → o ≡ Some t �
 same_link o s t a b = (let e : Some s ≡ Some t = sym a ∙ b in cc)
 
 -- a step that did not end the call, and what follows from it
-pub go_by : (w : Asking) (moments : Option (List ℕ)) (lulls : ℕ) (c c1 c2 : ClientSeen) (k k1 k2 : Calling) (r : Turned) (result : Option Called) (out out' : List ℕ) (s : Shown) → c1.caller.of.settings ≡ c.caller.of.settings → c1.conn ≡ c.conn → k1.request ≡ k.request → k1.full ≡ k.full → k1.pump.conn ≡ c1.conn → IsSome c1.link → c.link ≡ Some s → IsSame c1.caller c2.caller → FollowsSo r moments lulls c1 c2 k1 k2 result
-    → (IsOwn c1.caller → IsOwn c.caller × (IsReady w moments c.caller.of.settings c.caller.front s c.conn k.pump k.stream k.fresh k.full → (t : Shown) × (c1.link ≡ Some t) × HasStepped w moments c.caller.of.settings c.caller.front c1.caller.front t c.conn k1.pump k1.stream k1.fresh k.full r false out out'))
+pub go_by : (w : Asking) (moments : Option (List ℕ)) (lulls : ℕ) (c c1 c2 : ClientSeen) (k k1 k2 : Calling) (r : Turned) (e : Bool) (result : Option Called) (out out' : List ℕ) (s : Shown) → e ≡ false → c1.caller.of.settings ≡ c.caller.of.settings → c1.conn ≡ c.conn → k1.request ≡ k.request → k1.full ≡ k.full → k1.pump.conn ≡ c1.conn → IsSome c1.link → c.link ≡ Some s → IsSame c1.caller c2.caller → FollowsSo r moments lulls c1 c2 k1 k2 result
+    → (IsOwn c1.caller → IsOwn c.caller × (IsReady w moments c.caller.of.settings c.caller.front s c.conn k.pump k.stream k.fresh k.full → (t : Shown) × (c1.link ≡ Some t) × HasStepped w moments c.caller.of.settings c.caller.front c1.caller.front t c.conn k1.pump k1.stream k1.fresh k.full r e out out'))
     → IsOwn c2.caller → Owns result (IsOwn c.caller × ((first : ℕ) (links : List Shown) → IsUnderWay w moments first c.caller.of.settings c.caller.front c.conn c.link k links → StepsTo result w moments lulls first c.caller.of.settings c.caller.front c2.caller.front c2.conn c2.link k2 links out out'))
-go_by w moments lulls c c1 c2 k k1 k2 r result out out' s st cn request full at linked link same follows stepped own = by result refl
+go_by w moments lulls c c1 c2 k k1 k2 r e result out out' s goes st cn request full at linked link same follows stepped own = by result refl
   where
     g : Settings
     g = c.caller.of.settings
@@ -405,7 +405,7 @@ go_by w moments lulls c c1 c2 k k1 k2 r result out out' s st cn request full at 
               t = v.0;
               has = v.1;
               under_way = subst (λ (z : Settings). IsUnderWay w moments first z past c1.conn c.link k links) (sym st) (subst (λ n. IsUnderWay w moments first g past n c.link k links) (sym cn) u);
-              stepped = subst (λ (z : Settings). HasStepped w moments z past c1.caller.front v.0 c1.conn k1.pump k1.stream k1.fresh k.full r false out out') (sym st) (subst (λ n. HasStepped w moments g past c1.caller.front v.0 n k1.pump k1.stream k1.fresh k.full r false out out') (sym cn) v.2);
+              stepped = subst (λ (z : Settings). HasStepped w moments z past c1.caller.front v.0 c1.conn k1.pump k1.stream k1.fresh k.full r false out out') (sym st) (subst (λ n. HasStepped w moments g past c1.caller.front v.0 n k1.pump k1.stream k1.fresh k.full r false out out') (sym cn) (subst (λ b. HasStepped w moments g past c1.caller.front v.0 c.conn k1.pump k1.stream k1.fresh k.full r b out out') goes v.2));
               request = request;
               full = full;
               at = at;
@@ -425,13 +425,17 @@ go_by w moments lulls c c1 c2 k k1 k2 r result out out' s st cn request full at 
         owns_with (Some (called.Idle n)) f = back (f 0 []).0 (Some (called.Idle n)) (λ first links. (f first links).1)
         owns_with (Some (called.Refused why)) f = back (f 0 []).0 (Some (called.Refused why)) (λ first links. (f first links).1)
 
+pub some_of : (o : Option Shown) → IsSome o → (s : Shown) × (o ≡ Some s)
+some_of None is = absurd (true≢false (sym is))
+some_of (Some s) is = (s, refl)
+
 -- a step that ended it
-pub finish_by : (w : Asking) (moments : Option (List ℕ)) (lulls : ℕ) (c c1 : ClientSeen) (k k1 : Calling) (r : Turned) (out out' : List ℕ) (s : Shown) → IsSame c.caller c1.caller → c.link ≡ Some s
-    → (IsOwn c1.caller → IsOwn c.caller × (IsReady w moments c.caller.of.settings c.caller.front s c.conn k.pump k.stream k.fresh k.full → (t : Shown) × (c1.link ≡ Some t) × HasStepped w moments c.caller.of.settings c.caller.front c1.caller.front t c.conn k1.pump k1.stream k1.fresh k.full r true out out'))
+pub finish_by : (w : Asking) (moments : Option (List ℕ)) (lulls : ℕ) (c c1 : ClientSeen) (k k1 : Calling) (r : Turned) (e : Bool) (out out' : List ℕ) (s : Shown) → IsSame c.caller c1.caller → c.link ≡ Some s → e ≡ true
+    → (IsOwn c1.caller → IsOwn c.caller × (IsReady w moments c.caller.of.settings c.caller.front s c.conn k.pump k.stream k.fresh k.full → (t : Shown) × (c1.link ≡ Some t) × HasStepped w moments c.caller.of.settings c.caller.front c1.caller.front t c.conn k1.pump k1.stream k1.fresh k.full r e out out'))
     → IsOwn c1.caller → IsOwn c.caller × ((first : ℕ) (links : List Shown) → IsUnderWay w moments first c.caller.of.settings c.caller.front c.conn c.link k links → StopsFrom called.Finished w moments lulls first c.caller.of.settings c.caller.front c1.caller.front links out out')
-finish_by w moments lulls c c1 k k1 r out out' s same link stepped own =
+finish_by w moments lulls c c1 k k1 r e out out' s same link is stepped own =
     let st = stepped own in
     (st.0, λ first links u.
       let one : u.link ≡ s = same_link c.link u.link s u.has link in
       let v = st.1 (subst (λ (z : Shown). IsReady w moments c.caller.of.settings c.caller.front z c.conn k.pump k.stream k.fresh k.full) one u.ready) in
-      finished_here w moments lulls c.caller.of.settings c.caller.front c1.caller.front v.0 first c.conn c.link k k1.pump k1.stream k1.fresh r out out' links (own_lawful c.caller c1.caller same own) u v.2)
+      finished_here w moments lulls c.caller.of.settings c.caller.front c1.caller.front v.0 first c.conn c.link k k1.pump k1.stream k1.fresh r out out' links (own_lawful c.caller c1.caller same own) u (subst (λ b. HasStepped w moments c.caller.of.settings c.caller.front c1.caller.front v.0 c.conn k1.pump k1.stream k1.fresh k.full r b out out') is v.2))

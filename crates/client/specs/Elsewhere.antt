@@ -63,7 +63,7 @@ pub record IsPartedAfter (was now : ClientSeen) : Type 0 where
 
 -- what a call comes to that can't go on over another link: its session is closed; or no try is left, before a dial or after some
 abbrev pub StopsElsewhere : ClientSeen → ClientSeen → Called → Type 0
-StopsElsewhere was now (called.Refused why) = StaysHere was now × (closed was.of.settings now.caller.front ≡ Some why) × (called.Refused why ≡ refused_for why)
+StopsElsewhere was now (called.Refused why) = StaysHere was now × (closed was.caller.of.settings now.caller.front ≡ Some why) × (called.Refused why ≡ refused_for why)
 StopsElsewhere was now called.Net = StaysHere was now ⊎ IsPartedAfter was now
 StopsElsewhere was now called.OutOfMemory = Unit {0}
 StopsElsewhere was now _ = ⊥
