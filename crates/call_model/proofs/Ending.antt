@@ -60,18 +60,17 @@ goes_on_on g past s h gets is = subst (λ (l : List Delivery). has_end l ≡ fal
 
 -- ---- entries that deliver nothing
 
-pub says_none : Answer → Event → Type 0
+abbrev pub says_none : Answer → Event → Type 0
 says_none a e = (covered : Bool) (held : ℕ → Gathered) → marks_in covered held a e ≡ []
 
 words_same : (g : Settings) (past : List Entry) (x : Entry) → says_none x.answer x.event → words g (x ∷ past) ≡ words g past
-unfolding heard_in says_none
+unfolding heard_in
 words_same g past x none = rw (none (is_covered g past) (unfinished g past)) refl
 
 pub delivered_same : (g : Settings) (past : List Entry) (x : Entry) (s : ℕ) → says_none x.answer x.event → delivered_on g (x ∷ past) s ≡ delivered_on g past s
 delivered_same g past x s none = ap (λ (w : List Mark). delivered_of (turn g.max_streams w s)) (words_same g past x none)
 
 pub cut_says_none : (a : Answer) (c : ℕ) → says_none a (event.Cut c)
-unfolding says_none
 cut_says_none answer.Handled c covered held = refl
 cut_says_none (answer.Started id) c covered held = refl
 cut_says_none answer.Done c covered held = refl
@@ -80,7 +79,6 @@ cut_says_none (answer.GotJob j) c covered held = refl
 cut_says_none _ c covered held = refl
 
 pub tick_says_none : (a : Answer) (now : ℕ) → says_none a (event.Tick now)
-unfolding says_none
 tick_says_none answer.Handled now covered held = refl
 tick_says_none (answer.Started id) now covered held = refl
 tick_says_none answer.Done now covered held = refl
@@ -89,7 +87,6 @@ tick_says_none (answer.GotJob j) now covered held = refl
 tick_says_none _ now covered held = refl
 
 pub refused_says_none : (why : _) (e : Event) → says_none (answer.Refused why) e
-unfolding says_none
 refused_says_none why e covered held = refl
 
 -- ---- a peer that is dead
