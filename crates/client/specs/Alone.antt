@@ -27,7 +27,3 @@ pub record IsSole (me : Knowledge) : Type 0 where
 pub record IsOwn (me : Knowledge) : Type 0 where
   pub sole : IsSole me
   pub lawful : IsLawful me.of.settings me.front
-
--- Over what a sole caller has seen, the one thing follows from the other, from an earlier time on to a later one.
-abbrev pub Leads : Knowledge → Knowledge → Type 0 → Type 0 → Type 0
-Leads was now before after = IsOwn now → IsOwn was × (before → after)

@@ -1,11 +1,19 @@
 //! The calling end of a session: one call, over as many links as it takes.
 //!
-//! A [`Client`] has a session that it opened over a link of a net. It is told the promises of its
-//! parts: what a link carries is said in `link_model`, what a call prints in `specs/Saying.antt`,
-//! and in which order a call is asked in `specs/Order.antt`. The promise to the layer above: every
-//! link that was put back is carried, and every way in which a call ends has its cause.
+//! A [`Client`] has a session that it opened over a link of a net. [`start`](Client::start) asks for
+//! the stream of a call, [`go_on`](Client::go_on) is one step of it, and
+//! [`run_calls`](Client::run_calls) repeats the step to the end of the call. What a step prints is
+//! appended at once, so a program that makes the steps itself writes each line when it is known.
 //!
-//! Left out: words, statuses and writing, which are the program's; that a call ever ends.
+//! The promise to the layer above, where nobody else calls (`specs/Alone.antt`): the entries keep the
+//! order of a call and each tick has a moment of the clock; every link is carried, and each that was
+//! put back was left for a reason; what is printed is what the stream delivered, no more and no less;
+//! and each way in which a call ends has its cause (`specs/Calling.antt`). What the words mean is said
+//! in `call_model` and `link_model`.
+//!
+//! Left out: words, statuses and writing, which are the program's; that a call ever ends. Run, but not
+//! proved: that the links of an idle call have so many lulls in sum, that all tries were used where a
+//! call ends with `Net`, and that the ticks of a link are few.
 #![tactic(auto)]
 
 mod again;
@@ -29,5 +37,5 @@ pub use called::Called;
 pub use calling::Calling;
 pub use client::Client;
 pub use fault::BeginFault;
-pub use laws::{callers_are_alone, calls_go_on_over_turns, openings_add};
+pub use laws::callers_are_alone;
 pub use plan::CallPlan;
