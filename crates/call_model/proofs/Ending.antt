@@ -1,7 +1,7 @@
 -- When the end of a call has come, and what goes on until then.
 use Rattle.std.proofs.lemmas.Bool.Decides.{nat_tests}
 use Rattle.std.proofs.lemmas.Grind.{common_steps}
-use Rattle.std.proofs.Common.{◌≡◌, ◌==◌, ◌||◌, ◌≤◌, ◌+◌, ◌<◌, ◌∙◌, inl, inr, ℕ, Bool, true, false, true≢false, List, [], ◌∷◌, ◌++◌, Option, Some, None, refl, sym, ap, subst, arith}
+use Rattle.std.proofs.Common.{◌≡◌, ◌||◌, ◌∙◌, inl, inr, ℕ, Bool, true, false, true≢false, List, [], ◌∷◌, ◌++◌, Some, None, refl, sym, ap, subst, arith}
 use Rattle.rs_wire.specs.declared.settings.Settings.{Settings}
 use Rattle.rs_wire.specs.declared.words.Side.TheVariants.{Client}
 use Rattle.rs_wire.specs.declared.delivery.Delivery.{Delivery}
@@ -14,16 +14,15 @@ use Rattle.tape.specs.declared.event.Event.TheVariants as event
 use Rattle.tape.specs.declared.answer.Answer.{Answer}
 use Rattle.tape.specs.declared.answer.Answer.TheVariants as answer
 use Rattle.tape.specs.declared.entry.Entry.{Entry}
-use Rattle.session_model.specs.Lists.{IsPrefix, first_of}
 use Rattle.session_model.specs.Leases.{is_covered}
 use Rattle.session_model.specs.Streams.{heard_in, marks_in, unfinished, words}
 use Rattle.session_model.specs.Answers.{answer_to, facts}
 use Rattle.session_model.specs.Life.{setup, setup_in}
-use Rattle.session_model.specs.Moments.{moment, times}
+use Rattle.session_model.specs.Moments.{moment}
 use Rattle.session_model.specs.Legal.{Fair, IsFair, Legal}
 use Rattle.session_model.specs.Means.{Means}
 use Rattle.session_model.proofs.Meaning.{last_means}
-use Rattle.session_laws.specs.Streams.{IsLawful, stream}
+use Rattle.session_laws.specs.Streams.{IsLawful}
 use Rattle.call_model.specs.Saying.{GetsNothing, delivered_of, delivered_on, got_on, has_end, is_end}
 use Rattle.call_model.specs.Ran.{FindsDead, HasDied}
 use Rattle.call_model.proofs.Takes.{taken_first, taken_whole}

@@ -3,7 +3,7 @@ use Rattle.std.proofs.lemmas.Bool.Decides.{nat_tests}
 use Rattle.std.proofs.lemmas.Grind.{common_steps}
 use Rattle.std.proofs.Math.Seq.{take-length}
 use Rattle.std.specs.List.{AllByRecursion}
-use Rattle.std.proofs.Common.{◌≡◌, ◌≢◌, ◌==◌, ◌&&◌, ◌||◌, ◌≤◌, ◌<◌, ◌+◌, ◌-◌, ◌^◌, ◌∙◌, ◌⊎◌, inl, inr, ℕ, Bool, true, false, true≢false, List, [], ◌∷◌, ◌++◌, length, take, Option, Some, None, IfSome, refl, sym, ap, subst, arith, append-nil}
+use Rattle.std.proofs.Common.{◌≡◌, ◌≢◌, ◌&&◌, ◌||◌, ◌≤◌, ◌<◌, ◌+◌, ◌-◌, ◌^◌, ◌∙◌, inl, inr, ℕ, Bool, true, false, true≢false, List, [], ◌∷◌, ◌++◌, length, take, None, IfSome, refl, sym, ap, subst, arith, append-nil}
 use Rattle.std.proofs.lemmas.List.{length-append, length-take}
 use Rattle.rs_wire.specs.declared.settings.Settings.{Settings}
 use Rattle.rs_frame.specs.Framed.{framed_all}
@@ -15,16 +15,16 @@ use Rattle.tape.specs.declared.answer.Answer.TheVariants as answer
 use Rattle.tape.specs.declared.entry.Entry.{Entry}
 use Rattle.session_model.specs.Answers.{facts}
 use Rattle.session_model.specs.Life.{carrying, closed, is_live, live, openings, openings_in}
-use Rattle.session_model.specs.Frames.{drawn, due, given as bytes_drawn, queued, was_opened}
+use Rattle.session_model.specs.Frames.{drawn, due, given as bytes_drawn, queued}
 use Rattle.session_model.specs.Legal.{Legal}
 use Rattle.session_model.specs.Means.{Means}
 use Rattle.session_model.proofs.Meaning.{last_means}
 use Rattle.session_model.proofs.Openings.{live_le}
-use Rattle.link_model.specs.Carrying.{Between, Carried, Keeps, is_of}
+use Rattle.link_model.specs.Carrying.{Between, Keeps, is_of}
 use Rattle.link_model.specs.Giving.{HasGiven}
 use Rattle.link_model.specs.Leaving.{ComesInTime, Heard, IsAllGiven, IsBroken, IsReadOut, Left, displaced, parted, takes_place}
 use Rattle.link_model.proofs.Bytes.{if_some}
-use Rattle.link_model.proofs.Fresh.{fresh_keeps, is_carried}
+use Rattle.link_model.proofs.Fresh.{fresh_keeps}
 use Rattle.link_model.proofs.Heard.{keeps_heard}
 use Rattle.link_model.proofs.Kept.{keeps_other}
 use Rattle.link_laws.specs.Staying.{ends}
@@ -152,14 +152,14 @@ left_here g past link c b legal h at k out broken =
     subst (λ (l : List Entry). Left g l link c) (sym h.parts)
     (subst (Left g (h.more ++ h.base) link) at
     (left_broken g link b h.more h.base
-      (subst (Legal g) h.parts legal)
-      (subst (λ n. AllByRecursion (λ (x : Entry). ends n x.event ≡ false) h.more) (sym at) h.stays)
-      (subst (λ n. parted h.base n ≡ false) (sym at) h.joined)
-      h.free
-      (subst (ComesInTime g h.base) (sym at) h.in_time)
-      (subst (λ (l : List Entry). Keeps g l link b) h.parts k)
-      (subst (λ n. IsReadOut g (h.more ++ h.base) n b.rest) (sym at) (subst (λ (l : List Entry). IsReadOut g l c b.rest) h.parts out))
-      broken))
+    (subst (Legal g) h.parts legal)
+    (subst (λ n. AllByRecursion (λ (x : Entry). ends n x.event ≡ false) h.more) (sym at) h.stays)
+    (subst (λ n. parted h.base n ≡ false) (sym at) h.joined)
+    h.free
+    (subst (ComesInTime g h.base) (sym at) h.in_time)
+    (subst (λ (l : List Entry). Keeps g l link b) h.parts k)
+    (subst (λ n. IsReadOut g (h.more ++ h.base) n b.rest) (sym at) (subst (λ (l : List Entry). IsReadOut g l c b.rest) h.parts out))
+    broken))
 
 -- ---- what was given
 
@@ -189,7 +189,7 @@ all_given g past link c left h none here empty =
     let all : drawn past c ≡ length D = (let w = h.within in omega (arith, zero, w)) in
     let whole : bytes_drawn g past c ≡ D = ap (λ (n : ℕ). take n D) all ∙ take-length D in
     if_some link.given (λ (bytes : List ℕ) (k : HasGiven g past c left bytes).
-        sym (append-nil bytes) ∙ (ap (λ (l : List ℕ). bytes ++ l) (sym none) ∙ (k.all ∙ whole))) h.given
+    sym (append-nil bytes) ∙ (ap (λ (l : List ℕ). bytes ++ l) (sym none) ∙ (k.all ∙ whole))) h.given
 
 pub sent_whole : (g : Settings) (past : List Entry) (link : Shown) (c : ℕ) (left : List ℕ) → HasDrawnAll g past link c left → left ≡ [] → live past ≡ c → carrying g past ≡ true → queued g past ≡ 0 → IsSent g past link c
 sent_whole g past link c left h none here carries empty = record {
@@ -205,17 +205,17 @@ few_drawn n D = omega (arith, length-take n D)
 pub unsent_left : (g : Settings) (past : List Entry) (link : Shown) (c : ℕ) (left : List ℕ) → HasDrawnAll g past link c left → left ≢ [] → IsUnsent g past link c
 unsent_left g past link c left h some =
     inr (inr (if_some link.given (λ (bytes : List ℕ) (k : HasGiven g past c left bytes) (is : bytes ≡ framed_all (due g past c)).
-        some (nothing_in left (let few = few_drawn (drawn past c) (framed_all (due g past c)) in
-            let both = sym (length-append bytes left) ∙ ap length k.all in
-            let same = ap length is in omega (arith, few, both, same)))) h.given))
+    some (nothing_in left (let few = few_drawn (drawn past c) (framed_all (due g past c)) in
+    let both = sym (length-append bytes left) ∙ ap length k.all in
+    let same = ap length is in omega (arith, few, both, same)))) h.given))
 
 pub unsent_queued : (g : Settings) (past : List Entry) (link : Shown) (c : ℕ) (left : List ℕ) → HasDrawnAll g past link c left → live past ≡ c → queued g past ≢ 0 → IsUnsent g past link c
 unsent_queued g past link c left h here some =
     inr (inr (if_some link.given (λ (bytes : List ℕ) (k : HasGiven g past c left bytes) (is : bytes ≡ framed_all (due g past c)).
-        some (queued_here g past c here ∙ (
-            let few = least (drawn past c) (framed_all (due g past c)) in
-            let both = sym (length-append bytes left) ∙ ap length k.all in
-            let same = ap length is in omega (arith, few, both, same)))) h.given))
+    some (queued_here g past c here ∙ (
+    let few = least (drawn past c) (framed_all (due g past c)) in
+    let both = sym (length-append bytes left) ∙ ap length k.all in
+    let same = ap length is in omega (arith, few, both, same)))) h.given))
   where
     least : (n : ℕ) (D : List ℕ) → length (take n D) ≤ n
     least n D = omega (arith, length-take n D)

@@ -1,13 +1,11 @@
 -- How it goes on where a call stands.
 use Rattle.std.proofs.lemmas.Bool.Decides.{nat_tests}
-use Rattle.std.proofs.lemmas.Grind.{common_steps}
 use Rattle.std.specs.List.{AllByRecursion}
-use Rattle.std.proofs.Common.{◌≡◌, ◌≢◌, ◌==◌, ◌&&◌, ◌||◌, ◌%◌, ◌+◌, ◌<◌, ◌≤◌, ◌^◌, ◌⊎◌, inl, inr, ◌∙◌, ℕ, Bool, true, false, true≢false, not, List, [], ◌∷◌, ◌++◌, length, Option, Some, None, IfSome, is_none, refl, sym, ap, subst, arith, if◌then◌else◌}
+use Rattle.std.proofs.Common.{◌≡◌, ◌==◌, ◌&&◌, ◌||◌, ◌%◌, ◌+◌, ◌<◌, ◌≤◌, ◌⊎◌, inl, inr, ◌∙◌, ℕ, Bool, true, false, true≢false, List, [], ◌∷◌, ◌++◌, Option, Some, None, IfSome, refl, sym, ap, subst, arith, if◌then◌else◌}
 use Rattle.rs_wire.specs.Calls.{is_streamed}
 use Rattle.rs_wire.specs.declared.settings.Settings.{Settings}
 use Rattle.rs_wire.specs.declared.delivery.Delivery.{Delivery}
 use Rattle.rs_wire.specs.declared.delivery.Delivery.TheVariants as delivery
-use Rattle.rs_wire.specs.declared.call.Call.{Call}
 use Rattle.rs_wire.specs.declared.call.Call.TheVariants as call
 use Rattle.tape.specs.declared.event.Event.{Event}
 use Rattle.tape.specs.declared.event.Event.TheVariants as event
@@ -21,7 +19,7 @@ use Rattle.call_model.specs.Saying.{got_in, got_on, has_end, is_end, started, st
 use Rattle.call_model.specs.Order.{Asking, InOrder, MayFollow, comes, is_request, is_taken, items_in, next_call, owes_request, request_of}
 use Rattle.call_model.specs.Timing.{AreMoments, HasMoment}
 use Rattle.call_model.specs.Ran.{HasPlace}
-use Rattle.call_model.specs.Standing.{IsPaid, IsUnended, Stands}
+use Rattle.call_model.specs.Standing.{IsUnended, Stands}
 use Rattle.call_model.proofs.Ordering.{arrivals_on, begun_on, got_none, got_same, is_item, items_more, next_none, next_taken, order_grant, order_on, order_request, order_take, request_takes_none, rest_on, started_on, started_same}
 use Rattle.call_model.proofs.Ending.{end_last}
 
@@ -39,7 +37,7 @@ quiet_on g w moments past x stream fresh order timed legal asks gets takes h =
       knows = h.knows ∙ sym same;
       unused = λ none. h.unused (sym same ∙ none);
       counts = λ streams. subst (λ (o : Option ℕ). IfSome o (λ s. fresh ≡ items_in (got_on (x ∷ past) s) % w.count)) (sym same)
-        (if_some (started past) (λ s is. is ∙ ap (λ (l : List Delivery). items_in l % w.count) (sym (got_same past x s (gets s)))) (h.counts streams));
+          (if_some (started past) (λ s is. is ∙ ap (λ (l : List Delivery). items_in l % w.count) (sym (got_same past x s (gets s)))) (h.counts streams));
     }
   where
     if_some : {P Q : ℕ → Type 0} (o : Option ℕ) → ((s : ℕ) → P s → Q s) → IfSome o P → IfSome o Q
@@ -90,6 +88,7 @@ request_on w moments past x fresh order timed on none next zero some is =
     by : {P : ℕ → Type 0} (o : Option ℕ) → ((s : ℕ) → P s) → IfSome o P
     by None f = tt
     by (Some s) f = f s
+
     zero_rest : (m : ℕ) → 0 % m ≡ 0
     zero_rest m = grind arith
 
@@ -136,7 +135,7 @@ end_on w moments past x s fresh d place is got ends h = record {
   knows = sym (started_on past x s (sym h.knows));
   unused = λ none. absurd (let on = started_on past x s (sym h.knows) in (let no : Some s ≡ None = sym on ∙ none in cc));
   counts = λ streams. subst (λ (o : Option ℕ). IfSome o (λ q. fresh ≡ items_in (got_on (x ∷ past) q) % w.count)) (sym (started_on past x s (sym h.knows)))
-    (subst (λ (o : Option ℕ). IfSome o (λ q. fresh ≡ items_in (got_on past q) % w.count)) (sym h.knows) (h.counts streams)
+      (subst (λ (o : Option ℕ). IfSome o (λ q. fresh ≡ items_in (got_on past q) % w.count)) (sym h.knows) (h.counts streams)
       ∙ ap (λ k. k % w.count) (sym (ap items_in (got_here past x s d is got) ∙ (items_more (got_on past s) (d ∷ []) ∙ (let zero = (no_item d ends).1 in omega (arith, zero))))));
 }
   where
@@ -176,6 +175,7 @@ item_on w moments past x s fresh next d place some is got goes few h =
       | inl r ↦ r.1
       | inr r ↦ absurd (let same = r.0 in omega (arith, same, less))
     ]
+
     by : (b : Bool) → is_streamed w.kind ≡ b → fresh + 1 < w.count → (if is_streamed w.kind && (is_item d && ((items_in (got_on past s) + 1) % w.count == 0)) then Some (call.Grant s w.count) else None) ≡ None
     by false plain less = rw plain refl
     by true streams less = let k = up streams less in let apart : ((items_in (got_on past s) + 1) % w.count == 0) ≡ false = grind (arith, nat_tests) in rw (streams, (one_item d goes).0, apart) refl
@@ -273,7 +273,7 @@ arrivals_stand g w moments (x ∷ more) past stream fresh come legal free h =
     let before = arrivals_stand g w moments more past stream fresh come.1 legal.0 free h in
     let order = arrivals_on w more past come.1 h.0.begins free h.0.order in (
       quiet_on g w moments (more ++ past) x stream fresh (order_on w (more ++ past) x order.0 order.1 (arrives_may w (more ++ past) x.event come.0)) (arrives_timed moments x.event come.0) legal (arrives_asks x.event come.0)
-        (λ s. arrives_none x.answer x.event s come.0) (arrives_takes x.event x.answer come.0) before.0,
+          (λ s. arrives_none x.answer x.event s come.0) (arrives_takes x.event x.answer come.0) before.0,
       unended_on g (more ++ past) x legal (arrives_asks x.event come.0) (λ s. arrives_none x.answer x.event s come.0) before.1,
     )
 
