@@ -2,7 +2,7 @@
 use Rattle.std.proofs.lemmas.Bool.{cases_lt}
 use Rattle.std.proofs.lemmas.Bool.Decides.{nat_tests}
 use Rattle.std.specs.List.{AllByRecursion}
-use Rattle.std.proofs.Common.{◌≡◌, ◌<◌, ◌≤◌, ◌+◌, ◌^◌, ◌⊎◌, inl, inr, ◌∙◌, ℕ, Bool, true, false, true≢false, List, [], ◌∷◌, ◌++◌, length, if◌then◌else◌, None, refl, sym, ap, subst, arith}
+use Rattle.std.proofs.Common.{◌≡◌, ◌<◌, ◌≤◌, ◌^◌, ◌⊎◌, inl, inr, ◌∙◌, ℕ, Bool, true, false, true≢false, List, [], ◌∷◌, ◌++◌, length, if◌then◌else◌, refl, sym, ap, subst, arith}
 use Rattle.rs_wire.specs.declared.settings.Settings.{Settings}
 use Rattle.tape.specs.Answers.{leaves}
 use Rattle.tape.specs.Told.{entry_of}
@@ -10,17 +10,16 @@ use Rattle.tape.specs.declared.event.Event.{Event}
 use Rattle.tape.specs.declared.answer.Answer.{Answer}
 use Rattle.tape.specs.declared.answer.Answer.TheVariants as answer
 use Rattle.tape.specs.declared.entry.Entry.{Entry}
-use Rattle.session_core.specs.Seen.{IsOrOutOfMemory, entries_after}
-use Rattle.session_model.specs.Answers.{answer_to}
+use Rattle.session_core.specs.Seen.{entries_after}
 use Rattle.session_model.specs.Legal.{Fair, Legal}
 use Rattle.session_laws.specs.Streams.{IsLawful}
-use Rattle.conn_lock.specs.Callers.{IsOthers, calls, once, times}
+use Rattle.conn_lock.specs.Callers.{IsOthers, calls, times}
 use Rattle.conn_shared.specs.Calls.{IsCalled, IsStep}
 use Rattle.conn_shared.specs.Lines.{who_of}
 use Rattle.conn_shared.specs.Members.{Continues, Follows, Knowledge}
 use Rattle.link_model.specs.Carrying.{IsAlone, is_of}
 use Rattle.call_model.specs.Ran.{HasPlace}
-use Rattle.client.specs.Alone.{AreNamed, IsOwn, IsSole}
+use Rattle.client.specs.Alone.{AreNamed, IsOwn}
 
 pub all_rest : {A : Type 0} (P : A → Type 0) (xs ys : List A) → AllByRecursion P (xs ++ ys) → AllByRecursion P xs × AllByRecursion P ys
 all_rest P [] ys h = (tt, h)

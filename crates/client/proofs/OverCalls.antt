@@ -1,5 +1,5 @@
 -- A whole call, step by step, where its caller is alone.
-use Rattle.std.proofs.Common.{◌≡◌, ◌∙◌, ℕ, Bool, true, false, List, [], ◌∷◌, ◌++◌, Option, Some, None, append_assoc, append-nil, refl, sym, ap, subst}
+use Rattle.std.proofs.Common.{◌≡◌, ◌∙◌, ℕ, Bool, false, List, [], ◌++◌, Option, Some, None, append_assoc, append-nil, sym, ap, subst}
 use Rattle.rs_wire.specs.declared.words.Kind.{Kind}
 use Rattle.rs_wire.specs.declared.settings.Settings.{Settings}
 use Rattle.outside.specs.Links.{Shown}
@@ -8,7 +8,7 @@ use Rattle.conn_shared.specs.Members.{Knowledge}
 use Rattle.call_model.specs.Order.{Asking}
 use Rattle.call_model.specs.Saying.{said}
 use Rattle.client.specs.Alone.{IsOwn}
-use Rattle.client.specs.Calling.{CanBegin, Comes, GoesFrom, HasEndedBy, IsUnderWay, Owns, StepsTo, StopsFrom, is_finished}
+use Rattle.client.specs.Calling.{CanBegin, Comes, GoesFrom, IsUnderWay, Owns, StepsTo, StopsFrom, is_finished}
 use Rattle.client.specs.Takes.{HasPrinted}
 use Rattle.client.specs.declared.called.Called.{Called}
 use Rattle.client.specs.declared.called.Called.TheVariants as called
@@ -86,9 +86,11 @@ pub run_start : (w : Asking) (moments : Option (List ℕ)) (first : ℕ) (g : Se
     → (IsOwn now → IsOwn start × ((m : Option (List ℕ)) → CanBegin w m start.front c0 present0 → IsUnderWay w m first g now.front c present k [] × (said w.kind false now.front ≡ said w.kind false start.front)))
     → IsOwn now → IsOwn start × (CanBegin w moments start.front c0 present0 → GoesFrom w moments first g start.front now.front c present k [] out out)
 run_start w moments first g start now c0 c present0 present k out h own =
-    let a = h own in
-    (a.0, λ can. (let b = a.1 moments can in record {
-      more = [];
-      under_way = b.0;
-      prints = record { more = []; printed = sym (append-nil out); says = b.1 ∙ sym (append-nil (said w.kind false start.front)) };
-    }))
+    let a = h own in (
+      a.0,
+      λ can. (let b = a.1 moments can in record {
+        more = [];
+        under_way = b.0;
+        prints = record { more = []; printed = sym (append-nil out); says = b.1 ∙ sym (append-nil (said w.kind false start.front)) };
+      }),
+    )

@@ -1,8 +1,6 @@
 -- Whether the end of a call has come, by a caller that is alone.
-use Rattle.std.specs.List.{AllByRecursion}
-use Rattle.std.proofs.Common.{◌≡◌, ◌≢◌, ◌==◌, ◌&&◌, ◌⊎◌, inl, inr, ◌∙◌, ℕ, Bool, true, false, true≢false, List, [], ◌∷◌, ◌++◌, length, Option, Some, None, IfSome, IfOk, Result, Ok, Err, refl, sym, ap, subst, arith, append-nil, append_assoc}
+use Rattle.std.proofs.Common.{◌≡◌, ◌≢◌, ◌==◌, ◌&&◌, ◌⊎◌, inl, inr, ◌∙◌, ℕ, Bool, true, false, true≢false, List, [], ◌++◌, length, Option, Some, None, IfSome, IfOk, Result, Ok, Err, refl, sym, ap, subst, arith, append-nil}
 use Rattle.std.proofs.lemmas.Bool.Decides.{nat_tests}
-use Rattle.std.proofs.lemmas.Grind.{common_steps}
 use Rattle.rs_wire.specs.declared.words.Kind.{Kind}
 use Rattle.rs_wire.specs.declared.words.Kind.TheVariants as kind
 use Rattle.rs_wire.specs.declared.settings.Settings.{Settings}
@@ -13,15 +11,13 @@ use Rattle.session_model.specs.Life.{carrying, live}
 use Rattle.session_laws.specs.Streams.{IsLawful}
 use Rattle.conn_shared.specs.declared.looked.Looked.{Looked}
 use Rattle.conn_shared.specs.Members.{Follows, Knowledge}
-use Rattle.call_model.specs.Ran.{HasPlace}
 use Rattle.call_model.specs.Saying.{HasEnded, HasEndedOf, HasNotEnded, GoesOnOf, IsSent, IsUnsent, delivered_on, end_line, got_of, got_on, has_end, lines_of, said, sent_line, started}
-use Rattle.call_model.specs.Standing.{IsUnended, Stands}
 use Rattle.call_model.specs.Present.{HasDrawnAll}
 use Rattle.call_model.proofs.Ending.{ended_on}
-use Rattle.call_model.proofs.Present.{nothing_in, sent_whole, unsent_left, unsent_queued}
+use Rattle.call_model.proofs.Present.{sent_whole, unsent_left, unsent_queued}
 use Rattle.client.specs.Alone.{IsOwn}
-use Rattle.client.specs.Takes.{AddsRefused, EndsSo, HasPrinted, HasTakenAll, HasTakenEnd, IsTakenIn, IsWhole, Prints, SentSo, TakesFor, TakesSo, is_dry}
-use Rattle.client.proofs.Alone.{IsSame, own_before, own_follows, own_lawful}
+use Rattle.client.specs.Takes.{AddsRefused, HasPrinted, IsTakenIn, IsWhole, Prints, SentSo, TakesFor, TakesSo, is_dry}
+use Rattle.client.proofs.Alone.{IsSame, own_follows}
 use Rattle.client.proofs.OverTakes.{asks_none}
 
 -- ---- a fire-and-forget

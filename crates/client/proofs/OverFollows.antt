@@ -1,15 +1,12 @@
 -- What follows from a step of a call, where its caller is alone.
 use Rattle.std.proofs.lemmas.Bool.Decides.{nat_tests}
 use Rattle.std.proofs.lemmas.Grind.{common_steps}
-use Rattle.std.proofs.lemmas.List.{length-append}
-use Rattle.std.specs.List.{AllByRecursion}
-use Rattle.std.proofs.Common.{◌≡◌, ◌≢◌, ◌<◌, ◌≤◌, ◌+◌, ◌^◌, ◌⊎◌, ◌==◌, inl, inr, ◌∙◌, ℕ, Bool, true, false, true≢false, List, [], ◌∷◌, ◌++◌, length, Option, Some, None, IsSome, append-nil, append_assoc, refl, sym, ap, subst, arith, if◌then◌else◌}
+use Rattle.std.proofs.Common.{◌≡◌, ◌≢◌, ◌<◌, ◌+◌, ◌⊎◌, inl, inr, ◌∙◌, ℕ, Bool, true, false, true≢false, List, [], ◌∷◌, ◌++◌, length, Option, Some, None, IsSome, append-nil, refl, sym, ap, subst, arith}
 use Rattle.rs_wire.specs.declared.words.Kind.{Kind}
 use Rattle.rs_wire.specs.declared.words.Kind.TheVariants as kind
 use Rattle.rs_wire.specs.declared.fault.Cause.{Cause}
-use Rattle.rs_wire.specs.declared.fault.Cause.TheVariants as cause
 use Rattle.rs_wire.specs.declared.settings.Settings.{Settings}
-use Rattle.outside.specs.Links.{IsNew, Shown}
+use Rattle.outside.specs.Links.{Shown}
 use Rattle.tape.specs.Answers.{leaves}
 use Rattle.tape.specs.Told.{entry_of}
 use Rattle.tape.specs.declared.event.Event.{Event}
@@ -32,22 +29,22 @@ use Rattle.pump.specs.Turns.{is_early}
 use Rattle.call_model.specs.Order.{Asking}
 use Rattle.call_model.specs.Standing.{IsPaid, Stands}
 use Rattle.call_model.specs.Present.{IsServed}
-use Rattle.call_model.specs.Ran.{HasPlace, cause_line}
-use Rattle.call_model.specs.Saying.{GoesOnOf, HasNotEnded, has_end, said, started}
+use Rattle.call_model.specs.Ran.{HasPlace}
+use Rattle.call_model.specs.Saying.{GoesOnOf, HasNotEnded, has_end, started}
 use Rattle.call_model.proofs.Ending.{cut_says_none, delivered_same}
 use Rattle.call_model.proofs.Links.{carried_and_one}
 use Rattle.call_model.proofs.Ordering.{started_same}
 use Rattle.client.specs.Alone.{IsOwn}
-use Rattle.client.specs.Answered.{Cuts, TicksAt}
-use Rattle.client.specs.Calling.{Comes, EndsBy, GoesFrom, GoesOn, HasEndedBy, IsUnderWay, Owns, StepsTo, StopsFrom, is_finished}
+use Rattle.client.specs.Answered.{Cuts}
+use Rattle.client.specs.Calling.{EndsBy, GoesFrom, GoesOn, HasEndedBy, IsUnderWay, Owns, StepsTo, StopsFrom, is_finished}
 use Rattle.client.specs.Clients.{ClientSeen, PartsFrom, on, refused_for}
-use Rattle.client.specs.Elsewhere.{Changes, FollowsSo, GoesElsewhere, IsParted, IsPartedAfter, LeavesSo, OpensTicked, StaysHere, StopsElsewhere, looking}
+use Rattle.client.specs.Elsewhere.{FollowsSo, GoesElsewhere, LeavesSo}
 use Rattle.client.specs.Takes.{HasPrinted}
-use Rattle.client.specs.Turning.{HasStepped, IsReady, SaysOf}
+use Rattle.client.specs.Turning.{HasStepped, IsReady}
 use Rattle.client.specs.declared.called.Called.{Called}
 use Rattle.client.specs.declared.called.Called.TheVariants as called
 use Rattle.client.specs.declared.calling.Calling.{Calling}
-use Rattle.client.proofs.Alone.{Adds, IsSame, own_before, own_call, own_follows, own_lawful}
+use Rattle.client.proofs.Alone.{Adds, IsSame, own_call, own_follows, own_lawful}
 use Rattle.client.proofs.OverLinks.{Parts, Reopened, adds_openings, cut_on, open_on, tick_on}
 use Rattle.client.proofs.OverRuns.{closed_for, finished_here, goes_here, full_here, stepped_carried, stepped_left, still_goes, stops_here}
 
@@ -82,11 +79,14 @@ cut_goes k g past link n c a some legal left right h =
   where
     x : Entry
     x = entry_of n (event.Cut c) a
+
     x_past : List Entry
     x_past = x ∷ past
+
     one : (k : Kind) (s : ℕ) → GoesOnOf k g past link c (Some s) → GoesOnOf k g x_past link c (Some s)
     one kind.Fnf s h = inl (cut_off g past n c a some left right)
     one _ s h = ap has_end (delivered_same g past x s (cut_says_none a c)) ∙ h
+
     by : (o : Option ℕ) → GoesOnOf k g past link c o → GoesOnOf k g x_past link c o
     by None h = tt
     by (Some s) h = one k s h
@@ -141,39 +141,52 @@ pub record Went (w : Asking) (moments : Option (List ℕ)) (was : Knowledge) (no
 pub went : (w : Asking) (moments : Option (List ℕ)) (c1 c2 : ClientSeen) (pump : Between) (t : Shown) (first : ℕ) (links : List Shown) (stream : Option ℕ) (fresh most : ℕ) → IsSame c1.caller c2.caller → c1.link ≡ Some t → (x : GoesElsewhere moments c1 c2 pump) → IsOwn c2.caller
     → IsOwn c1.caller × (0 < first → first + length links ≡ c1.conn → openings c1.caller.front ≡ c1.conn → Parts w moments c1.caller.of.settings c1.caller.front c1.caller.front first c1.conn links t stream fresh
     → Went w moments c1.caller c2.caller.front t first c1.conn c2.conn links x.changes.link most stream fresh)
-went w moments c1 c2 pump t first links stream fresh most same has x own = (l.0, λ some at last p. (
-    let p0 = subst (λ (e : List Entry). Parts w moments g start e first c1.conn links t stream fresh) (sym l.1) p in
-    let p1 = cut.2 some at p0 in
-    let p2 = tick_on w moments start kp x.changes.opens.ticked first c1.conn x.changes.opens.now links t stream fresh ticked.1.0 some at x.changes.opens.moment ticked.1.1 tk_own.lawful ticked.1.2 p1 in
-    let o1 : openings kp.front ≡ openings kl.front = adds_openings kl (event.Cut c1.conn) cut.1.0 kp.front refl cut.1.1 in
-    let o2 : openings kt.front ≡ openings kp.front = adds_openings kp (event.Tick x.changes.opens.now) ticked.1.0 kt.front refl ticked.1.2 in
-    let o0 : openings kl.front ≡ openings start = ap openings l.1 in
-    let opened = open_on w moments start kt c2.caller.front first c1.conn c2.conn links t x.changes.link most stream fresh some at x.changes.new_link (own_lawful kt c2.caller same own) opens.1 p2.1 (o2 ∙ (o1 ∙ (o0 ∙ last))) p2.0 in
-    record {
-      place = subst HasPlace l.1 (adds_place kl (event.Cut c1.conn) cut.1.0 kp.front cut.1.1 (adds_place kp (event.Tick x.changes.opens.now) ticked.1.0 kt.front ticked.1.2 (open_place kt c2.conn c2.caller.front opens.1)));
-      again = opened;
-    }))
+went w moments c1 c2 pump t first links stream fresh most same has x own = (
+  l.0,
+  λ some at last p. (
+      let p0 = subst (λ (e : List Entry). Parts w moments g start e first c1.conn links t stream fresh) (sym l.1) p in
+      let p1 = cut.2 some at p0 in
+      let p2 = tick_on w moments start kp x.changes.opens.ticked first c1.conn x.changes.opens.now links t stream fresh ticked.1.0 some at x.changes.opens.moment ticked.1.1 tk_own.lawful ticked.1.2 p1 in
+      let o1 : openings kp.front ≡ openings kl.front = adds_openings kl (event.Cut c1.conn) cut.1.0 kp.front refl cut.1.1 in
+      let o2 : openings kt.front ≡ openings kp.front = adds_openings kp (event.Tick x.changes.opens.now) ticked.1.0 kt.front refl ticked.1.2 in
+      let o0 : openings kl.front ≡ openings start = ap openings l.1 in
+      let opened = open_on w moments start kt c2.caller.front first c1.conn c2.conn links t x.changes.link most stream fresh some at x.changes.new_link (own_lawful kt c2.caller same own) opens.1 p2.1 (o2 ∙ (o1 ∙ (o0 ∙ last))) p2.0 in
+      record {
+        place = subst HasPlace l.1 (adds_place kl (event.Cut c1.conn) cut.1.0 kp.front cut.1.1 (adds_place kp (event.Tick x.changes.opens.now) ticked.1.0 kt.front ticked.1.2 (open_place kt c2.conn c2.caller.front opens.1)));
+        again = opened;
+      }),
+)
   where
     g : Settings
     g = c1.caller.of.settings
+
     start : List Entry
     start = c1.caller.front
+
     kl : Knowledge
     kl = on c1.caller x.looked
+
     kp : Knowledge
     kp = on c1.caller x.changes.parted
+
     kt : Knowledge
     kt = on c1.caller x.changes.opens.ticked
+
     opens : IsOwn kt × Adds kt (event.Open None false) (answer.Opened c2.conn) c2.caller.front
     opens = own_call g kt c2.caller (event.Open None false) (answer.Opened c2.conn) refl same x.changes.opens.opens own
+
     tk_own : IsOwn kt
     tk_own = opens.0
+
     ticked : IsOwn kp × ((a : Answer) × (a ≢ answer.OutOfMemory) × Adds kp (event.Tick x.changes.opens.now) a kt.front)
     ticked = let h = own_call g kp kt (event.Tick x.changes.opens.now) x.changes.opens.tick.answer refl refl x.changes.opens.tick.called opens.0 in (h.0, (x.changes.opens.tick.answer, x.changes.opens.tick.had refl, h.1))
+
     cuts : Cuts kl c1.conn kp.front
     cuts = subst (λ (o : Option Shown). PartsFrom o c1.conn kl kp.front) has x.changes.parts
+
     cut : IsOwn kl × ((a : Answer) × Adds kl (event.Cut c1.conn) a kp.front) × (0 < first → first + length links ≡ c1.conn → Parts w moments g start kl.front first c1.conn links t stream fresh → Parts w moments g start kp.front first c1.conn links t stream fresh)
     cut = parted_own w moments kl kp start t first c1.conn links stream fresh refl cuts ticked.0
+
     l : IsOwn c1.caller × (kl.front ≡ c1.caller.front)
     l = own_follows c1.caller kl refl x.follows cut.0
 
@@ -186,8 +199,10 @@ goes_there w moments past was new t next first conn number most shown k k1 k2 r 
   where
     g : Settings
     g = was.of.settings
+
     a : Reopened w moments g was.front new first conn number links t next most k1.stream k1.fresh
     a = v.again
+
     by : (f : Bool) → k.full ≡ f → IsServed g was.front t conn k1.pump k.full → GoesFrom w moments first g past new number (Some next) k2 links out out'
     by true is served = absurd (let no = served.place is in let place = v.place in omega (arith, no, place))
     by false is served = record {
@@ -235,6 +250,7 @@ goes_nowhere w moments lulls past was now t first conn stream fresh out out' lin
   where
     g : Settings
     g = was.of.settings
+
     not_ended : ((leaves a ≡ false) × (now.front ≡ was.front)) ⊎ ((leaves a ≡ true) × (now.front ≡ entry_of was.number (event.Cut conn) a ∷ was.front) × HasPlace was.front) → GoesOn w.kind g now.front t conn
     not_ended (inl none) place = subst (λ (e : List Entry). HasNotEnded w.kind g e t conn) (sym none.1) (goes (subst HasPlace none.1 place))
     not_ended (inr more) place = subst (λ (e : List Entry). HasNotEnded w.kind g e t conn) (sym more.1)
@@ -273,21 +289,27 @@ module _ (w : Asking) (moments : Option (List ℕ)) (lulls first : ℕ) (past : 
   front_back same = ap (λ (c : ClientSeen). c.caller.front) same
 
   goes_on_here : (r : Turned) (kn : Calling) → is_early r ≡ false → c2 ≡ c1 → k2 ≡ kn → kn.pump ≡ k1.pump → kn.stream ≡ k1.stream → kn.fresh ≡ k1.fresh → kn.request ≡ k1.request → kn.full ≡ k1.full → IsOwn c2.caller → Follow r None
-  goes_on_here r kn late same same_k pump stream fresh request full own = (own_back same own, λ l.
-      let lawful = (own_back same own).lawful in
-      same_goes w moments first c1.caller.of.settings past c1 c2 kn k2 links out out' same same_k
-      (subst (λ (o : Option Shown). GoesFrom w moments first c1.caller.of.settings past c1.caller.front c1.conn o kn links out out') (sym l.has)
-      (goes_here w moments c1.caller.of.settings past c1.caller.front l.t first c1.conn shown k kn r out out' links lawful l.under_way
+  goes_on_here r kn late same same_k pump stream fresh request full own = (
+    own_back same own,
+    λ l.
+        let lawful = (own_back same own).lawful in
+        same_goes w moments first c1.caller.of.settings past c1 c2 kn k2 links out out' same same_k
+        (subst (λ (o : Option Shown). GoesFrom w moments first c1.caller.of.settings past c1.caller.front c1.conn o kn links out out') (sym l.has)
+        (goes_here w moments c1.caller.of.settings past c1.caller.front l.t first c1.conn shown k kn r out out' links lawful l.under_way
         (subst (λ (b : Between). HasStepped w moments c1.caller.of.settings past c1.caller.front l.t c1.conn b kn.stream kn.fresh k.full r false out out') (sym pump)
         (subst (λ (o : Option ℕ). HasStepped w moments c1.caller.of.settings past c1.caller.front l.t c1.conn k1.pump o kn.fresh k.full r false out out') (sym stream)
         (subst (λ f. HasStepped w moments c1.caller.of.settings past c1.caller.front l.t c1.conn k1.pump k1.stream f k.full r false out out') (sym fresh) l.stepped)))
-        (request ∙ l.request) (ap (λ (b : Between). b.conn) pump ∙ l.at) (full ∙ l.full) late)))
+        (request ∙ l.request) (ap (λ (b : Between). b.conn) pump ∙ l.at) (full ∙ l.full) late)),
+  )
 
   stops_on_here : (r : Turned) (r' : Called) → c2 ≡ c1 → IsOwn c2.caller → is_finished r' ≡ false → ((l : Left-over w moments first past shown c1 k k1 r links out out') → EndsBy r' w.kind lulls c1.caller.of.settings c1.caller.front l.t c1.conn)
       → IsOwn c1.caller × (Left-over w moments first past shown c1 k k1 r links out out' → StopsFrom r' w moments lulls first c1.caller.of.settings past c2.caller.front links out out')
-  stops_on_here r r' same own off why = (own_back same own, λ l.
-      same_stops r' w moments lulls first c1.caller.of.settings past c1.caller.front c2.caller.front links out out' (front_back same)
-      (stops_here r' w moments lulls c1.caller.of.settings past c1.caller.front l.t first c1.conn shown k k1.pump k1.stream k1.fresh r false out out' links (own_back same own).lawful l.under_way l.stepped (sym off) (why l)))
+  stops_on_here r r' same own off why = (
+    own_back same own,
+    λ l.
+        same_stops r' w moments lulls first c1.caller.of.settings past c1.caller.front c2.caller.front links out out' (front_back same)
+        (stops_here r' w moments lulls c1.caller.of.settings past c1.caller.front l.t first c1.conn shown k k1.pump k1.stream k1.fresh r false out out' links (own_back same own).lawful l.under_way l.stepped (sym off) (why l)),
+  )
 
   goes_still : (r : Turned) → (l : Left-over w moments first past shown c1 k k1 r links out out') → GoesOn w.kind c1.caller.of.settings c1.caller.front l.t c1.conn
   goes_still r l = still_goes w moments c1.caller.of.settings past c1.caller.front l.t c1.conn k1.pump k1.stream k1.fresh k.full r out out' l.stepped
@@ -311,44 +333,60 @@ module _ (w : Asking) (moments : Option (List ℕ)) (lulls first : ℕ) (past : 
       there : (o : Option Shown) → c1.link ≡ o → IsSome o → Follow r None
       there None is some = absurd (true≢false (sym some))
       there (Some t) is some =
-          let v = went w moments c1 c2 k2.pump t first links k1.stream k1.fresh c1.of.settings.max_in same is x.0 own in (v.0, λ l.
-            let same_t : l.t ≡ t = (let e : Some l.t ≡ Some t = sym l.has ∙ is in cc) in
-            let p = subst (λ (z : Shown). Parts w moments c1.caller.of.settings c1.caller.front c1.caller.front first c1.conn links z k1.stream k1.fresh) same_t (left-of r left v.0.lawful l) in
-            let y = v.1 l.under_way.some (sym l.under_way.number) l.stepped.served.joined.last p in
-            subst (λ (o : Option Shown). GoesFrom w moments first c1.caller.of.settings past c2.caller.front c2.conn o k2 links out out') (sym x.0.changes.has)
-            (goes_there w moments past c1.caller c2.caller.front t x.0.changes.link first c1.conn c2.conn c1.of.settings.max_in shown k k1 k2 r out out' links l.under_way
-              (subst (λ (z : Shown). HasStepped w moments c1.caller.of.settings past c1.caller.front z c1.conn k1.pump k1.stream k1.fresh k.full r false out out') same_t l.stepped) l.request l.full x.1 x.0.changes.pump_is y))
+          let v = went w moments c1 c2 k2.pump t first links k1.stream k1.fresh c1.of.settings.max_in same is x.0 own in (
+            v.0,
+            λ l.
+                let same_t : l.t ≡ t = (let e : Some l.t ≡ Some t = sym l.has ∙ is in cc) in
+                let p = subst (λ (z : Shown). Parts w moments c1.caller.of.settings c1.caller.front c1.caller.front first c1.conn links z k1.stream k1.fresh) same_t (left-of r left v.0.lawful l) in
+                let y = v.1 l.under_way.some (sym l.under_way.number) l.stepped.served.joined.last p in
+                subst (λ (o : Option Shown). GoesFrom w moments first c1.caller.of.settings past c2.caller.front c2.conn o k2 links out out') (sym x.0.changes.has)
+                (goes_there w moments past c1.caller c2.caller.front t x.0.changes.link first c1.conn c2.conn c1.of.settings.max_in shown k k1 k2 r out out' links l.under_way
+                (subst (λ (z : Shown). HasStepped w moments c1.caller.of.settings past c1.caller.front z c1.conn k1.pump k1.stream k1.fresh k.full r false out out') same_t l.stepped) l.request l.full x.1 x.0.changes.pump_is y),
+          )
   leaves_so r (Some (called.Refused why)) same left x linked own =
-      let o = own_follows c1.caller c2.caller same x.0.follows own in (o.0, λ l.
-        same_stops (called.Refused why) w moments lulls first c1.caller.of.settings past c1.caller.front c2.caller.front links out out' o.1
-        (stops_here (called.Refused why) w moments lulls c1.caller.of.settings past c1.caller.front l.t first c1.conn shown k k1.pump k1.stream k1.fresh r false out out' links o.0.lawful l.under_way l.stepped refl
-          (shut o.1 x.1, (elim (closed_for why (called.Refused why) (sym x.2)) [
-            | inl none ↦ absurd (let no : called.Refused why ≡ called.OutOfMemory = none in cc)
-            | inr some ↦ some.1
-          ]), goes_still r l)))
+      let o = own_follows c1.caller c2.caller same x.0.follows own in (
+        o.0,
+        λ l.
+            same_stops (called.Refused why) w moments lulls first c1.caller.of.settings past c1.caller.front c2.caller.front links out out' o.1
+            (stops_here (called.Refused why) w moments lulls c1.caller.of.settings past c1.caller.front l.t first c1.conn shown k k1.pump k1.stream k1.fresh r false out out' links o.0.lawful l.under_way l.stepped refl (
+              shut o.1 x.1,
+              (elim (closed_for why (called.Refused why) (sym x.2)) [
+                | inl none ↦ absurd (let no : called.Refused why ≡ called.OutOfMemory = none in cc)
+                | inr some ↦ some.1
+              ]),
+              goes_still r l,
+            )),
+      )
     where
       shut : c2.caller.front ≡ c1.caller.front → closed c1.caller.of.settings c2.caller.front ≡ Some why → closed c1.caller.of.settings c1.caller.front ≡ Some why
       shut at is = ap (closed c1.caller.of.settings) (sym at) ∙ is
   leaves_so r (Some called.Net) same left (inl stays) linked own =
-      let o = own_follows c1.caller c2.caller same stays.follows own in (o.0, λ l.
-        same_stops called.Net w moments lulls first c1.caller.of.settings past c1.caller.front c2.caller.front links out out' o.1
-        (stops_here called.Net w moments lulls c1.caller.of.settings past c1.caller.front l.t first c1.conn shown k k1.pump k1.stream k1.fresh r false out out' links o.0.lawful l.under_way l.stepped refl (left l, goes_still r l)))
+      let o = own_follows c1.caller c2.caller same stays.follows own in (
+        o.0,
+        λ l.
+            same_stops called.Net w moments lulls first c1.caller.of.settings past c1.caller.front c2.caller.front links out out' o.1
+            (stops_here called.Net w moments lulls c1.caller.of.settings past c1.caller.front l.t first c1.conn shown k k1.pump k1.stream k1.fresh r false out out' links o.0.lawful l.under_way l.stepped refl (left l, goes_still r l)),
+      )
   leaves_so r (Some called.Net) same left (inr parted) linked own = there c1.link refl linked
     where
       kl : Knowledge
       kl = on c1.caller parted.looked
+
       there : (o : Option Shown) → c1.link ≡ o → IsSome o → Follow r (Some called.Net)
       there None is some = absurd (true≢false (sym some))
       there (Some t) is some =
           let cuts : Cuts kl c1.conn c2.caller.front = subst (λ (o : Option Shown). PartsFrom o c1.conn kl c2.caller.front) is parted.parted.parts in
           let c = parted_own w moments kl c2.caller c1.caller.front t first c1.conn links k1.stream k1.fresh same cuts own in
-          let o = own_follows c1.caller kl refl parted.follows c.0 in (o.0, λ l.
-            let same_t : l.t ≡ t = (let e : Some l.t ≡ Some t = sym l.has ∙ is in cc) in
-            let p = subst (λ (z : Shown). Parts w moments c1.caller.of.settings c1.caller.front c1.caller.front first c1.conn links z k1.stream k1.fresh) same_t (left-of r left o.0.lawful l) in
-            let p1 = c.2 l.under_way.some (sym l.under_way.number) (subst (λ (e : List Entry). Parts w moments c1.caller.of.settings c1.caller.front e first c1.conn links t k1.stream k1.fresh) (sym o.1) p) in
-            let goes : HasPlace kl.front → HasNotEnded w.kind c1.caller.of.settings kl.front t c1.conn = λ place. subst (λ (e : List Entry). HasNotEnded w.kind c1.caller.of.settings e t c1.conn) (sym o.1) (subst (λ (z : Shown). HasNotEnded w.kind c1.caller.of.settings c1.caller.front z c1.conn) same_t (goes_still r l (subst HasPlace o.1 place))) in
-            goes_nowhere w moments lulls past kl c2.caller t first c1.conn k1.stream k1.fresh out out' links c.1.0 l.under_way.some l.under_way.number (own_lawful kl c2.caller same own) c.1.1
-              (subst (λ (e : List Entry). HasPrinted w.kind false past e out out') (sym o.1) l.stepped.prints) goes (subst (λ (e : List Entry). Parts w moments c1.caller.of.settings e c2.caller.front first c1.conn links t k1.stream k1.fresh) (sym o.1) p1))
+          let o = own_follows c1.caller kl refl parted.follows c.0 in (
+            o.0,
+            λ l.
+                let same_t : l.t ≡ t = (let e : Some l.t ≡ Some t = sym l.has ∙ is in cc) in
+                let p = subst (λ (z : Shown). Parts w moments c1.caller.of.settings c1.caller.front c1.caller.front first c1.conn links z k1.stream k1.fresh) same_t (left-of r left o.0.lawful l) in
+                let p1 = c.2 l.under_way.some (sym l.under_way.number) (subst (λ (e : List Entry). Parts w moments c1.caller.of.settings c1.caller.front e first c1.conn links t k1.stream k1.fresh) (sym o.1) p) in
+                let goes : HasPlace kl.front → HasNotEnded w.kind c1.caller.of.settings kl.front t c1.conn = λ place. subst (λ (e : List Entry). HasNotEnded w.kind c1.caller.of.settings e t c1.conn) (sym o.1) (subst (λ (z : Shown). HasNotEnded w.kind c1.caller.of.settings c1.caller.front z c1.conn) same_t (goes_still r l (subst HasPlace o.1 place))) in
+                goes_nowhere w moments lulls past kl c2.caller t first c1.conn k1.stream k1.fresh out out' links c.1.0 l.under_way.some l.under_way.number (own_lawful kl c2.caller same own) c.1.1
+                (subst (λ (e : List Entry). HasPrinted w.kind false past e out out') (sym o.1) l.stepped.prints) goes (subst (λ (e : List Entry). Parts w moments c1.caller.of.settings e c2.caller.front first c1.conn links t k1.stream k1.fresh) (sym o.1) p1),
+          )
   leaves_so r (Some called.OutOfMemory) same left x linked own = tt
   leaves_so r (Some called.Finished) same left x linked own = absurd x
   leaves_so r (Some (called.Dead last)) same left x linked own = absurd x
@@ -362,19 +400,22 @@ module _ (w : Asking) (moments : Option (List ℕ)) (lulls first : ℕ) (past : 
   followed turned.Lull result same f linked own = elim f.0 [
     | inl none ↦ subst (Follow turned.Lull) (sym none) (goes_on_here turned.Lull (record k1 { met = k2.met }) refl f.1 f.2 refl refl refl refl refl own)
     | inr idle ↦ subst (Follow turned.Lull) (sym idle) (stops_on_here turned.Lull (called.Idle lulls) f.1 own refl (λ l. (
-        refl,
-        (λ place. (let s = l.stepped.says refl place in (s.0, s.1, (l.stepped.ends.1 place).1))),
-        goes_still turned.Lull l,
-      )))
+      refl,
+      (λ place. (let s = l.stepped.says refl place in (s.0, s.1, (l.stepped.ends.1 place).1))),
+      goes_still turned.Lull l,
+    )))
   ]
   followed turned.End result same f linked own = leaves_so turned.End result same (λ l. (l.stepped.says refl).1) f linked own
   followed turned.LinkFault result same f linked own = leaves_so turned.LinkFault result same (λ l. (l.stepped.says refl).1) f linked own
   followed (turned.Over why) result same f linked own = refused (turned.Over why) why result f.0 f.1 own (λ l. l.stepped.says refl)
   followed (turned.Dead last) result same f linked own = subst (Follow (turned.Dead last)) (sym f.0) (stops_on_here (turned.Dead last) (called.Dead last) f.1 own refl (λ l. (l.stepped.says refl, goes_still (turned.Dead last) l)))
-  followed turned.TapeFull result same f linked own = subst (Follow turned.TapeFull) (sym f.0) (own_back f.1 own, λ l.
-      same_goes w moments first c1.caller.of.settings past c1 c2 (record k1 { full = true }) k2 links out out' f.1 f.2
-      (subst (λ (o : Option Shown). GoesFrom w moments first c1.caller.of.settings past c1.caller.front c1.conn o (record k1 { full = true }) links out out') (sym l.has)
-      (full_here w moments c1.caller.of.settings past c1.caller.front l.t first c1.conn shown k (record k1 { full = true }) out out' links (own_back f.1 own).lawful l.under_way l.stepped l.request l.at refl)))
+  followed turned.TapeFull result same f linked own = subst (Follow turned.TapeFull) (sym f.0) (
+    own_back f.1 own,
+    λ l.
+        same_goes w moments first c1.caller.of.settings past c1 c2 (record k1 { full = true }) k2 links out out' f.1 f.2
+        (subst (λ (o : Option Shown). GoesFrom w moments first c1.caller.of.settings past c1.caller.front c1.conn o (record k1 { full = true }) links out out') (sym l.has)
+        (full_here w moments c1.caller.of.settings past c1.caller.front l.t first c1.conn shown k (record k1 { full = true }) out out' links (own_back f.1 own).lawful l.under_way l.stepped l.request l.at refl)),
+  )
   followed (turned.Displaced n) result same f linked own = subst (Follow (turned.Displaced n)) (sym f.0) tt
   followed turned.OutOfMemory result same f linked own = subst (Follow turned.OutOfMemory) (sym f.0) tt
 
@@ -391,8 +432,10 @@ go_by w moments lulls c c1 c2 k k1 k2 r e result out out' s goes st cn request f
   where
     g : Settings
     g = c.caller.of.settings
+
     past : List Entry
     past = c.caller.front
+
     by : (res : Option Called) → result ≡ res → Owns result (IsOwn c.caller × ((first : ℕ) (links : List Shown) → IsUnderWay w moments first g past c.conn c.link k links → StepsTo result w moments lulls first g past c2.caller.front c2.conn c2.link k2 links out out'))
     by (Some called.OutOfMemory) is = subst (λ x. Owns x (IsOwn c.caller × ((first : ℕ) (links : List Shown) → IsUnderWay w moments first g past c.conn c.link k links → StepsTo x w moments lulls first g past c2.caller.front c2.conn c2.link k2 links out out'))) (sym is) tt
     by _ is = owns_with result (λ first links. followed w moments lulls first past c.link c1 c2 k k1 k2 links out out' r result same follows linked own)
@@ -434,8 +477,10 @@ pub finish_by : (w : Asking) (moments : Option (List ℕ)) (lulls : ℕ) (c c1 :
     → (IsOwn c1.caller → IsOwn c.caller × (IsReady w moments c.caller.of.settings c.caller.front s c.conn k.pump k.stream k.fresh k.full → (t : Shown) × (c1.link ≡ Some t) × HasStepped w moments c.caller.of.settings c.caller.front c1.caller.front t c.conn k1.pump k1.stream k1.fresh k.full r e out out'))
     → IsOwn c1.caller → IsOwn c.caller × ((first : ℕ) (links : List Shown) → IsUnderWay w moments first c.caller.of.settings c.caller.front c.conn c.link k links → StopsFrom called.Finished w moments lulls first c.caller.of.settings c.caller.front c1.caller.front links out out')
 finish_by w moments lulls c c1 k k1 r e out out' s same link is stepped own =
-    let st = stepped own in
-    (st.0, λ first links u.
-      let one : u.link ≡ s = same_link c.link u.link s u.has link in
-      let v = st.1 (subst (λ (z : Shown). IsReady w moments c.caller.of.settings c.caller.front z c.conn k.pump k.stream k.fresh k.full) one u.ready) in
-      finished_here w moments lulls c.caller.of.settings c.caller.front c1.caller.front v.0 first c.conn c.link k k1.pump k1.stream k1.fresh r out out' links (own_lawful c.caller c1.caller same own) u (subst (λ b. HasStepped w moments c.caller.of.settings c.caller.front c1.caller.front v.0 c.conn k1.pump k1.stream k1.fresh k.full r b out out') is v.2))
+    let st = stepped own in (
+      st.0,
+      λ first links u.
+          let one : u.link ≡ s = same_link c.link u.link s u.has link in
+          let v = st.1 (subst (λ (z : Shown). IsReady w moments c.caller.of.settings c.caller.front z c.conn k.pump k.stream k.fresh k.full) one u.ready) in
+          finished_here w moments lulls c.caller.of.settings c.caller.front c1.caller.front v.0 first c.conn c.link k k1.pump k1.stream k1.fresh r out out' links (own_lawful c.caller c1.caller same own) u (subst (λ b. HasStepped w moments c.caller.of.settings c.caller.front c1.caller.front v.0 c.conn k1.pump k1.stream k1.fresh k.full r b out out') is v.2),
+    )

@@ -2,9 +2,7 @@
 use Rattle.std.proofs.lemmas.Bool.Decides.{nat_tests}
 use Rattle.std.proofs.lemmas.Grind.{common_steps}
 use Rattle.std.proofs.lemmas.List.{length-append}
-use Rattle.std.specs.List.{AllByRecursion}
-use Rattle.std.proofs.Common.{◌≡◌, ◌≢◌, ◌<◌, ◌≤◌, ◌+◌, ◌^◌, ◌==◌, ◌⊎◌, inl, inr, ◌∙◌, ℕ, Bool, true, false, true≢false, List, [], ◌∷◌, ◌++◌, length, Option, Some, None, refl, sym, ap, subst, arith}
-use Rattle.rs_wire.specs.declared.words.Kind.{Kind}
+use Rattle.std.proofs.Common.{◌≡◌, ◌≢◌, ◌<◌, ◌≤◌, ◌+◌, ◌^◌, ◌⊎◌, inl, inr, ◌∙◌, ℕ, Bool, true, false, true≢false, List, [], ◌∷◌, ◌++◌, length, Option, None, refl, sym, ap, subst, arith}
 use Rattle.rs_wire.specs.declared.settings.Settings.{Settings}
 use Rattle.outside.specs.Causes.{IsMoment}
 use Rattle.outside.specs.Links.{IsNew, Shown}
@@ -24,14 +22,13 @@ use Rattle.session_model.specs.Means.{Means}
 use Rattle.session_model.proofs.Meaning.{last_means}
 use Rattle.session_laws.specs.Streams.{IsLawful}
 use Rattle.conn_shared.specs.Members.{Knowledge}
-use Rattle.link_model.specs.Carrying.{Between, Carried, Keeps, is_of}
+use Rattle.link_model.specs.Carrying.{Carried, is_of}
 use Rattle.link_model.specs.Leaving.{Left, displaced}
-use Rattle.link_model.proofs.Fresh.{is_carried}
 use Rattle.link_laws.proofs.Leaving.{left_by_one}
 use Rattle.link_laws.proofs.StaysGood.{carried_on}
 use Rattle.call_model.specs.Leaving.{AreCarried, AreLeft}
-use Rattle.call_model.specs.Order.{Asking, MayFollow, is_leased, is_request, is_ticked, moves_only, owes_request}
-use Rattle.call_model.specs.Present.{HasJoined, IsServed}
+use Rattle.call_model.specs.Order.{Asking, MayFollow, is_leased, is_request, is_ticked, moves_only}
+use Rattle.call_model.specs.Present.{IsServed}
 use Rattle.call_model.specs.Ran.{HasPlace}
 use Rattle.call_model.specs.Saying.{got_in, said}
 use Rattle.call_model.specs.Standing.{IsPaid, IsUnended, Stands}
@@ -41,7 +38,6 @@ use Rattle.call_model.proofs.Links.{are_carried_on, are_left_on, carried_and_one
 use Rattle.call_model.proofs.Ordering.{owes_same}
 use Rattle.call_model.proofs.Present.{served_opened, still_opened}
 use Rattle.call_model.proofs.Standing.{is_plain, plain_on}
-use Rattle.client.specs.Alone.{IsOwn}
 use Rattle.client.specs.Takes.{IsTakenIn}
 use Rattle.client.proofs.Alone.{Adds}
 use Rattle.client.proofs.OverTurns.{may_tick, said_still, taken_still}
@@ -150,8 +146,10 @@ tick_full me now a new adds none want place = by a adds.step.answered (λ is. ad
   where
     g : Settings
     g = me.of.settings
+
     right : leaves (answer_to g me.front (event.Tick now)) ≡ true
     right = grind (arith, common_steps)
+
     by : (a : Answer) → IsOrOutOfMemory a (answer_to g me.front (event.Tick now)) → (a ≡ answer.TapeFull → 2 ^ 63 ≤ length me.front) → leaves a ≡ false → a ≢ answer.OutOfMemory → ⊥
     by answer.TapeFull is full none want = (let f = full refl in omega (arith, f, place))
     by answer.OutOfMemory is full none want = want refl
@@ -163,6 +161,7 @@ tick_on w moments start me new first c now links link stream fresh a some at mom
   where
     x : Entry
     x = entry_of me.number (event.Tick now) a
+
     by : ((leaves a ≡ false) × (new ≡ me.front)) ⊎ ((leaves a ≡ true) × (new ≡ x ∷ me.front) × HasPlace me.front) → Parts w moments me.of.settings start new first c links link stream fresh × (HasPlace new → is_ticked new ≡ true)
     by (inl none) = (
       subst (λ (l : List Entry). Parts w moments me.of.settings start l first c links link stream fresh) (sym none.1) h,
@@ -170,7 +169,7 @@ tick_on w moments start me new first c now links link stream fresh a some at mom
     )
     by (inr more) = (
       subst (λ (l : List Entry). Parts w moments me.of.settings start l first c links link stream fresh) (sym more.1)
-      (mute_on w moments me.of.settings start me.front x first c links link stream fresh more.2 some at (subst (Legal me.of.settings) more.1 lawful.legal) refl (may_tick w me.front moments stream fresh now more.2 h.stands h.paid) moment (tick_says_none a now) h),
+          (mute_on w moments me.of.settings start me.front x first c links link stream fresh more.2 some at (subst (Legal me.of.settings) more.1 lawful.legal) refl (may_tick w me.front moments stream fresh now more.2 h.stands h.paid) moment (tick_says_none a now) h),
       λ place. ap is_ticked more.1,
     )
 
@@ -199,8 +198,10 @@ open_on w moments start me new first c number links link next most stream fresh 
   where
     g : Settings
     g = me.of.settings
+
     x : Entry
     x = entry_of me.number (event.Open None false) (answer.Opened number)
+
     by : ((leaves (answer.Opened number) ≡ false) × (new ≡ me.front)) ⊎ ((leaves (answer.Opened number) ≡ true) × (new ≡ x ∷ me.front) × HasPlace me.front) → Reopened w moments g start new first c number links link next most stream fresh
     by (inl none) = absurd (true≢false none.0)
     by (inr more) =

@@ -1,16 +1,13 @@
 -- A step of a call and what follows from it, where its caller is alone.
 use Rattle.std.proofs.lemmas.List.{length-append}
-use Rattle.std.specs.List.{AllByRecursion}
-use Rattle.std.proofs.Common.{◌≡◌, ◌≢◌, ◌<◌, ◌≤◌, ◌+◌, ◌^◌, ◌⊎◌, inl, inr, ◌∙◌, ℕ, Bool, true, false, true≢false, List, [], ◌∷◌, ◌++◌, length, Option, Some, None, IsSome, append-nil, refl, sym, ap, subst, arith}
+use Rattle.std.proofs.Common.{◌≡◌, ◌<◌, ◌≤◌, ◌+◌, ◌^◌, ◌⊎◌, inl, inr, ◌∙◌, ℕ, Bool, true, false, true≢false, List, [], ◌∷◌, ◌++◌, length, Option, Some, IsSome, append-nil, refl, sym, ap, subst, arith}
 use Rattle.rs_wire.specs.declared.fault.Cause.{Cause}
 use Rattle.rs_wire.specs.declared.fault.Cause.TheVariants as cause
 use Rattle.rs_wire.specs.declared.settings.Settings.{Settings}
 use Rattle.outside.specs.Links.{Shown}
 use Rattle.tape.specs.declared.entry.Entry.{Entry}
 use Rattle.session_model.specs.Legal.{Legal}
-use Rattle.session_model.specs.Life.{closed, openings}
 use Rattle.link_model.specs.Carrying.{Between, Carried}
-use Rattle.link_model.specs.Leaving.{Left, displaced}
 use Rattle.link_model.proofs.Fresh.{is_carried}
 use Rattle.pump.specs.declared.turned.Turned.{Turned}
 use Rattle.pump.specs.declared.turned.Turned.TheVariants as turned
@@ -19,16 +16,13 @@ use Rattle.call_model.specs.Leaving.{AreCarried, AreLeft}
 use Rattle.call_model.specs.Order.{Asking}
 use Rattle.call_model.specs.Present.{IsServed}
 use Rattle.call_model.specs.Ran.{HasPlace, cause_line}
-use Rattle.call_model.specs.Saying.{HasEnded}
-use Rattle.call_model.specs.Standing.{IsPaid, IsUnended, Stands}
-use Rattle.call_model.proofs.Links.{are_carried_more, are_left_more, carried_and_one, openings_more}
+use Rattle.call_model.proofs.Links.{are_carried_more, are_left_more, carried_and_one}
 use Rattle.call_model.proofs.Present.{served_drawn}
 use Rattle.session_laws.specs.Streams.{IsLawful}
-use Rattle.client.specs.Calling.{Comes, EndsBy, GoesFrom, GoesOn, HasEndedBy, IsUnderWay, Owns, StepsTo, StopsFrom, is_finished}
-use Rattle.client.specs.Elsewhere.{FollowsSo}
-use Rattle.client.specs.Clients.{ClientSeen, refused_for}
-use Rattle.client.specs.Turning.{HasStepped, IsReady, SaysOf}
-use Rattle.client.specs.Takes.{EndsNow, HasPrinted}
+use Rattle.client.specs.Calling.{EndsBy, GoesFrom, GoesOn, HasEndedBy, IsUnderWay, StopsFrom, is_finished}
+use Rattle.client.specs.Clients.{refused_for}
+use Rattle.client.specs.Turning.{HasStepped}
+use Rattle.client.specs.Takes.{HasPrinted}
 use Rattle.client.specs.declared.called.Called.{Called}
 use Rattle.client.specs.declared.called.Called.TheVariants as called
 use Rattle.client.specs.declared.calling.Calling.{Calling}

@@ -1,14 +1,11 @@
 -- The first step of a call whose caller is alone: its request, right after the first opening.
-use Rattle.std.proofs.lemmas.Grind.{common_steps}
-use Rattle.std.proofs.Common.{◌≡◌, ◌<◌, ◌⊎◌, ◌&&◌, ◌||◌, inl, inr, ◌∙◌, not, ℕ, Bool, true, false, true≢false, cond, List, [], ◌∷◌, ◌++◌, length, Option, Some, None, Ok, refl, sym, ap, subst, arith, append-nil, if◌then◌else◌, ltb}
+use Rattle.std.proofs.Common.{◌≡◌, ◌<◌, ◌⊎◌, ◌||◌, inl, inr, ◌∙◌, ℕ, Bool, true, false, true≢false, cond, List, [], ◌∷◌, Option, Some, None, Ok, refl, sym, ap, subst, arith, ltb}
 use Rattle.rs_wire.specs.declared.settings.Settings.{Settings}
 use Rattle.rs_wire.specs.declared.words.Kind.{Kind}
 use Rattle.rs_wire.specs.declared.words.Kind.TheVariants as kind
-use Rattle.rs_wire.specs.declared.delivery.Delivery.{Delivery}
 use Rattle.rs_wire.specs.declared.message.Message.{Message}
-use Rattle.rs_wire.specs.declared.call.Call.{Call}
 use Rattle.rs_wire.specs.declared.call.Call.TheVariants as asks
-use Rattle.outside.specs.Links.{IsNew, Shown}
+use Rattle.outside.specs.Links.{Shown}
 use Rattle.tape.specs.Answers.{leaves}
 use Rattle.tape.specs.Told.{entry_of}
 use Rattle.tape.specs.declared.event.Event.{Event}
@@ -18,38 +15,34 @@ use Rattle.tape.specs.declared.answer.Answer.TheVariants as answer
 use Rattle.tape.specs.declared.entry.Entry.{Entry}
 use Rattle.stream_model.specs.Arriving.{ours}
 use Rattle.stream_model.specs.Fair.{Fair as FairMarks}
-use Rattle.stream_model.specs.Marks.{Mark, Opening, Opens}
-use Rattle.stream_model.specs.Streams.{is_admitted, live as live_streams, turn}
-use Rattle.stream_model.specs.Turns.{Turn, delivered}
+use Rattle.stream_model.specs.Marks.{Opening}
+use Rattle.stream_model.specs.Streams.{is_admitted, live as live_streams}
+use Rattle.stream_model.specs.Turns.{delivered}
 use Rattle.stream_model.proofs.Ids.{turn_opened}
-use Rattle.session_model.specs.Lists.{first_of}
 use Rattle.session_model.specs.Life.{begun, is_opened, openings}
 use Rattle.session_model.specs.Answers.{facts}
 use Rattle.session_model.specs.Means.{Means}
 use Rattle.session_model.proofs.Meaning.{last_means}
-use Rattle.session_model.specs.Legal.{Fair, Legal}
+use Rattle.session_model.specs.Legal.{Legal}
 use Rattle.session_model.specs.Streams.{heard_in, words}
 use Rattle.session_model.proofs.Fairness.{legal_fair}
-use Rattle.session_laws.specs.Streams.{IsLawful, stream}
+use Rattle.session_laws.specs.Streams.{IsLawful}
 use Rattle.conn_shared.specs.Members.{Knowledge}
 use Rattle.link_model.specs.Carrying.{Between}
 use Rattle.link_model.specs.Leaving.{displaced}
 use Rattle.call_model.specs.Order.{Asking, InOrder, MayAsk, MayFollow, next_call, request_of}
-use Rattle.call_model.specs.Present.{HasJoined, IsServed}
+use Rattle.call_model.specs.Present.{IsServed}
 use Rattle.call_model.specs.Ran.{HasPlace}
 use Rattle.call_model.specs.Saying.{delivered_of, delivered_on, got_in, got_on, said, started, started_in}
-use Rattle.call_model.specs.Timing.{AreMoments}
-use Rattle.call_model.specs.Standing.{IsPaid, IsUnended, Stands}
 use Rattle.call_model.proofs.Ordering.{got_none, got_same}
 use Rattle.call_model.proofs.Present.{served_opened, still_opened}
 use Rattle.client.specs.Alone.{IsOwn}
 use Rattle.client.specs.Calling.{CanBegin, HasBegun, IsUnderWay}
 use Rattle.client.specs.Clients.{HasAsked}
-use Rattle.client.specs.Takes.{AsksMore, IsTakenIn}
-use Rattle.client.specs.Turning.{IsReady}
+use Rattle.client.specs.Takes.{IsTakenIn}
 use Rattle.client.specs.declared.calling.Calling.{Calling}
 use Rattle.client.proofs.Alone.{Adds, IsSame, own_call, own_lawful}
-use Rattle.client.proofs.OverSteps.{HasPaid, Waits, asked_so, asks_served, asks_still, place_before}
+use Rattle.client.proofs.OverSteps.{HasPaid, Waits, asked_so, asks_served, asks_still}
 
 -- ---- before the first opening
 
@@ -119,7 +112,7 @@ whole_start w g me a new s lawful adds none on nothing = nothing ∙ sym (by add
     here (answer.Started id) first at =
         let same_id : id ≡ s = (let e : Some id ≡ Some s = first in cc) in
         ap (λ (l : List Entry). delivered_on g l s) at ∙ (subst (λ n. delivered_on g (entry (answer.Started id) ∷ me.front) n ≡ []) same_id
-            (request_delivers g me.front me.number id w.kind _ _ _ (subst (IsLawful g) at lawful)))
+        (request_delivers g me.front me.number id w.kind _ _ _ (subst (IsLawful g) at lawful)))
     here _ first at = absurd (cc)
 
     by : ((leaves a ≡ false) × (new ≡ me.front)) ⊎ ((leaves a ≡ true) × (new ≡ entry a ∷ me.front) × HasPlace me.front) → delivered_on g new s ≡ []
@@ -155,10 +148,13 @@ starts w moments was now conn present k most same asked request pump zero full s
   where
     g : Settings
     g = was.of.settings
+
     h : IsOwn was × (0 < w.count → Waits w moments was.front k.fresh → (HasPlace was.front → (next_call w was.front ≡ None) ⊎ (next_call w was.front ≡ Some (request_of w))) → HasPaid w moments was.front now.front None k.stream k.fresh)
     h = asked_so w moments was now k.stream k.fresh same asked own
+
     lawful : IsLawful g now.front
     lawful = own_lawful was now same own
+
     adds : Adds was (event.Asked (request_of w)) asked.came.answer now.front
     adds = (own_call g was now (event.Asked (request_of w)) asked.came.answer refl same asked.came.called own).1
 
@@ -177,7 +173,7 @@ starts w moments was now conn present k most same asked request pump zero full s
         let waits : Waits w moments was.front k.fresh = record { order = order; timed = timed; begins = begins; none = none; zero = zero } in
         let p = h.1 some waits (λ place. inr next) in
         let served : IsServed g was.front link conn k.pump k.full = subst (λ f. IsServed g was.front link conn k.pump f) (sym full) (subst (λ (z : Between). IsServed g was.front link conn z false) (sym pump) (subst (λ (l : List Entry). IsServed g l link conn (record { conn = conn; left = []; rest = []; max_in = most; bad = false }) false) (sym b.is)
-            (served_opened g b.before b.entry link conn most legal_x b.event b.answered can.new_link))) in
+        (served_opened g b.before b.entry link conn most legal_x b.event b.answered can.new_link))) in
         let still : displaced was.front conn ≡ false = subst (λ (l : List Entry). displaced l conn ≡ false) (sym b.is) (still_opened g b.before b.entry conn legal_x b.event b.answered) in
         let last : openings was.front ≡ conn = served.joined.last in
         let above : 0 < conn = some_opening was.front b last in (
@@ -206,5 +202,6 @@ starts w moments was now conn present k most same asked request pump zero full s
         taken_in : (k : Kind) → ((s : ℕ) → started now.front ≡ Some s → got_on now.front s ≡ delivered_on g now.front s) → IsTakenIn k g now.front
         taken_in kind.Fnf whole = tt
         taken_in _ whole = whole
+
         some_opening : (past : List Entry) → HasBegun past conn → openings past ≡ conn → 0 < conn
         some_opening past b last = subst (λ n. 0 < n) (sym (ap openings b.is) ∙ last) (opens_some b.entry b.before b.event)

@@ -1,9 +1,7 @@
 -- A step of a call whose caller is alone: a turn, the request, and what waits.
-use Rattle.std.proofs.lemmas.Bool.Decides.{nat_tests}
-use Rattle.std.proofs.lemmas.Grind.{common_steps}
 use Rattle.std.proofs.lemmas.List.{length-append}
 use Rattle.std.specs.List.{AllByRecursion}
-use Rattle.std.proofs.Common.{◌≡◌, ◌≢◌, ◌<◌, ◌≤◌, ◌+◌, ◌%◌, ◌^◌, ◌==◌, ◌⊎◌, inl, inr, ◌∙◌, ℕ, Bool, true, false, true≢false, List, [], ◌∷◌, ◌++◌, length, Option, Some, None, IfSome, Result, Ok, Err, refl, sym, ap, subst, arith, append-nil, append_assoc, if◌then◌else◌}
+use Rattle.std.proofs.Common.{◌≡◌, ◌≢◌, ◌<◌, ◌≤◌, ◌%◌, ◌^◌, ◌⊎◌, inl, inr, ◌∙◌, ℕ, Bool, true, false, true≢false, List, [], ◌∷◌, ◌++◌, length, Option, Some, None, IfSome, Ok, refl, sym, ap, subst, arith, append-nil, append_assoc, if◌then◌else◌}
 use Rattle.rs_wire.specs.declared.words.Kind.{Kind}
 use Rattle.rs_wire.specs.declared.settings.Settings.{Settings}
 use Rattle.rs_wire.specs.declared.call.Call.TheVariants as asks
@@ -16,7 +14,7 @@ use Rattle.tape.specs.declared.answer.Answer.{Answer}
 use Rattle.tape.specs.declared.answer.Answer.TheVariants as answer
 use Rattle.tape.specs.declared.entry.Entry.{Entry}
 use Rattle.session_model.specs.Frames.{due, owes, was_opened}
-use Rattle.session_model.specs.Life.{closed, is_live, live, live_after, openings_in, carrying}
+use Rattle.session_model.specs.Life.{closed, is_live, live, openings_in, carrying}
 use Rattle.session_model.specs.Legal.{Legal}
 use Rattle.session_model.specs.Means.{Means}
 use Rattle.session_model.proofs.Meaning.{last_means}
@@ -36,7 +34,6 @@ use Rattle.session_model.specs.Answers.{answer_to, facts, refused_call}
 use Rattle.session_model.specs.Life.{begun}
 use Rattle.rs_wire.specs.declared.fault.Refusal.{Refusal}
 use Rattle.rs_wire.specs.declared.words.Side.TheVariants.{Client}
-use Rattle.rs_wire.specs.declared.memory.OutOfMemory.{OutOfMemory}
 use Rattle.tape.specs.Answers.{leaves}
 use Rattle.tape.specs.Told.{entry_of}
 use Rattle.link_model.specs.Giving.{HasGiven}
@@ -52,7 +49,6 @@ use Rattle.client.specs.Alone.{IsOwn}
 use Rattle.client.specs.Answered.{asked_by}
 use Rattle.client.specs.Clients.{AsksSo, HasAsked, IsNoted, stream_after}
 use Rattle.client.specs.declared.calls.Asked.{Asked}
-use Rattle.client.specs.declared.calls.Asked.TheVariants as askeds
 use Rattle.client.specs.Takes.{AddsRefused, AsksMore, EndsNow, EndsSo, IsTakenIn, TakesFor, is_call, is_refused}
 use Rattle.client.specs.Turning.{Drops, DropsFor, HasStepped, HasTurned, IsReady, SaysOf, TurnsSo}
 use Rattle.client.proofs.Alone.{Adds, IsSame, own_before, own_call, own_lawful}
@@ -114,6 +110,7 @@ refused_owes g past c (answer.Refused why) e is = by (is_live (live past) c) (ca
   where
     nothing : List Frame
     nothing = []
+
     by : (here carries : Bool) → (if here then nothing ++ (if carries then nothing else nothing) else nothing) ≡ nothing
     by true true = refl
     by true false = refl
@@ -138,6 +135,7 @@ asks_served g past new link c b full a h = by a.place
   where
     same : a.more ≡ [] → past ≡ new
     same none = sym (a.on ∙ ap (λ (l : List Entry). l ++ past) none)
+
     by : (a.more ≡ []) ⊎ HasPlace past → IsServed g new link c b full
     by (inl none) = subst (λ (l : List Entry). IsServed g l link c b full) (same none) h
     by (inr place) = subst (λ (l : List Entry). IsServed g l link c b full) (sym a.on) (record {
@@ -168,12 +166,18 @@ says_on g past new link c b full turned.Lull legal served a refused says = λ pl
         | inr stalls ↦ inr stalls
       ],
     )
-says_on g past new link c b full turned.End legal served a refused says = (says.0, λ place.
-    let before = place_before past new a place in
-    subst (λ (l : List Entry). Left g l link c) (sym a.on) (left_later g link c a.more past (subst (Legal g) a.on legal) (opened_here g past link c b full served before) (calls_apart c a.more a.all) (says.1 before)))
-says_on g past new link c b full turned.LinkFault legal served a refused says = (says.0, λ place.
-    let before = place_before past new a place in
-    subst (λ (l : List Entry). Left g l link c) (sym a.on) (left_later g link c a.more past (subst (Legal g) a.on legal) (opened_here g past link c b full served before) (calls_apart c a.more a.all) (says.1 before)))
+says_on g past new link c b full turned.End legal served a refused says = (
+  says.0,
+  λ place.
+      let before = place_before past new a place in
+      subst (λ (l : List Entry). Left g l link c) (sym a.on) (left_later g link c a.more past (subst (Legal g) a.on legal) (opened_here g past link c b full served before) (calls_apart c a.more a.all) (says.1 before)),
+)
+says_on g past new link c b full turned.LinkFault legal served a refused says = (
+  says.0,
+  λ place.
+      let before = place_before past new a place in
+      subst (λ (l : List Entry). Left g l link c) (sym a.on) (left_later g link c a.more past (subst (Legal g) a.on legal) (opened_here g past link c b full served before) (calls_apart c a.more a.all) (says.1 before)),
+)
 says_on g past new link c b full (turned.Over why) legal served a refused says = subst (λ (l : List Entry). closed g l ≡ Some why) (sym a.on) (stays_closed g a.more past why says)
 says_on g past new link c b full (turned.Dead last) legal served a refused says = subst (λ (l : List Entry). HasDied g l last) (sym a.on) (died_more g a.more past last says)
 says_on g past new link c b full (turned.Moved given taken) legal served a refused says = tt
@@ -236,9 +240,9 @@ turned_so w moments was now s t b d stream fresh true r client same limit p own 
     let here : now.front ≡ was.front = ap (λ (k : Knowledge). k.front) p.0 in (
       subst IsOwn p.0 own,
       λ stands unended paid served still.
-        subst (λ (l : List Entry). HasTurned w moments was.of.settings was.front l t b.conn d stream fresh true r) (sym here)
-        (subst (λ (z : Between). HasTurned w moments was.of.settings was.front was.front t b.conn z stream fresh true r) (sym p.1)
-        (dropped w moments was.of.settings was.front s t b.conn b stream fresh r p.2 stands unended paid served)),
+          subst (λ (l : List Entry). HasTurned w moments was.of.settings was.front l t b.conn d stream fresh true r) (sym here)
+          (subst (λ (z : Between). HasTurned w moments was.of.settings was.front was.front t b.conn z stream fresh true r) (sym p.1)
+          (dropped w moments was.of.settings was.front s t b.conn b stream fresh r p.2 stands unended paid served)),
     )
 
 -- ---- the request
@@ -267,9 +271,11 @@ request_full me w a new adds none want place = by a adds.step.answered (λ is. a
   where
     g : Settings
     g = me.of.settings
+
     right : (o : Option Refusal) → refused_call g (facts g me.front) (request_of w) ≡ o → leaves (answer_to g me.front (event.Asked (request_of w))) ≡ true
     right None is = rw is refl
     right (Some why) is = rw is refl
+
     by : (a : Answer) → IsOrOutOfMemory a (answer_to g me.front (event.Asked (request_of w))) → (a ≡ answer.TapeFull → 2 ^ 63 ≤ length me.front) → leaves a ≡ false → a ≢ answer.OutOfMemory → ⊥
     by answer.TapeFull is full none want = (let f = full refl in omega (arith, f, place))
     by answer.OutOfMemory is full none want = want refl
@@ -318,7 +324,12 @@ asked_so w moments was now stream' fresh same asked own =
         (subst (λ (o : Option ℕ). HasPaid w moments was.front was.front None o fresh) (sym same_stream) (record {
           asks = asks_none was.front;
           stands = record {
-            order = waits.order; timed = waits.timed; begins = waits.begins; free = λ place. absurd (full place); knows = sym waits.none; unused = λ on. waits.zero;
+            order = waits.order;
+            timed = waits.timed;
+            begins = waits.begins;
+            free = λ place. absurd (full place);
+            knows = sym waits.none;
+            unused = λ on. waits.zero;
             counts = λ on. subst (λ (o : Option ℕ). IfSome o (λ s. fresh ≡ items_in (got_on was.front s) % w.count)) (sym waits.none) tt;
           };
           unended = unended_none was.front waits.none;
@@ -354,16 +365,16 @@ asks_so w moments g past was now t c d stream stream' fresh full r same (inr non
   own_before was now same ([], none.1) own,
   λ some turned. (
     subst (λ (l : List Entry). HasPaid w moments was.front l stream stream' fresh) (sym none.1)
-    (subst (λ (o : Option ℕ). HasPaid w moments was.front was.front stream o fresh) (sym none.0) (record {
-      asks = asks_none was.front;
-      stands = turned.stands;
-      unended = turned.unended;
-      paid = λ place is. elim none.2 [
-        | inl some_stream ↦ absurd (some_stream is)
-        | inr lull ↦ turned.paid lull place is
-      ];
-      same = λ k. refl;
-    })),
+        (subst (λ (o : Option ℕ). HasPaid w moments was.front was.front stream o fresh) (sym none.0) (record {
+          asks = asks_none was.front;
+          stands = turned.stands;
+          unended = turned.unended;
+          paid = λ place is. elim none.2 [
+            | inl some_stream ↦ absurd (some_stream is)
+            | inr lull ↦ turned.paid lull place is
+          ];
+          same = λ k. refl;
+        })),
     λ lull. none.1,
   ),
 )
@@ -379,15 +390,19 @@ pub has_stepped : (w : Asking) (moments : Option (List ℕ)) (kind : Kind) (coun
 has_stepped w moments kind count was k1 k2 now s t c b d stream stream' fresh fresh' full r ended out out' client same1 same2 same3 at limit is_kind is_count turns asks takes own =
     let taken = takes own in
     let asked = asks_so w moments was.of.settings was.front k1 k2 t b.conn d stream stream' fresh full r same2 asks taken.0 in
-    let turned = turned_so w moments was k1 s t b d stream fresh full r client same1 limit turns asked.0 in
-    (turned.0, λ ready. by taken.0 asked.0 taken.1 (asked.1 ready.some)
-      (turned.1 ready.stands ready.unended ready.paid (subst (λ n. IsServed was.of.settings was.front s n b full) (sym at) ready.served) (λ place. subst (λ n. displaced was.front n ≡ false) (sym at) (ready.still place)))
-      (λ place. subst (λ z. IsTakenIn z was.of.settings was.front) is_kind (ready.whole place)))
+    let turned = turned_so w moments was k1 s t b d stream fresh full r client same1 limit turns asked.0 in (
+      turned.0,
+      λ ready. by taken.0 asked.0 taken.1 (asked.1 ready.some)
+          (turned.1 ready.stands ready.unended ready.paid (subst (λ n. IsServed was.of.settings was.front s n b full) (sym at) ready.served) (λ place. subst (λ n. displaced was.front n ≡ false) (sym at) (ready.still place)))
+          (λ place. subst (λ z. IsTakenIn z was.of.settings was.front) is_kind (ready.whole place)),
+    )
   where
     g : Settings
     g = was.of.settings
+
     same12 : IsSame was k2
     same12 = same_both was k1 k2 same1 same2
+
     by : IsOwn k2 → IsOwn k1 → ((link : Shown) → HasDrawnAll k2.of.settings k2.front link c d.left → TakesFor ended kind count k2.of.settings link c stream' k2.front now.front fresh fresh' out out')
         → (HasTurned w moments g was.front k1.front t b.conn d stream fresh full r → HasPaid w moments k1.front k2.front stream stream' fresh × (r ≡ turned.Lull → k2.front ≡ k1.front))
         → HasTurned w moments g was.front k1.front t b.conn d stream fresh full r → (HasPlace was.front → IsTakenIn kind g was.front) → HasStepped w moments g was.front now.front t c d stream' fresh' full r ended out out'
@@ -411,12 +426,12 @@ has_stepped w moments kind count was k1 k2 now s t c b d stream stream' fresh fr
           still = λ late place. asks_still g k1.front now.front c lawful.legal both (subst (λ n. displaced k1.front n ≡ false) at (turned.still late (place_before k1.front now.front both place)));
           paid = λ place none. ap owes_request (k.none none) ∙ p.paid (place_before k2.front now.front k.asks place) none;
           says = λ goes. says_on g k1.front now.front t c d full r lawful.legal (subst (λ n. IsServed g k1.front t n d full) at turned.served) both
-            (λ lull place.
+              (λ lull place.
               let one = a.1 lull in
               let before : HasPlace was.front = before_more was.front k1.front turned.more on1 place in
               let in_whole : IsTakenIn kind g k2.front = subst (IsTakenIn kind g) (sym one) (turned.takes lull kind (whole before)) in
               subst (λ (l : List Entry). AddsRefused l now.front) one (k.idle goes knows in_whole))
-            (subst (λ n. SaysOf g k1.front t n r) at turned.says);
+              (subst (λ n. SaysOf g k1.front t n r) at turned.says);
           prints = (let q = k.prints knows in record {
             more = q.more;
             printed = q.printed;
@@ -427,6 +442,7 @@ has_stepped w moments kind count was k1 k2 now s t c b d stream stream' fresh fr
       where
         before_more : (past new more : List Entry) → new ≡ more ++ past → HasPlace new → HasPlace past
         before_more past new more on place = let sum = ap length on ∙ length-append more past in omega (arith, place, sum)
+
         ends_now : (e : Bool) → IsUnended k2.front → EndsSo e kind g k2.front now.front t c → EndsNow e kind g now.front t c
         ends_now true un ends = ends
         ends_now false un ends = ends un
@@ -438,13 +454,15 @@ takes_as : (ended : Bool) (kind : Kind) (count : ℕ) (k2 now : Knowledge) (conn
     → IsOwn now → IsOwn k2 × ((link : Shown) → HasDrawnAll k2.of.settings k2.front link c left → TakesFor ended kind count k2.of.settings link c stream k2.front now.front fresh fresh' out out')
 takes_as ended kind count k2 now conn2 c left2 left stream2 stream fresh2 fresh fresh' out2 out out' a b d e f h own =
     let g = k2.of.settings in
-    let t = h own in
-    (t.0, λ link drawn.
-      subst (λ (x : ℕ). TakesFor ended kind count g link x stream k2.front now.front fresh fresh' out out') a
-      (subst (λ (x : Option ℕ). TakesFor ended kind count g link conn2 x k2.front now.front fresh fresh' out out') d
-      (subst (λ (x : ℕ). TakesFor ended kind count g link conn2 stream2 k2.front now.front x fresh' out out') e
-      (subst (λ (x : List ℕ). TakesFor ended kind count g link conn2 stream2 k2.front now.front fresh2 fresh' x out') f
-      (t.1 link (subst (λ (x : ℕ). HasDrawnAll g k2.front link x left2) (sym a) (subst (λ (x : List ℕ). HasDrawnAll g k2.front link c x) (sym b) drawn)))))))
+    let t = h own in (
+      t.0,
+      λ link drawn.
+          subst (λ (x : ℕ). TakesFor ended kind count g link x stream k2.front now.front fresh fresh' out out') a
+          (subst (λ (x : Option ℕ). TakesFor ended kind count g link conn2 x k2.front now.front fresh fresh' out out') d
+          (subst (λ (x : ℕ). TakesFor ended kind count g link conn2 stream2 k2.front now.front x fresh' out out') e
+          (subst (λ (x : List ℕ). TakesFor ended kind count g link conn2 stream2 k2.front now.front fresh2 fresh' x out') f
+          (t.1 link (subst (λ (x : ℕ). HasDrawnAll g k2.front link x left2) (sym a) (subst (λ (x : List ℕ). HasDrawnAll g k2.front link c x) (sym b) drawn)))))),
+    )
 
 pub stepped_by : (w : Asking) (moments : Option (List ℕ)) (kind : Kind) (count : ℕ) (was k1 k2 now : Knowledge) (s t : Shown) (c conn2 : ℕ) (b d d3 : Between) (left2 : List ℕ) (stream stream1 stream2 stream3 : Option ℕ) (fresh fresh2 fresh' : ℕ) (full : Bool) (r : Turned) (ended : Bool) (out out2 out' : List ℕ)
     → was.of.settings.side ≡ Client → IsSame was k1 → IsSame k1 k2 → IsSame k2 now → b.conn ≡ c → b.max_in ≡ was.of.settings.max_in → w.kind ≡ kind → w.count ≡ count
@@ -454,8 +472,10 @@ pub stepped_by : (w : Asking) (moments : Option (List ℕ)) (kind : Kind) (count
     → IsOwn now → IsOwn was × (IsReady w moments was.of.settings was.front s c b stream fresh full → HasStepped w moments was.of.settings was.front now.front t c d3 stream3 fresh' full r ended out out')
 stepped_by w moments kind count was k1 k2 now s t c conn2 b d d3 left2 stream stream1 stream2 stream3 fresh fresh2 fresh' full r ended out out2 out' client same1 same2 same3 at limit is_kind is_count e_conn e_left e_stream e_fresh e_out e_pump e_stream3 turns asks takes own =
     let h = has_stepped w moments kind count was k1 k2 now s t c b d stream stream2 fresh fresh' full r ended out out' client same1 same2 same3 at limit is_kind is_count turns
-      (subst (λ (o : Option ℕ). AsksSo r (request_of w) k1 o stream2 k2.front) e_stream asks)
-      (takes_as ended kind count k2 now conn2 c left2 d.left stream2 stream2 fresh2 fresh fresh' out2 out out' e_conn e_left refl e_fresh e_out takes) own in
-    (h.0, λ ready.
-      subst (λ (z : Between). HasStepped w moments was.of.settings was.front now.front t c z stream3 fresh' full r ended out out') (sym e_pump)
-      (subst (λ (o : Option ℕ). HasStepped w moments was.of.settings was.front now.front t c d o fresh' full r ended out out') (sym e_stream3) (h.1 ready)))
+    (subst (λ (o : Option ℕ). AsksSo r (request_of w) k1 o stream2 k2.front) e_stream asks)
+    (takes_as ended kind count k2 now conn2 c left2 d.left stream2 stream2 fresh2 fresh fresh' out2 out out' e_conn e_left refl e_fresh e_out takes) own in (
+      h.0,
+      λ ready.
+          subst (λ (z : Between). HasStepped w moments was.of.settings was.front now.front t c z stream3 fresh' full r ended out out') (sym e_pump)
+          (subst (λ (o : Option ℕ). HasStepped w moments was.of.settings was.front now.front t c d o fresh' full r ended out out') (sym e_stream3) (h.1 ready)),
+    )

@@ -1,9 +1,7 @@
 -- Takes of a caller that is alone.
 use Rattle.std.proofs.lemmas.Bool.Decides.{nat_tests}
-use Rattle.std.proofs.lemmas.Grind.{common_steps}
 use Rattle.std.proofs.lemmas.List.{length-append}
-use Rattle.std.specs.List.{AllByRecursion}
-use Rattle.std.proofs.Common.{◌≡◌, ◌<◌, ◌≤◌, ◌+◌, ◌^◌, ◌==◌, ◌⊎◌, inl, inr, ◌∙◌, ℕ, Bool, true, false, true≢false, List, [], ◌∷◌, ◌++◌, length, Option, Some, None, IfSome, refl, sym, ap, subst, arith, append-nil, append_assoc}
+use Rattle.std.proofs.Common.{◌≡◌, ◌<◌, ◌≤◌, ◌+◌, ◌^◌, ◌==◌, ◌⊎◌, inl, inr, ◌∙◌, ℕ, true, false, true≢false, List, [], ◌∷◌, ◌++◌, length, Option, Some, None, refl, sym, ap, subst, arith, append-nil, append_assoc}
 use Rattle.rs_wire.specs.Calls.{is_streamed}
 use Rattle.rs_wire.specs.declared.words.Kind.{Kind}
 use Rattle.rs_wire.specs.declared.settings.Settings.{Settings}
@@ -20,7 +18,7 @@ use Rattle.tape.specs.declared.entry.Entry.{Entry}
 use Rattle.stream_model.specs.Known.{front_of, known as known_after, waiting_of}
 use Rattle.stream_model.specs.Turns.{Turn, taken}
 use Rattle.session_core.specs.Seen.{IsOrOutOfMemory}
-use Rattle.session_model.specs.Answers.{Facts, accepted, answer_to, facts, refused_call, refused_or, to_call}
+use Rattle.session_model.specs.Answers.{Facts, answer_to, facts, refused_call, to_call}
 use Rattle.session_model.specs.Legal.{Legal}
 use Rattle.session_model.proofs.Meaning.{last_means}
 use Rattle.session_laws.proofs.Lawful.{laws_of}
@@ -87,6 +85,7 @@ take_is g t s = by (refused_call g t (asks.Take s)) refl
     some : (o : Option Delivery) → front_of (t.streams.waits s) ≡ o → refused_call g t (asks.Take s) ≡ None → ((d : Delivery) × (to_call g t (asks.Take s) ≡ answer.Got d) × (front_of (t.streams.waits s) ≡ Some d)) ⊎ GetsNothing (to_call g t (asks.Take s))
     some (Some d) first free = inl (d, rw (free, first) refl, first)
     some None first free = inr (rw (free, first) tt)
+
     by : (o : Option Refusal) → refused_call g t (asks.Take s) ≡ o → ((d : Delivery) × (to_call g t (asks.Take s) ≡ answer.Got d) × (front_of (t.streams.waits s) ≡ Some d)) ⊎ GetsNothing (to_call g t (asks.Take s))
     by (Some why) is = inr (rw is tt)
     by None is = some (front_of (t.streams.waits s)) refl is
@@ -145,8 +144,8 @@ whole_gets_none g past n s d lawful whole =
 -- an item was taken and printed, and then, where that is due, a grant was asked
 pub record Granted (kind : Kind) (count s : ℕ) (me : Knowledge) (new : List Entry) (fresh fresh' : ℕ) : Type 0 where
   pub how : ((is_streamed kind ≡ false) × (fresh' ≡ fresh) × (new ≡ me.front))
-    ⊎ ((is_streamed kind ≡ true) × (fresh + 1 < count) × (fresh' ≡ fresh + 1) × (new ≡ me.front))
-    ⊎ ((is_streamed kind ≡ true) × (count ≤ fresh + 1) × (fresh' ≡ 0) × ((a : Answer) × Adds me (event.Asked (asks.Grant s count)) a new × (a ≡ answer.OutOfMemory → ⊥)))
+      ⊎ ((is_streamed kind ≡ true) × (fresh + 1 < count) × (fresh' ≡ fresh + 1) × (new ≡ me.front))
+      ⊎ ((is_streamed kind ≡ true) × (count ≤ fresh + 1) × (fresh' ≡ 0) × ((a : Answer) × Adds me (event.Asked (asks.Grant s count)) a new × (a ≡ answer.OutOfMemory → ⊥)))
 
 got_here : (s : ℕ) (past : List Entry) (n : ℕ) (d : Delivery) → got_on (entry_of n (event.Asked (asks.Take s)) (answer.Got d) ∷ past) s ≡ got_on past s ++ d ∷ []
 unfolding got_on
@@ -193,9 +192,11 @@ grant_full me s k a new adds none want place = by a adds.step.answered (λ is. a
   where
     g : Settings
     g = me.of.settings
+
     right : (o : Option Refusal) → refused_call g (facts g me.front) (asks.Grant s k) ≡ o → leaves (answer_to g me.front (event.Asked (asks.Grant s k))) ≡ true
     right None is = rw is refl
     right (Some why) is = rw is refl
+
     by : (a : Answer) → IsOrOutOfMemory a (answer_to g me.front (event.Asked (asks.Grant s k))) → (a ≡ answer.TapeFull → 2 ^ 63 ≤ length me.front) → leaves a ≡ false → (a ≡ answer.OutOfMemory → ⊥) → ⊥
     by answer.TapeFull is full none want = (let f = full refl in omega (arith, f, place))
     by answer.OutOfMemory is full none want = want refl
@@ -217,10 +218,11 @@ taken_more kind count s g was k k2 new d fresh0 fresh fresh' out mid_out new_out
   where
     x : Entry
     x = entry_of k.number (event.Asked (asks.Take s)) (answer.Got d)
+
     How : Type 0
     How = ((is_streamed kind ≡ false) × (fresh' ≡ fresh) × (new ≡ k2.front))
-      ⊎ ((is_streamed kind ≡ true) × (fresh + 1 < count) × (fresh' ≡ fresh + 1) × (new ≡ k2.front))
-      ⊎ ((is_streamed kind ≡ true) × (count ≤ fresh + 1) × (fresh' ≡ 0) × ((a : Answer) × Adds k2 (event.Asked (asks.Grant s count)) a new × (a ≡ answer.OutOfMemory → ⊥)))
+        ⊎ ((is_streamed kind ≡ true) × (fresh + 1 < count) × (fresh' ≡ fresh + 1) × (new ≡ k2.front))
+        ⊎ ((is_streamed kind ≡ true) × (count ≤ fresh + 1) × (fresh' ≡ 0) × ((a : Answer) × Adds k2 (event.Asked (asks.Grant s count)) a new × (a ≡ answer.OutOfMemory → ⊥)))
 
     how_knows : How → started k2.front ≡ Some s → started new ≡ Some s
     how_knows (inl plain) on = subst (λ (l : List Entry). started l ≡ Some s) (sym plain.2) on
@@ -292,6 +294,7 @@ taken_all kind count s g was k new a fresh0 fresh out mid_out same lawful_k lawf
   where
     x : Entry
     x = entry_of k.number (event.Asked (asks.Take s)) a
+
     Came : Type 0
     Came = ((leaves a ≡ false) × (new ≡ k.front)) ⊎ ((leaves a ≡ true) × (new ≡ x ∷ k.front) × HasPlace k.front)
 
@@ -384,6 +387,8 @@ step_more kind count s was k k2 now x d fresh0 fresh fresh' out mid_out new_out 
     let t = take_own was k k2 s x a b came gr.0 in
     let g = h t.0 in
     let got = took_got t.1.0 d (sym is ∙ t.1.1) in
-    let both = same_both was k k2 a b in
-    (g.0, taken_more kind count s was.of.settings was.front k k2 now.front d fresh0 fresh fresh' out mid_out new_out some (settings_of was k2 both) (subst (λ (z : Settings). IsLawful z k2.front) (settings_of was k2 both) gr.0.lawful) (own_lawful was now (same_both was k2 now both c) own)
-      (subst (λ (z : Answer). Adds k (event.Asked (asks.Take s)) z k2.front) got t.1.2) goes gr.1 printed g.1)
+    let both = same_both was k k2 a b in (
+      g.0,
+      taken_more kind count s was.of.settings was.front k k2 now.front d fresh0 fresh fresh' out mid_out new_out some (settings_of was k2 both) (subst (λ (z : Settings). IsLawful z k2.front) (settings_of was k2 both) gr.0.lawful) (own_lawful was now (same_both was k2 now both c) own)
+          (subst (λ (z : Answer). Adds k (event.Asked (asks.Take s)) z k2.front) got t.1.2) goes gr.1 printed g.1,
+    )

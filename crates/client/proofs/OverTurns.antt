@@ -1,16 +1,15 @@
 -- A turn of a pump whose caller is alone.
 use Rattle.std.proofs.lemmas.Bool.{cases_lt}
 use Rattle.std.proofs.lemmas.Bool.Decides.{nat_tests}
-use Rattle.std.proofs.lemmas.Grind.{common_steps}
 use Rattle.std.proofs.lemmas.List.{length-append, length-take}
 use Rattle.std.specs.List.{AllByRecursion}
-use Rattle.std.proofs.Common.{◌≡◌, ◌≢◌, ◌<◌, ◌≤◌, ◌+◌, ◌-◌, ◌^◌, ◌==◌, ◌&&◌, ◌⊎◌, inl, inr, ◌∙◌, not, ℕ, Bool, true, false, true≢false, List, [], ◌∷◌, ◌++◌, length, Option, Some, None, IfSome, is_none, is_some, refl, sym, ap, subst, arith, append-nil, append_assoc}
+use Rattle.std.proofs.Common.{◌≡◌, ◌<◌, ◌≤◌, ◌+◌, ◌^◌, ◌==◌, ◌&&◌, ◌⊎◌, inl, inr, ◌∙◌, ℕ, Bool, true, false, true≢false, List, [], ◌∷◌, ◌++◌, length, Option, Some, None, IfSome, is_none, is_some, refl, sym, ap, subst, arith, append-nil, append_assoc}
 use Rattle.rs_wire.specs.declared.settings.Settings.{Settings}
 use Rattle.rs_wire.specs.declared.words.Kind.{Kind}
 use Rattle.rs_wire.specs.declared.words.Kind.TheVariants as kind
 use Rattle.rs_wire.specs.declared.words.Side.TheVariants.{Client}
 use Rattle.outside.specs.Causes.{IsMoment, Rose}
-use Rattle.outside.specs.Links.{NoneFell, Shown}
+use Rattle.outside.specs.Links.{Shown}
 use Rattle.tape.specs.Answers.{leaves}
 use Rattle.tape.specs.Told.{entry_of}
 use Rattle.tape.specs.declared.event.Event.{Event}
@@ -18,29 +17,28 @@ use Rattle.tape.specs.declared.event.Event.TheVariants as event
 use Rattle.tape.specs.declared.answer.Answer.{Answer}
 use Rattle.tape.specs.declared.answer.Answer.TheVariants as answer
 use Rattle.tape.specs.declared.entry.Entry.{Entry}
-use Rattle.session_model.specs.Answers.{answer_to, facts}
+use Rattle.session_model.specs.Answers.{facts}
 use Rattle.rs_frame.specs.Framed.{framed_all}
 use Rattle.session_model.specs.Frames.{came, drawn, draws, due, first_bad, queued}
-use Rattle.session_model.specs.Life.{closed, live, openings_in}
+use Rattle.session_model.specs.Life.{live, openings_in}
 use Rattle.session_model.specs.Legal.{Legal}
 use Rattle.session_model.specs.Means.{Means}
 use Rattle.session_model.proofs.Meaning.{last_means}
 use Rattle.session_laws.specs.Streams.{IsLawful}
 use Rattle.conn_lock.specs.Callers.{times}
-use Rattle.conn_shared.specs.Calls.{IsCalled}
-use Rattle.conn_shared.specs.Members.{Continues, Follows, Knowledge}
-use Rattle.link_model.specs.Carrying.{Between, Keeps, is_of}
-use Rattle.link_model.specs.Leaving.{Heard, IsAllGiven, IsBroken, IsHeldBack, IsReadOut as HasReadOut, Left, displaced, takes_place}
+use Rattle.conn_shared.specs.Members.{Follows, Knowledge}
+use Rattle.link_model.specs.Carrying.{Between, Keeps}
+use Rattle.link_model.specs.Leaving.{Heard, IsAllGiven, IsBroken, IsReadOut as HasReadOut, Left, displaced, takes_place}
 use Rattle.link_model.specs.Giving.{HasGiven, count_drawn}
 use Rattle.link_model.specs.Reading.{IsInFront, IsPart}
 use Rattle.link_laws.specs.Staying.{ends}
 use Rattle.pump.specs.declared.numbers.TheConstants.{PIECE}
 use Rattle.pump.specs.declared.turned.Turned.{Turned}
 use Rattle.pump.specs.declared.turned.Turned.TheVariants as turned
-use Rattle.pump.specs.Turns.{Arrives, Begins, DrawsWhere, GoesOn, HasDrawn, IsKept, IsReadOut, IsTurn, IsTurned, TurnedFor, WasBusy, WasNoted, goes_on_after, goes_on_from, is_early, is_empty, Ticks}
+use Rattle.pump.specs.Turns.{Arrives, DrawsWhere, GoesOn, IsReadOut, IsTurn, TurnedFor, WasNoted, goes_on_after, goes_on_from, is_early, is_empty, Ticks}
 use Rattle.call_model.specs.Order.{Asking, MayFollow, comes, is_leased, is_request, is_taken, moves_only, next_call, owes_request}
 use Rattle.call_model.specs.Timing.{HasMoment}
-use Rattle.call_model.specs.Ran.{FindsDead, HasDied, HasPlace}
+use Rattle.call_model.specs.Ran.{HasDied, HasPlace}
 use Rattle.call_model.specs.Saying.{end_line, got_in, got_of, lines_of, said, started}
 use Rattle.call_model.specs.Standing.{IsPaid, IsUnended, Stands}
 use Rattle.call_model.specs.Present.{HasDrawnAll, HasJoined, IsServed}
@@ -48,7 +46,7 @@ use Rattle.call_model.proofs.Ending.{dead_late, delivered_same, died_here, died_
 use Rattle.call_model.proofs.Ordering.{got_same, next_none, owes_same, started_same}
 use Rattle.call_model.proofs.Present.{all_given, heard_here, joined_on, left_here, nothing_in, served_drawn, still_on}
 use Rattle.call_model.proofs.Standing.{arrivals_stand, is_plain, plain_on}
-use Rattle.client.specs.Alone.{AreNamed, IsOwn, IsSole}
+use Rattle.client.specs.Alone.{AreNamed, IsOwn}
 use Rattle.client.specs.Takes.{IsTakenIn}
 use Rattle.client.specs.Turning.{HasTurned, Pumps, SaysOf}
 use Rattle.client.proofs.Alone.{Adds, IsSame, all_rest, follows_alone, own_before, own_call, own_lawful, own_named, rest_lawful}
@@ -118,7 +116,17 @@ record At (w : Asking) (moments : Option (List ℕ)) (g : Settings) (past new : 
 
 here : (w : Asking) (moments : Option (List ℕ)) (g : Settings) (past : List Entry) (c : ℕ) (stream : Option ℕ) (fresh : ℕ) → HasPlace past → Stands w moments past stream fresh → IsUnended past → HasJoined g past c → displaced past c ≡ false → At w moments g past past c stream fresh (Unit {0})
 here w moments g past c stream fresh place stands unended joined still = record {
-  more = []; on = refl; only = tt; stands = stands; unended = unended; joined = joined; calm = λ u. still; next = stands.free place; owes = refl; takes = λ k whole. whole; same = λ k. refl;
+  more = [];
+  on = refl;
+  only = tt;
+  stands = stands;
+  unended = unended;
+  joined = joined;
+  calm = λ u. still;
+  next = stands.free place;
+  owes = refl;
+  takes = λ k whole. whole;
+  same = λ k. refl;
 }
 
 -- what is said is the same, where an entry neither asks for the stream nor takes of it
@@ -216,17 +224,29 @@ tick_at w moments was c stream fresh now a ticked place moment lawful paid adds 
   where
     g : Settings
     g = was.of.settings
+
     x : Entry
     x = entry_of was.number (event.Tick now) a
+
     by : ((leaves a ≡ false) × (ticked ≡ was.front)) ⊎ ((leaves a ≡ true) × (ticked ≡ x ∷ was.front) × HasPlace was.front) → At w moments g was.front ticked c stream fresh (goes_on_after a ≡ true)
     by (inl none) = subst (λ (l : List Entry). At w moments g was.front l c stream fresh (goes_on_after a ≡ true)) (sym none.1) (record {
-      more = h.more; on = h.on; only = h.only; stands = h.stands; unended = h.unended; joined = h.joined; calm = λ on. h.calm tt; next = h.next; owes = h.owes; takes = h.takes; same = h.same;
+      more = h.more;
+      on = h.on;
+      only = h.only;
+      stands = h.stands;
+      unended = h.unended;
+      joined = h.joined;
+      calm = λ on. h.calm tt;
+      next = h.next;
+      owes = h.owes;
+      takes = h.takes;
+      same = h.same;
     })
     by (inr some) =
-      let legal : Legal g (x ∷ was.front) = subst (Legal g) some.1 lawful.legal in
-      let quiet = quiet_tick a now in
-      subst (λ (l : List Entry). At w moments g was.front l c stream fresh (goes_on_after a ≡ true)) (sym some.1)
-      (plain_more w moments g was.front was.front x c stream fresh (Unit {0}) (goes_on_after a ≡ true) place legal refl (may_tick w was.front moments stream fresh now place h.stands paid) moment
+        let legal : Legal g (x ∷ was.front) = subst (Legal g) some.1 lawful.legal in
+        let quiet = quiet_tick a now in
+        subst (λ (l : List Entry). At w moments g was.front l c stream fresh (goes_on_after a ≡ true)) (sym some.1)
+        (plain_more w moments g was.front was.front x c stream fresh (Unit {0}) (goes_on_after a ≡ true) place legal refl (may_tick w was.front moments stream fresh now place h.stands paid) moment
         refl refl refl refl quiet.0 quiet.1 (tick_says_none a now) (λ on. (tt, tick_calm g was.front a now (last_means g x was.front legal) on)) h)
 
 draw_at : (w : Asking) (moments : Option (List ℕ)) (g : Settings) (past : List Entry) (was : Knowledge) (c : ℕ) (stream : Option ℕ) (fresh : ℕ) (a : Answer) (begun : List Entry) (P : Type 0) → was.of.settings ≡ g → IsLawful g begun → Adds was (event.Draw c PIECE) a begun
@@ -235,14 +255,15 @@ draw_at w moments g past was c stream fresh a begun P same lawful adds h = by ad
   where
     x : Entry
     x = entry_of was.number (event.Draw c PIECE) a
+
     by : ((leaves a ≡ false) × (begun ≡ was.front)) ⊎ ((leaves a ≡ true) × (begun ≡ x ∷ was.front) × HasPlace was.front) → At w moments g past begun c stream fresh P
     by (inl none) = subst (λ (l : List Entry). At w moments g past l c stream fresh P) (sym none.1) h
     by (inr some) =
-      let legal : Legal g (x ∷ was.front) = subst (Legal g) some.1 lawful.legal in
-      let quiet = quiet_draw a c PIECE in
-      let mine : (c == c) ≡ true = grind (arith, nat_tests) in
-      subst (λ (l : List Entry). At w moments g past l c stream fresh P) (sym some.1)
-      (plain_more w moments g past was.front x c stream fresh P P some.2 legal refl tt tt mine refl refl refl quiet.0 quiet.1 (draw_says_none a c PIECE) (λ p. (p, draw_calm g was.front a c PIECE (last_means g x was.front legal))) h)
+        let legal : Legal g (x ∷ was.front) = subst (Legal g) some.1 lawful.legal in
+        let quiet = quiet_draw a c PIECE in
+        let mine : (c == c) ≡ true = grind (arith, nat_tests) in
+        subst (λ (l : List Entry). At w moments g past l c stream fresh P) (sym some.1)
+        (plain_more w moments g past was.front x c stream fresh P P some.2 legal refl tt tt mine refl refl refl quiet.0 quiet.1 (draw_says_none a c PIECE) (λ p. (p, draw_calm g was.front a c PIECE (last_means g x was.front legal))) h)
 
 -- ---- a whole turn
 
@@ -277,6 +298,7 @@ died moments was new last client lawful n = by n.entry.event refl n.is
   where
     g : Settings
     g = was.of.settings
+
     by : (e : Event) → n.entry.event ≡ e → Ticks moments e → HasDied g new last
     by (event.Tick now) is tick =
         let lawful_there : IsLawful g (n.entry ∷ n.before) = rest_lawful g n.until.0 (n.entry ∷ n.before) (subst (IsLawful g) n.until.1 lawful) in
@@ -332,10 +354,13 @@ given_still g past new s t c left was now same drawn_is live_is empty = by s.giv
 
 -- what is full takes no entry more
 full_tick : (was : Knowledge) (e : Event) (a : Answer) (new : List Entry) → 2 ^ 63 ≤ length was.front → Adds was e a new → (a ≡ answer.TapeFull) × (new ≡ was.front)
-full_tick was e a new full adds = (adds.step.full.1 full, elim adds.came [
-  | inl none ↦ none.1
-  | inr some ↦ absurd (let place = some.2 in omega (arith, place, full))
-])
+full_tick was e a new full adds = (
+  adds.step.full.1 full,
+  elim adds.came [
+    | inl none ↦ none.1
+    | inr some ↦ absurd (let place = some.2 in omega (arith, place, full))
+  ],
+)
 
 -- where the draw leads
 drawn_to : (w : Asking) (moments : Option (List ℕ)) (was : Knowledge) (ticked begun : List Entry) (c : ℕ) (due : Bool) (drew : Option Answer) (old left : List ℕ) (stream : Option ℕ) (fresh : ℕ) (P : Type 0)
@@ -396,28 +421,40 @@ has_turned w moments was now s t b d stream fresh r client same limit own p = (t
   where
     g : Settings
     g = was.of.settings
+
     c : ℕ
     c = b.conn
+
     turn : IsTurn g moments was c b.left p.turned.left now.front
     turn = p.turned.turn
+
     begun : List Entry
     begun = turn.begun
+
     arrivals : GoesOn (Arrives c) (record was { front = begun; note = None }) now.front
     arrivals = turn.arrivals
+
     bk : Knowledge
     bk = record was { front = begun; note = None }
+
     tk : Knowledge
     tk = record was { front = turn.begins.ticked; note = None }
+
     own_begun : IsOwn bk
     own_begun = own_before bk now same (arrivals.more, arrivals.on) own
+
     come : AllByRecursion (λ (x : Entry). Arrives c x.event) arrivals.more
     come = arrives c was.names was.number arrivals.more (all_rest (λ (x : Entry). 0 < times x.who was.names) arrivals.more begun (subst (AreNamed was.names) arrivals.on (own_named was now same own))).0 arrivals.own
+
     draws_to : (P : Type 0) → IsOwn tk × (At w moments g was.front turn.begins.ticked c stream fresh P → At w moments g was.front begun c stream fresh P) × (p.turned.left ≡ [] → drawn begun c ≡ drawn turn.begins.ticked c)
     draws_to P = drawn_to w moments was turn.begins.ticked begun c (goes_on_after turn.begins.answer && is_empty b.left) turn.begins.drew b.left p.turned.left stream fresh P own_begun turn.begins.draw
+
     tick : IsOwn was × Adds was (event.Tick turn.begins.now) turn.begins.answer turn.begins.ticked
     tick = own_call g was tk (event.Tick turn.begins.now) turn.begins.answer refl refl turn.begins.tick (draws_to (Unit {0})).0
+
     lawful : IsLawful g now.front
     lawful = own_lawful was now same own
+
     limit_d : d.max_in ≡ g.max_in
     limit_d = p.limit ∙ limit
 
@@ -431,8 +468,10 @@ has_turned w moments was now s t b d stream fresh r client same limit own p = (t
       where
         old_left : List ℕ
         old_left = b.left
+
         new_left : List ℕ
         new_left = p.turned.left
+
         not_drawn : (drew : Option Answer) → DrawsWhere false g tk c PIECE drew old_left new_left begun → (begun ≡ turn.begins.ticked) × (goes_on_after turn.begins.answer ≡ false → goes_on_from turn.begins.answer drew ≡ false)
         not_drawn None d = (d.1, λ off. off)
         not_drawn (Some a) d = absurd d
@@ -477,11 +516,11 @@ has_turned w moments was now s t b d stream fresh r client same limit own p = (t
           takes = λ lull k whole. subst (IsTakenIn k g) (sym (follows_alone was.names begun now.front (p.turned.still lull).0 (own_named was now same own))) (drew.takes k whole);
           same = λ k. ap (said k false) back ∙ (arrivals_said g k arrivals.more begun c (subst (IsLawful g) arrivals.on lawful).legal come ∙ drew.same k);
           says = says_by moments was now s t c d r client lawful p.cause
-            (λ lull room. (let late : is_early r ≡ false = ap is_early lull in (
-              heard_here g now.front t c d lawful.legal joined (calm late) p.conn k (out late),
-              lulled_given lull served joined k (p.turned.still lull),
-            )))
-            (λ late broken room. left_here g now.front t c d lawful.legal joined p.conn k (out late) broken);
+              (λ lull room. (let late : is_early r ≡ false = ap is_early lull in (
+                heard_here g now.front t c d lawful.legal joined (calm late) p.conn k (out late),
+                lulled_given lull served joined k (p.turned.still lull),
+              )))
+              (λ late broken room. left_here g now.front t c d lawful.legal joined p.conn k (out late) broken);
         }
       where
         lulled_paid : Stands w moments was.front stream fresh → IsPaid was.front stream → At w moments g was.front begun c stream fresh (goes_on_after turn.begins.answer ≡ true) → Follows was.names begun now.front → IsPaid now.front stream
@@ -501,6 +540,6 @@ has_turned w moments was now s t b d stream fresh r client same limit own p = (t
             let now_drawn = served_drawn g now.front t c d false (served_now g now.front t c d joined p.conn k) in
             let ticks = adds_drawn was (event.Tick turn.begins.now) turn.begins.answer turn.begins.ticked c (draws_tick turn.begins.answer c turn.begins.now) tick.1 in
             inl (given_still g was.front now.front s t c d.left before now_drawn cause.1
-              (ap (λ (l : List Entry). drawn l c) one ∙ ((draws_to (Unit {0})).2 none ∙ ticks))
-              (ap live one ∙ dry.0)
-              (ap (queued g) one ∙ dry.1))
+            (ap (λ (l : List Entry). drawn l c) one ∙ ((draws_to (Unit {0})).2 none ∙ ticks))
+            (ap live one ∙ dry.0)
+            (ap (queued g) one ∙ dry.1))

@@ -1,13 +1,8 @@
 -- A caller that is alone. Entries stand newest first.
-use Rattle.std.specs.Prelude.{◌≡◌, ◌<◌, ◌⊎◌, ℕ, true, List, [], ◌++◌}
+use Rattle.std.specs.Prelude.{◌<◌, ℕ, List}
 use Rattle.std.specs.List.{AllByRecursion}
-use Rattle.tape.specs.Answers.{leaves}
-use Rattle.tape.specs.Told.{entry_of}
-use Rattle.tape.specs.declared.event.Event.{Event}
-use Rattle.tape.specs.declared.answer.Answer.{Answer}
 use Rattle.tape.specs.declared.entry.Entry.{Entry}
 use Rattle.conn_lock.specs.Callers.{times}
-use Rattle.conn_shared.specs.Calls.{IsStep}
 use Rattle.conn_shared.specs.Members.{Knowledge}
 use Rattle.session_laws.specs.Streams.{IsLawful}
 use Rattle.link_model.specs.Carrying.{IsAlone}

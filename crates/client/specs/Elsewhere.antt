@@ -1,6 +1,5 @@
 -- What becomes of a call whose link has failed or ended. Entries stand newest first.
 use Rattle.std.specs.Prelude.{◌≡◌, ◌⊎◌, ℕ, true, false, List, [], Option, Some, None}
-use Rattle.rs_wire.specs.declared.fault.Cause.{Cause}
 use Rattle.outside.specs.Causes.{IsMoment}
 use Rattle.outside.specs.Links.{IsNew, Shown}
 use Rattle.tape.specs.declared.entry.Entry.{Entry}

@@ -69,7 +69,7 @@ Grants kind count s was new fresh fresh' =
     ((is_streamed kind ≡ false) × (fresh' ≡ fresh) × (new ≡ was.front))
     ⊎ ((is_streamed kind ≡ true) × (fresh + 1 < count) × (fresh' ≡ fresh + 1) × (new ≡ was.front))
     ⊎ ((is_streamed kind ≡ true) × (count ≤ fresh + 1) × (fresh' ≡ 0)
-        × ((a : Answer) × IsCalled was.of.settings was (event.Asked (call.Grant s count)) a new × (a ≢ answer.OutOfMemory)))
+    × ((a : Answer) × IsCalled was.of.settings was (event.Asked (call.Grant s count)) a new × (a ≢ answer.OutOfMemory)))
 
 -- and then an end was taken
 pub record HasTakenEnd (kind : Kind) (count s : ℕ) (g : Settings) (was new : List Entry) (fresh fresh' : ℕ) (out out' : List ℕ) : Type 0 where

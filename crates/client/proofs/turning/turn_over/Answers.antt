@@ -1,7 +1,7 @@
 use Rattle.std.proofs.Common.{rules, ◌≡◌, ap, sym, subst, Bool, false}
 use Rattle.rs_wire.specs.declared.settings.Settings.{Settings}
 use Rattle.conn_shared.specs.Members.{SharedId}
-use Rattle.pump.specs.Turns.{IsReadOut, IsTurned, RulesOut, TurnedFor, is_early}
+use Rattle.pump.specs.Turns.{IsReadOut, IsTurned, RulesOut, TurnedFor}
 use Rattle.client.specs.Turning.{Pumps, TurnsSo}
 use Rattle.client.proofs.turning.turn_over.Goals as goal
 

@@ -1,4 +1,4 @@
-use Rattle.std.proofs.Common.{rules, ◌≡◌, ◌∙◌, sym}
+use Rattle.std.proofs.Common.{rules}
 use Rattle.client.proofs.Opening.{fault_for}
 use Rattle.client.proofs.client.Client.again.Goals as goal
 

@@ -1,6 +1,4 @@
-use Rattle.std.proofs.Common.{rules, ◌≡◌, ◌∙◌, sym, subst, ap, Bool, false, Ok, OnOk, Result}
-use Rattle.outside.specs.Causes.{IsMoment}
-use Rattle.tape.specs.declared.entry.Entry.{Entry}
+use Rattle.std.proofs.Common.{rules, ◌≡◌, ◌∙◌, subst, ap, Bool, false, Ok}
 use Rattle.conn_shared.specs.Members.{Knowledge}
 use Rattle.client.specs.Answered.{TicksAt}
 use Rattle.client.specs.Clients.{OpensAgain, on}

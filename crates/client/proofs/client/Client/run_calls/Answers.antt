@@ -1,4 +1,4 @@
-use Rattle.std.proofs.Common.{rules, ◌≡◌, ◌∙◌, refl, sym, subst}
+use Rattle.std.proofs.Common.{rules, ◌∙◌, refl, sym, subst}
 use Rattle.rs_wire.specs.Calls.{CanBeAsked}
 use Rattle.conn_shared.specs.Members.{Knowledge}
 use Rattle.client.specs.Calling.{CanBegin}
@@ -30,7 +30,7 @@ loop-preserved g c =
       subst CanBeAsked (sym c.go_on.ensures.request) i.3,
       c.go_on.ensures.request ∙ i.4,
       run_on_by (asking_of c.args.plan.now) moments c.args.plan.now.lulls c.args.self.now.conn start.of.settings start c.loop.self.caller c.go_on.new.self.caller c.loop.self.conn c.go_on.new.self.conn c.loop.self.link c.go_on.new.self.link c.loop.calling c.go_on.new.calling c.args.out.now.items c.loop.out.items c.go_on.new.out.items
-        (CanBegin (asking_of c.args.plan.now) moments start.front c.args.self.now.conn c.args.self.now.link) c.loop.self.caller.of.settings c.go_on.result (search rules) (search rules) i.5 (c.go_on.ensures.steps (asking_of c.args.plan.now) i.4 refl refl),
+          (CanBegin (asking_of c.args.plan.now) moments start.front c.args.self.now.conn c.args.self.now.link) c.loop.self.caller.of.settings c.go_on.result (search rules) (search rules) i.5 (c.go_on.ensures.steps (asking_of c.args.plan.now) i.4 refl refl),
     )
 
 pub returns-in-Some-go_on-clause-comes : goal.returns-in-Some-go_on-clause-comes
@@ -39,4 +39,4 @@ returns-in-Some-go_on-clause-comes g c =
     let start : Knowledge = c.args.self.now.caller in
     let i = c.loop.invariant in
     run_stops_by (asking_of c.args.plan.now) moments c.args.plan.now.lulls c.args.self.now.conn start.of.settings start c.loop.self.caller c.go_on.new.self.caller c.loop.self.conn c.go_on.new.self.conn c.loop.self.link c.go_on.new.self.link c.loop.calling c.go_on.new.calling c.args.out.now.items c.loop.out.items c.go_on.new.out.items
-      (CanBegin (asking_of c.args.plan.now) moments start.front c.args.self.now.conn c.args.self.now.link) c.loop.self.caller.of.settings c.go_on.result c.in-Some-go_on.called (search rules) (search rules) i.5 (c.go_on.ensures.steps (asking_of c.args.plan.now) i.4 refl refl)
+    (CanBegin (asking_of c.args.plan.now) moments start.front c.args.self.now.conn c.args.self.now.link) c.loop.self.caller.of.settings c.go_on.result c.in-Some-go_on.called (search rules) (search rules) i.5 (c.go_on.ensures.steps (asking_of c.args.plan.now) i.4 refl refl)
