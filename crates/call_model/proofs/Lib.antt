@@ -1,0 +1,6 @@
+pub mod Takes
+pub mod Ordering
+pub mod Links
+pub mod Ending
+pub mod Present
+pub mod Standing

@@ -1,0 +1,11 @@
+pub mod Alone
+pub mod Opening
+pub mod OverTurns
+pub mod OverTakes
+pub mod OverEnds
+pub mod OverSteps
+pub mod OverLinks
+pub mod OverRuns
+pub mod OverFollows
+pub mod OverStarts
+pub mod OverCalls

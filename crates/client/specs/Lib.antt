@@ -1,0 +1,7 @@
+pub mod Answered
+pub mod Clients
+pub mod Alone
+pub mod Takes
+pub mod Turning
+pub mod Calling
+pub mod Elsewhere
