@@ -39,14 +39,14 @@ pub fn request_stream(content: Blob) -> Call
     }
 }
 
-/// An item on a stream.
-pub fn next(stream: u32, content: Blob) -> Call
+/// An item on a stream, the last one where it is complete.
+pub fn item(stream: u32, content: Blob, complete: bool) -> Call
     ensures { CanBeAsked result }
 {
     Call::Next {
         stream,
         message: plain(content),
-        complete: false,
+        complete,
     }
 }
 

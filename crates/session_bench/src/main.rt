@@ -1,13 +1,15 @@
 //! Times turns of a lock, calls through a connection, and what two ends say to one another through
-//! their pumps.
+//! their pumps, over a wire in memory and over TCP on the loopback.
 //!
-//! The first word says what: `lock`, `conn` or `pump`. With a word after it, as `times`, what is
+//! The first word says what: `lock`, `conn`, `pump` or `edge`. With a word after it, as `times`, what is
 //! printed are nanoseconds; with none it is what a short run leaves, which is always the same. With
 //! no word at all there is a short run of each.
 #![tactic(auto)]
 
 mod asks;
 mod calls;
+mod edges;
+mod end;
 mod locks;
 mod pumps;
 mod sessions;
@@ -17,9 +19,11 @@ use anyhow::{Context, Result};
 use std::alloc::Global;
 use std::env;
 use std::io::Print;
+use std::net::{Net, TcpListener, TcpStream};
 use std::process::ExitCode;
 use std::sync::Wait;
-use std::time::Clock;
+use std::thread::Threads;
+use std::time::{Clock, CpuClock};
 
 /// The status of a run whose first word names nothing to time.
 const USAGE: u8 = 2;
@@ -30,10 +34,11 @@ enum Bench {
     Lock,
     Conn,
     Pump,
+    Edge,
 }
 
 /// In the order in which they are run.
-const ALL: [Bench; 3] = [Bench::Lock, Bench::Conn, Bench::Pump];
+const ALL: [Bench; 4] = [Bench::Lock, Bench::Conn, Bench::Pump, Bench::Edge];
 
 impl Bench {
     fn named(name: &str) -> Option<Bench> {
@@ -41,15 +46,30 @@ impl Bench {
             "lock" => Some(Bench::Lock),
             "conn" => Some(Bench::Conn),
             "pump" => Some(Bench::Pump),
+            "edge" => Some(Bench::Edge),
             _ => None,
         }
     }
 
-    fn run<R: Wait + Clock + Print>(self, rt: &R, alloc: Global, is_timed: bool) -> Result<()> {
+    fn run<R>(self, rt: R, alloc: Global, is_timed: bool) -> Result<()>
+    where
+        R: Net<Listener = TcpListener, Stream = TcpStream>
+            + Threads
+            + Wait
+            + Clock
+            + CpuClock
+            + Print
+            + Send
+            + Sync
+            + Copy
+            + Drop
+            + 'static,
+    {
         match self {
-            Bench::Lock => locks::run(rt, alloc, is_timed),
-            Bench::Conn => calls::run(rt, alloc, is_timed),
-            Bench::Pump => pumps::run(rt, alloc, is_timed),
+            Bench::Lock => locks::run(&rt, alloc, is_timed),
+            Bench::Conn => calls::run(&rt, alloc, is_timed),
+            Bench::Pump => pumps::run(&rt, alloc, is_timed),
+            Bench::Edge => edges::run(rt, alloc, is_timed),
         }
     }
 }
@@ -59,14 +79,14 @@ fn main(rt: HostRuntime) -> Result<ExitCode> {
     let mut words = env::args(&rt).context("the words cannot be read")?;
     let Some(name) = words.nth(1) else {
         for bench in ALL {
-            bench.run(&rt, alloc, false)?;
+            bench.run(rt, alloc, false)?;
         }
         return Ok(ExitCode::SUCCESS);
     };
     let Some(bench) = Bench::named(&name) else {
-        eprintln!(rt; "session_bench: cannot time {name:?}, only lock, conn and pump")?;
+        eprintln!(rt; "session_bench: cannot time {name:?}, only lock, conn, pump and edge")?;
         return Ok(ExitCode::from(USAGE));
     };
-    bench.run(&rt, alloc, words.next().is_some())?;
+    bench.run(rt, alloc, words.next().is_some())?;
     Ok(ExitCode::SUCCESS)
 }

@@ -5,7 +5,6 @@
 //! one, and for batches of which each crosses at once. Else it prints how many items crossed, in
 //! short runs.
 
-mod end;
 mod rounds;
 mod wire;
 

@@ -2,8 +2,9 @@
 
 ghost use Rattle.rs_wire.specs.Calls.{CanBeAsked};
 
-use crate::asks::{next, request_response, request_stream, respond, take_job, take_next};
-use crate::pumps::end::{End, Said};
+use crate::asks::{item, request_response, request_stream, respond, take_job, take_next};
+use crate::end::{End, Said, Unlinked};
+use crate::pumps::wire::Wire;
 use anyhow::{Context, Result, ensure};
 use rs_wire::{Blob, Call};
 use std::alloc::Global;
@@ -50,8 +51,32 @@ fn request(shape: Shape, content: Blob) -> Call
     }
 }
 
+// One turn, in which bytes move.
+fn turn<R: Wait>(rt: &R, end: &mut End<Wire>) -> Result<()> {
+    let moved = end.turn(rt)?;
+    ensure!(moved, "nothing moves in a turn");
+    Ok(())
+}
+
+// What the other end was given comes, by one turn.
+fn receive<R: Wait>(rt: &R, end: &mut End<Wire>, other: &mut End<Wire>) -> Result<()> {
+    end.link.carry(&mut other.link)?;
+    turn(rt, end)
+}
+
+// The server that the client's SETUP opens.
+fn serve<R: Wait>(rt: &R, alloc: Global, client: &mut End<Wire>) -> Result<End<Wire>> {
+    turn(rt, client)?;
+    let unlinked = Unlinked::server(rt, alloc, client.link.given())?;
+    client.link.forget();
+    Ok(End {
+        unlinked,
+        link: Wire::new(alloc),
+    })
+}
+
 // The client makes a request: on which stream.
-fn ask<R: Wait>(rt: &R, alloc: Global, client: &mut End, run: Run) -> Option<u32> {
+fn ask<R: Wait>(rt: &R, alloc: Global, client: &mut End<Wire>, run: Run) -> Option<u32> {
     let content = Blob::from_slice(alloc, run.item).ok()?;
     match client.ask(rt, &request(run.shape, content))? {
         Said::Started(stream) => Some(stream),
@@ -60,18 +85,18 @@ fn ask<R: Wait>(rt: &R, alloc: Global, client: &mut End, run: Run) -> Option<u32
 }
 
 // The client makes a batch of requests: on which stream the first is.
-fn ask_all<R: Wait>(rt: &R, alloc: Global, client: &mut End, run: Run) -> Result<u32> {
+fn ask_all<R: Wait>(rt: &R, alloc: Global, client: &mut End<Wire>, run: Run) -> Result<u32> {
     let first = ask(rt, alloc, client, run).context("a request is not started")?;
     for _ in 1..run.batch {
         let started = ask(rt, alloc, client, run).is_some();
         ensure!(started, "a request is not started");
     }
-    client.turn(rt)?;
+    turn(rt, client)?;
     Ok(first)
 }
 
 // The server takes a request: on which stream.
-fn take_request<R: Wait>(rt: &R, server: &mut End) -> Option<u32> {
+fn take_request<R: Wait>(rt: &R, server: &mut End<Wire>) -> Option<u32> {
     match server.ask(rt, &take_job())? {
         Said::Asked(stream) => Some(stream),
         _ => None,
@@ -79,33 +104,45 @@ fn take_request<R: Wait>(rt: &R, server: &mut End) -> Option<u32> {
 }
 
 // The server sends an item on a stream, or answers the request that it takes.
-fn send<R: Wait>(rt: &R, alloc: Global, server: &mut End, stream: u32, run: Run) -> Option<Said> {
+fn send<R: Wait>(
+    rt: &R,
+    alloc: Global,
+    server: &mut End<Wire>,
+    stream: u32,
+    run: Run,
+) -> Option<Said> {
     let content = Blob::from_slice(alloc, run.item).ok()?;
     match run.shape {
         Shape::Response => {
             let stream = take_request(rt, server)?;
             server.ask(rt, &respond(stream, content))
         }
-        Shape::Stream => server.ask(rt, &next(stream, content)),
+        Shape::Stream => server.ask(rt, &item(stream, content, false)),
     }
 }
 
-fn send_all<R: Wait>(rt: &R, alloc: Global, server: &mut End, stream: u32, run: Run) -> Result<()> {
+fn send_all<R: Wait>(
+    rt: &R,
+    alloc: Global,
+    server: &mut End<Wire>,
+    stream: u32,
+    run: Run,
+) -> Result<()> {
     for _ in 0..run.batch {
         let said = send(rt, alloc, server, stream, run);
         ensure!(said == Some(Said::Done), "an item is {said:?}");
     }
-    server.turn(rt)
+    turn(rt, server)
 }
 
 // The client takes what came on a stream.
-fn take<R: Wait>(rt: &R, client: &mut End, stream: u32, wanted: Said) -> bool {
+fn take<R: Wait>(rt: &R, client: &mut End<Wire>, stream: u32, wanted: Said) -> bool {
     client.ask(rt, &take_next(stream)) == Some(wanted)
 }
 
 // The client takes a batch of items of a stream, or of responses, whose streams are every second
 // one.
-fn take_all<R: Wait>(rt: &R, client: &mut End, first: u32, run: Run) -> Result<()> {
+fn take_all<R: Wait>(rt: &R, client: &mut End<Wire>, first: u32, run: Run) -> Result<()> {
     let mut stream = first;
     for _ in 0..run.batch {
         let taken = take(rt, client, stream, Said::Item);
@@ -123,8 +160,8 @@ fn take_all<R: Wait>(rt: &R, client: &mut End, first: u32, run: Run) -> Result<(
 fn round<R: Clock + Wait>(
     rt: &R,
     alloc: Global,
-    client: &mut End,
-    server: &mut End,
+    client: &mut End<Wire>,
+    server: &mut End<Wire>,
     stream: u32,
     run: Run,
 ) -> Result<Took> {
@@ -135,11 +172,11 @@ fn round<R: Clock + Wait>(
     }
     let asked = Instant::now(rt)?;
     if run.shape == Shape::Response {
-        server.receive(rt, client)?;
+        receive(rt, server, client)?;
     }
     send_all(rt, alloc, server, stream, run)?;
     let sent = Instant::now(rt)?;
-    client.receive(rt, server)?;
+    receive(rt, client, server)?;
     take_all(rt, client, first, run)?;
     let taking = sent.elapsed(rt)?.as_nanos();
     Ok(Took {
@@ -155,23 +192,26 @@ fn round<R: Clock + Wait>(
 fn begin<R: Wait>(
     rt: &R,
     alloc: Global,
-    client: &mut End,
-    server: &mut End,
+    client: &mut End<Wire>,
+    server: &mut End<Wire>,
     run: Run,
 ) -> Result<u32> {
     if run.shape == Shape::Response {
         return Ok(0);
     }
     ask(rt, alloc, client, run).context("the stream is not started")?;
-    client.turn(rt)?;
-    server.receive(rt, client)?;
+    turn(rt, client)?;
+    receive(rt, server, client)?;
     take_request(rt, server).context("no job is taken")
 }
 
 /// Items cross between two new ends.
 pub fn cross<R: Clock + Wait>(rt: &R, alloc: Global, run: Run) -> Result<Took> {
-    let mut client = End::client(rt, alloc)?;
-    let mut server = End::server(rt, alloc, &mut client)?;
+    let mut client = End {
+        unlinked: Unlinked::client(rt, alloc)?,
+        link: Wire::new(alloc),
+    };
+    let mut server = serve(rt, alloc, &mut client)?;
     let stream = begin(rt, alloc, &mut client, &mut server, run)?;
     let mut all = Took {
         client: 0,

@@ -1,4 +1,4 @@
-//! One end: a session with a tape that keeps nothing, a pump, and an end of a wire.
+//! One end: a session with a tape that keeps nothing, a pump, and a link.
 
 ghost use Rattle.std.specs.Prelude.{◌≡◌, ◌<◌, ◌^◌, IfOk, length};
 ghost use Rattle.rs_wire.specs.Calls.{CanBeAsked};
@@ -7,11 +7,10 @@ ghost use Rattle.rs_wire.specs.declared.words.Side.TheVariants.{Server};
 ghost use Rattle.session_model.specs.Legal.{CanBring};
 ghost use Rattle.session_core.specs.Seen.{IsNoDrawEvent};
 
-use crate::pumps::wire::Wire;
 use crate::sessions::new_connection;
-use anyhow::{Context, Result, ensure};
+use anyhow::{Context, Result, bail, ensure};
 use conn::{Caller, Connection};
-use outside::MemClock;
+use outside::{Link, MemClock};
 use pump::{Pump, Turned};
 use rs_chunk::{Reader, split_frame};
 use rs_frame::decode;
@@ -49,50 +48,50 @@ fn said_by(answer: &Answer) -> Option<Said> {
     }
 }
 
-/// One end. Its clock stands still.
+/// An end without its link. Its clock stands still.
 #[derive(Drop)]
-pub struct End {
+pub struct Unlinked {
     connection: Connection<Blank>,
     caller: Caller<Blank>,
     pump: Pump,
-    wire: Wire,
     clock: MemClock,
     ghost of: { caller.of ≡ connection },
     ghost limit: { pump.max_in ≡ connection.settings.max_in },
 }
 
-// The end of a session that this event opens.
+// What a session that this event opens works by, to which these bytes came after it.
 fn begin<R: Wait>(
     rt: &R,
     alloc: Global,
     connection: Connection<Blank>,
     mut caller: Caller<Blank>,
     event: &Event,
-) -> Result<End>
+    rest: &[u8],
+) -> Result<Unlinked>
     requires of { caller.of ≡ connection }
     requires fair { CanBring connection.settings event.now }
     requires no_draw { IsNoDrawEvent event.now }
 {
     let opened = connection.event(rt, &mut caller, event) == Answer::Opened(CONNECTION);
     ensure!(opened, "not opened");
-    let reader = Reader::new(alloc, connection.max_in());
+    let mut reader = Reader::new(alloc, connection.max_in());
+    reader.feed(rest)?;
     let pump = Pump::new(alloc, CONNECTION, reader)?;
-    Ok(End {
+    Ok(Unlinked {
         connection,
         caller,
         pump,
-        wire: Wire::new(alloc),
         clock: MemClock::new(vec![in alloc; 0u64; 1]?),
     })
 }
 
-// The end that this event opens.
-fn open<R: Wait>(rt: &R, alloc: Global, side: Side, event: &Event) -> Result<End>
+// What this event opens, with these bytes after it.
+fn open<R: Wait>(rt: &R, alloc: Global, side: Side, event: &Event, rest: &[u8]) -> Result<Unlinked>
     requires fair { CanBring (usual side) event.now }
     requires no_draw { IsNoDrawEvent event.now }
 {
     let (connection, caller) = new_connection(alloc, side)?;
-    begin(rt, alloc, connection, caller, event)
+    begin(rt, alloc, connection, caller, event, rest)
 }
 
 // A server is opened by the frame of these bytes.
@@ -105,50 +104,52 @@ fn opening(alloc: Global, setup: &[u8]) -> Result<Event>
     Ok(Event::opened_by(frame))
 }
 
-// The server that is opened by the first frame.
-fn accept<R: Wait>(rt: &R, alloc: Global, bytes: &[u8]) -> Result<End> {
-    let (setup, _) = split_frame(bytes).context("no SETUP")?;
-    let event = opening(alloc, setup)?;
-    open(rt, alloc, Side::Server, &event)
+impl Unlinked {
+    /// A client, whose SETUP is due.
+    pub fn client<R: Wait>(rt: &R, alloc: Global) -> Result<Unlinked> {
+        open(rt, alloc, Side::Client, &Event::opening(), &[])
+    }
+
+    /// A server, which the first frame of these bytes opens; the others come next.
+    pub fn server<R: Wait>(rt: &R, alloc: Global, bytes: &[u8]) -> Result<Unlinked> {
+        let (setup, rest) = split_frame(bytes).context("no SETUP")?;
+        let event = opening(alloc, setup)?;
+        open(rt, alloc, Side::Server, &event, rest)
+    }
 }
 
-impl End {
-    /// A client, whose SETUP is due.
-    pub fn client<R: Wait>(rt: &R, alloc: Global) -> Result<End> {
-        open(rt, alloc, Side::Client, &Event::opening())
-    }
+/// One end.
+#[derive(Drop)]
+pub struct End<L> {
+    /// What it works by.
+    pub unlinked: Unlinked,
+    /// Its link.
+    pub link: L,
+}
 
-    /// A server, which the client's SETUP opens.
-    pub fn server<R: Wait>(rt: &R, alloc: Global, client: &mut End) -> Result<End> {
-        client.turn(rt)?;
-        let server = accept(rt, alloc, client.wire.given())?;
-        client.wire.forget();
-        Ok(server)
-    }
-
-    /// One turn of the pump, in which bytes move.
-    pub fn turn<R: Wait>(&mut self, rt: &R) -> Result<()> {
-        let (connection, clock) = (&self.connection, &self.clock);
-        let turned = self
-            .pump
-            .turn(rt, connection, &mut self.caller, &mut self.wire, clock);
-        ensure!(
-            matches!(turned, Turned::Moved { .. }),
-            "a turn is {turned:?}"
+impl<L: Link> End<L> {
+    /// One turn of the pump, after which it goes on. Whether bytes moved.
+    pub fn turn<R: Wait>(&mut self, rt: &R) -> Result<bool> {
+        let end = &mut self.unlinked;
+        let turned = end.pump.turn(
+            rt,
+            &end.connection,
+            &mut end.caller,
+            &mut self.link,
+            &end.clock,
         );
-        Ok(())
-    }
-
-    /// What the other end was given comes, by one turn.
-    pub fn receive<R: Wait>(&mut self, rt: &R, other: &mut End) -> Result<()> {
-        self.wire.carry(&mut other.wire)?;
-        self.turn(rt)
+        match turned {
+            Turned::Moved { .. } => Ok(true),
+            Turned::Busy(_) | Turned::Lull => Ok(false),
+            _ => bail!("a turn is {turned:?}"),
+        }
     }
 
     /// A caller asks something. `None` where the end refuses.
     pub fn ask<R: Wait>(&mut self, rt: &R, call: &Call) -> Option<Said>
         requires { CanBeAsked call.now }
     {
-        said_by(&self.connection.call(rt, &mut self.caller, call))
+        let end = &mut self.unlinked;
+        said_by(&end.connection.call(rt, &mut end.caller, call))
     }
 }

@@ -1,0 +1,80 @@
+//! Requests, each made once the response to the one before is there.
+
+use crate::asks::{request_response, respond, take_next};
+use crate::edges::SMALL;
+use crate::edges::sockets::{
+    TcpSide, client_over, next_request, outlast, server_over, two_sockets,
+};
+use crate::end::Said;
+use anyhow::{Result, bail, ensure};
+use rs_wire::Blob;
+use std::alloc::Global;
+use std::net::{Net, TcpListener, TcpStream};
+use std::sync::Wait;
+use std::thread::{Threads, join};
+use std::time::{Clock, Instant};
+
+/// How many turns a response may take.
+const MOST_TURNS: u32 = 10_000;
+
+// Answers so many requests, and then waits until the client is gone.
+fn serve<R: Wait>(rt: &R, alloc: Global, server: &mut TcpSide, pings: u32) -> Result<()> {
+    for _ in 0..pings {
+        let stream = next_request(rt, server)?;
+        let content = Blob::from_slice(alloc, SMALL)?;
+        let said = server.ask(rt, &respond(stream, content));
+        ensure!(said == Some(Said::Done), "a response is {said:?}");
+        server.turn(rt)?;
+    }
+    outlast(rt, server);
+    Ok(())
+}
+
+// Turns until the response on a stream is there, and takes it.
+fn take_response<R: Wait>(rt: &R, client: &mut TcpSide, stream: u32) -> Result<()> {
+    for _ in 0..MOST_TURNS {
+        client.turn(rt)?;
+        let said = client.ask(rt, &take_next(stream));
+        if said == Some(Said::Item) {
+            let ended = client.ask(rt, &take_next(stream)) == Some(Said::Complete);
+            ensure!(ended, "no end is taken");
+            return Ok(());
+        }
+    }
+    bail!("no response came")
+}
+
+fn ask<R: Wait>(rt: &R, alloc: Global, client: &mut TcpSide, pings: u32) -> Result<()> {
+    for _ in 0..pings {
+        let content = Blob::from_slice(alloc, SMALL)?;
+        let said = client.ask(rt, &request_response(content));
+        match said {
+            Some(Said::Started(stream)) => take_response(rt, client, stream)?,
+            _ => bail!("a request is {said:?}"),
+        }
+    }
+    Ok(())
+}
+
+/// So many requests are answered, one after another. How many nanoseconds each took.
+pub fn cross<R>(rt: &R, alloc: Global, pings: u32) -> Result<u128>
+where
+    R: Net<Listener = TcpListener, Stream = TcpStream> + Threads + Wait + Clock + Sync,
+{
+    let (near, far) = two_sockets(rt)?;
+    let start = Instant::now(rt)?;
+    let (asked, served) = join(
+        rt,
+        move || {
+            let mut client = client_over(rt, alloc, near)?;
+            ask(rt, alloc, &mut client, pings)
+        },
+        move || {
+            let mut server = server_over(rt, alloc, far)?;
+            serve(rt, alloc, &mut server, pings)
+        },
+    );
+    asked?;
+    served?;
+    Ok(start.elapsed(rt)?.as_nanos() / u128::from(pings.max(1)))
+}
