@@ -3,8 +3,7 @@
 ghost use Rattle.std.specs.Prelude.{◌≡◌};
 
 use anyhow::{Context, Result};
-use handlers::{Handler, Law, Produced, Routes, Stored};
-use rs_wire::{Blob, Kind};
+use rustshuttle::{Blob, Handler, Kind, Law, Produced, Routes, Stored};
 use std::alloc::Global;
 use std::io::Print;
 use std::sync::Arc;
@@ -17,8 +16,8 @@ struct Counted {
 }
 
 impl Handler for Counted {
-    ghost use Rattle.handlers.specs.declared.law.Law.TheVariants as law;
-    ghost use Rattle.handlers.specs.Values.{value};
+    ghost use Rattle.rustshuttle.specs.Law.TheVariants as law;
+    ghost use Rattle.rustshuttle.specs.Values.{value};
 
     ghost gives = { λ _ content index. value law.Upper content index };
 

@@ -1,14 +1,12 @@
-//! The library in use: four short programs, a module each. [`hello`] is the first to read, [`stream`]
-//! the second, [`resume`] the third, over two ends of a session in one process; [`handler`] is a
-//! handler of a program's own.
+//! The library in use: three short programs, a module each. [`stream`] and [`resume`] are two ends of
+//! a session in one process; [`handler`] is a handler of a program's own. The first to read is the
+//! program `hello` beside this one.
 //!
-//! `examples hello` runs one of them, and with no word all four run, one after another.
+//! `examples stream` runs one of them, and with no word all three run, one after another.
 #![tactic(auto)]
 
-mod calls;
 mod ends;
 mod handler;
-mod hello;
 mod resume;
 mod stream;
 
@@ -24,24 +22,17 @@ const USAGE: u8 = 2;
 /// An example.
 #[derive(Clone, Copy)]
 enum Example {
-    Hello,
     Stream,
     Resume,
     Handler,
 }
 
 /// In the order in which they are run.
-const ALL: [Example; 4] = [
-    Example::Hello,
-    Example::Stream,
-    Example::Resume,
-    Example::Handler,
-];
+const ALL: [Example; 3] = [Example::Stream, Example::Resume, Example::Handler];
 
 impl Example {
     fn named(name: &str) -> Option<Example> {
         match name {
-            "hello" => Some(Example::Hello),
             "stream" => Some(Example::Stream),
             "resume" => Some(Example::Resume),
             "handler" => Some(Example::Handler),
@@ -51,7 +42,6 @@ impl Example {
 
     fn run(self, rt: &impl Print, alloc: Global) -> Result<()> {
         match self {
-            Example::Hello => hello::run(rt, alloc),
             Example::Stream => stream::run(rt, alloc),
             Example::Resume => resume::run(rt, alloc),
             Example::Handler => handler::run(rt, alloc),
@@ -69,7 +59,7 @@ fn main(rt: HostRuntime) -> Result<ExitCode> {
         return Ok(ExitCode::SUCCESS);
     };
     let Some(example) = Example::named(&name) else {
-        eprintln!(rt; "examples: no example {name:?}, only hello, stream, resume and handler")?;
+        eprintln!(rt; "examples: no example {name:?}, only stream, resume and handler")?;
         return Ok(ExitCode::from(USAGE));
     };
     if let Some(word) = words.next() {

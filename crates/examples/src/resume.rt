@@ -1,13 +1,14 @@
 //! A session that outlives its connection: two requests, a cut in the middle of the second one, and
 //! a resumption, after which the server has both, each once.
 
-ghost use Rattle.std.specs.Prelude.{◌≡◌, IfOk, false};
-ghost use Rattle.rs_wire.specs.declared.words.Side.TheVariants.{Client, Server};
+ghost use Rattle.std.specs.Prelude.{◌≡◌, IfOk};
+ghost use Rattle.rustshuttle.specs.Side.TheVariants.{Client};
 
-use crate::ends::{End, ROOM, accept, ask, cut, end_with, open, receive, send, take_job};
-use anyhow::{Context, Result};
-use rs_chunk::split_frame;
-use rs_wire::{Blob, Call, Checked, OutOfMemory, Settings, Side, check};
+use crate::ends::{End, ROOM, ask, connect, disconnect, receive, send};
+use anyhow::Result;
+use rustshuttle::{
+    Blank, Blob, Checked, Endpoint, OutOfMemory, Settings, Side, check, fire_and_forget, take_job,
+};
 use std::alloc::Global;
 use std::io::Print;
 
@@ -28,8 +29,7 @@ fn token(alloc: Global, side: Side) -> Result<Blob, OutOfMemory> {
 
 // The settings of an end that resumes.
 fn resuming(alloc: Global, side: Side) -> Result<Checked>
-    ensures side { IfOk result (λ s. s.side ≡ side) }
-    ensures no_leases { IfOk result (λ s. s.lease ≡ false) }
+    ensures { IfOk result (λ s. s.side ≡ side) }
 {
     let mut settings = Settings::usual(alloc, side)?;
     settings.resume = true;
@@ -40,93 +40,72 @@ fn resuming(alloc: Global, side: Side) -> Result<Checked>
 
 // An end at which nothing happened yet, which agrees to resumption.
 fn new_end(alloc: Global, side: Side) -> Result<End>
-    ensures { IfOk result (λ s. s.settings.side ≡ side) }
+    ensures { IfOk result (λ e. e.session.settings.side ≡ side) }
 {
-    end_with(alloc, resuming(alloc, side)?)
+    let end = Endpoint::new(alloc, resuming(alloc, side)?, Blank::new());
+    Ok(end.map_err(|(_, error)| error)?)
 }
 
 // A caller at a client asks for something to which nothing is answered.
 fn call(rt: &impl Print, alloc: Global, client: &mut End, content: &[u8]) -> Result<()>
-    ensures { client.new.settings ≡ client.old.settings }
+    ensures { client.new.session.settings ≡ client.old.session.settings }
 {
     let content = Blob::from_slice(alloc, content)?;
-    ask(rt, "client", client, Call::fire_and_forget(content))
+    ask(rt, "client", client, fire_and_forget(content))
 }
 
 // The client opens connection 1 and makes two requests. Not all of the second one crosses.
 fn begin(rt: &impl Print, alloc: Global, client: &mut End) -> Result<Vec<u8>>
-    requires { client.old.settings.side ≡ Client }
-    ensures { client.new.settings ≡ client.old.settings }
+    requires { client.old.session.settings.side ≡ Client }
+    ensures { client.new.session.settings ≡ client.old.session.settings }
 {
-    open(rt, client)?;
+    connect(rt, client)?;
     call(rt, alloc, client, b"one")?;
     call(rt, alloc, client, b"two")?;
-    send(rt, alloc, "client", client, 1, CROSSED)
-}
-
-// SETUP opens connection 1 at the server, which gets the first request.
-fn meet(rt: &impl Print, alloc: Global, server: &mut End, bytes: &[u8]) -> Result<()>
-    requires { server.old.settings.side ≡ Server }
-    ensures { server.new.settings ≡ server.old.settings }
-{
-    let (setup, rest) = split_frame(bytes).context("no SETUP")?;
-    accept(rt, alloc, server, setup)?;
-    receive(rt, alloc, "server", server, 1, rest)
+    send(rt, alloc, "client", client, CROSSED)
 }
 
 // The client opens connection 2, and says by RESUME up to which position it handled what the server
 // made, and from which on it holds what it made itself.
 fn ask_to_resume(rt: &impl Print, alloc: Global, client: &mut End) -> Result<Vec<u8>>
-    requires { client.old.settings.side ≡ Client }
-    ensures { client.new.settings ≡ client.old.settings }
+    requires { client.old.session.settings.side ≡ Client }
 {
-    open(rt, client)?;
-    send(rt, alloc, "client", client, 2, ROOM)
+    connect(rt, client)?;
+    send(rt, alloc, "client", client, ROOM)
 }
 
 // The server accepts, and says by RESUME_OK up to which position it handled what the client made.
-fn agree(rt: &impl Print, alloc: Global, server: &mut End, bytes: &[u8]) -> Result<Vec<u8>>
-    requires { server.old.settings.side ≡ Server }
-    ensures { server.new.settings ≡ server.old.settings }
-{
-    let (resume, _) = split_frame(bytes).context("no RESUME")?;
-    accept(rt, alloc, server, resume)?;
-    send(rt, alloc, "server", server, 2, ROOM)
+fn agree(rt: &impl Print, alloc: Global, server: &mut End, bytes: &[u8]) -> Result<Vec<u8>> {
+    server.accept();
+    receive(rt, alloc, "server", server, bytes)?;
+    send(rt, alloc, "server", server, ROOM)
 }
 
 // The client sends again what the server did not handle: the second request alone.
 fn go_on(rt: &impl Print, alloc: Global, client: &mut End, bytes: &[u8]) -> Result<Vec<u8>> {
-    receive(rt, alloc, "client", client, 2, bytes)?;
-    send(rt, alloc, "client", client, 2, ROOM)
+    receive(rt, alloc, "client", client, bytes)?;
+    send(rt, alloc, "client", client, ROOM)
 }
 
 // The server takes both requests, and there is no third.
 fn take_all(rt: &impl Print, alloc: Global, server: &mut End, bytes: &[u8]) -> Result<()> {
-    receive(rt, alloc, "server", server, 2, bytes)?;
+    receive(rt, alloc, "server", server, bytes)?;
     for _ in 0..3 {
-        take_job(rt, server)?;
+        ask(rt, "server", server, take_job())?;
     }
     Ok(())
-}
-
-// Both connections, between two ends at which nothing happened yet.
-fn run_between(rt: &impl Print, alloc: Global, client: &mut End, server: &mut End) -> Result<()>
-    requires client { client.old.settings.side ≡ Client }
-    requires server { server.old.settings.side ≡ Server }
-{
-    let crossed = begin(rt, alloc, client)?;
-    meet(rt, alloc, server, &crossed)?;
-    cut(rt, "client", client, 1)?;
-    cut(rt, "server", server, 1)?;
-    let resume = ask_to_resume(rt, alloc, client)?;
-    let accepted = agree(rt, alloc, server, &resume)?;
-    let again = go_on(rt, alloc, client, &accepted)?;
-    take_all(rt, alloc, server, &again)
 }
 
 /// The whole example.
 pub fn run(rt: &impl Print, alloc: Global) -> Result<()> {
     let mut client = new_end(alloc, Side::Client)?;
     let mut server = new_end(alloc, Side::Server)?;
-    run_between(rt, alloc, &mut client, &mut server)
+    let crossed = begin(rt, alloc, &mut client)?;
+    receive(rt, alloc, "server", &mut server, &crossed)?;
+    disconnect(rt, "client", &mut client)?;
+    disconnect(rt, "server", &mut server)?;
+    let resume = ask_to_resume(rt, alloc, &mut client)?;
+    let accepted = agree(rt, alloc, &mut server, &resume)?;
+    let again = go_on(rt, alloc, &mut client, &accepted)?;
+    take_all(rt, alloc, &mut server, &again)
 }

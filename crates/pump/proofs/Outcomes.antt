@@ -20,7 +20,7 @@ use Rattle.pump.specs.declared.incoming.Took.{Took}
 use Rattle.pump.specs.declared.incoming.Took.TheVariants as tooks
 use Rattle.pump.specs.declared.turned.Turned.{Turned}
 use Rattle.pump.specs.declared.turned.Turned.TheVariants as turned
-use Rattle.pump.specs.Moves.{HasGave, HasTook, IsGrown, given_in, taken_in}
+use Rattle.pump.specs.Moves.{HasGave, HasGrown, HasTook, IsGrown, given_in, taken_in}
 use Rattle.pump.specs.Parts.{RulesOutOf, SomeMoved, SumsUp, is_fine}
 use Rattle.pump.specs.Turns.{BroughtFor, HasArrived, IfBusy, IfDone, IsEmptied, IsPumped, IsReadOut, Names, RulesOut, Ticks, TurnedFor, WasBusy, ended_by, is_done, is_ended, is_early, is_last, is_over}
 use Rattle.pump.specs.Runs.{HasLulled, RanFor, lulls_in}
@@ -51,6 +51,20 @@ took_grown m t gave tooks.Lull fine h = grown_none m.taken t.taken h.0
 took_grown m t gave tooks.End fine h = grown_none m.taken t.taken h.0
 took_grown m t gave tooks.Failed fine h = grown_none m.taken t.taken h.0
 took_grown m t gave tooks.OutOfMemory fine h = absurd (true≢false (sym fine))
+
+pub no_more : (o : Option (List ℕ)) → HasGrown o o
+no_more o = ([], sym (nothing_more o))
+
+pub gave_more : (s m : Shown) (gave : Gave) → HasGave s m gave → HasGrown s.given m.given
+gave_more s m gave h = let grown = gave_grown s m gave h in (grown.0, grown.2)
+
+pub took_more : (m t : Shown) (took : Took) → HasTook m t took → HasGrown m.taken t.taken
+took_more m t tooks.Nothing h = subst (HasGrown m.taken) (sym (ap (λ (x : Shown). x.taken) h)) (no_more m.taken)
+took_more m t (tooks.Count n) h = (h.2.0, h.2.2)
+took_more m t tooks.Lull h = subst (HasGrown m.taken) (sym h.0) (no_more m.taken)
+took_more m t tooks.End h = subst (HasGrown m.taken) (sym h.0) (no_more m.taken)
+took_more m t tooks.Failed h = subst (HasGrown m.taken) (sym h.0) (no_more m.taken)
+took_more m t tooks.OutOfMemory h = h
 
 pub rose_from : (a b c : ℕ) → a ≤ b → Rose b c → Rose a c
 rose_from a b c le (inl h) = inl (omega arith)

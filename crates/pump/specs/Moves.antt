@@ -17,6 +17,10 @@ use Rattle.pump.specs.declared.incoming.Took.TheVariants as tooks
 abbrev pub IsGrown : ℕ → Option (List ℕ) → Option (List ℕ) → Type 0
 IsGrown n old new = (piece : List ℕ) × (length piece ≡ n) × (new ≡ append_known old piece)
 
+-- some bytes more, or none, where they are shown
+abbrev pub HasGrown : Option (List ℕ) → Option (List ℕ) → Type 0
+HasGrown old new = (piece : List ℕ) × (new ≡ append_known old piece)
+
 -- ---- giving
 
 -- the link was given the first of the bytes that were left
@@ -53,9 +57,6 @@ pub record TakesMore (old new : Option (List ℕ)) (before after : List ℕ) : T
   pub taken : new ≡ append_known old piece
   pub behind : after ≡ before ++ piece
 
-abbrev pub HasTaken : Option (List ℕ) → Option (List ℕ) → Type 0
-HasTaken old new = (piece : List ℕ) × (new ≡ append_known old piece)
-
 -- a take so answered took so many bytes, of the room that there is
 abbrev pub IsCounted : Option (List ℕ) → Option (List ℕ) → Taken → Type 0
 IsCounted old new (takes.Took n) = (0 < n) × (n ≤ PIECE) × IsGrown n old new
@@ -75,7 +76,7 @@ HasTook old new (tooks.Count n) = (0 < n) × (n ≤ PIECE) × IsGrown n old.take
 HasTook old new tooks.Lull = (new.taken ≡ old.taken) × Rose old.counts.lulls new.counts.lulls
 HasTook old new tooks.End = (new.taken ≡ old.taken) × Rose old.counts.ends new.counts.ends
 HasTook old new tooks.Failed = (new.taken ≡ old.taken) × Rose old.counts.faults new.counts.faults
-HasTook old new tooks.OutOfMemory = Unit {0}
+HasTook old new tooks.OutOfMemory = HasGrown old.taken new.taken
 
 -- a take took no more than there is room for
 abbrev pub IsFew : Taken → Type 0

@@ -25,7 +25,7 @@ use Rattle.pump.specs.declared.bringing.Brought.TheVariants as brings
 use Rattle.pump.specs.declared.numbers.TheConstants.{PIECE}
 use Rattle.pump.specs.declared.turned.Turned.{Turned}
 use Rattle.pump.specs.declared.turned.Turned.TheVariants as turned
-use Rattle.pump.specs.Moves.{IsGrown, all_of}
+use Rattle.pump.specs.Moves.{HasGrown, IsGrown, all_of}
 
 -- ---- what is kept
 
@@ -345,6 +345,8 @@ pub record HadOnlyFrames (g : Settings) (me : Knowledge) (b : Between) (new : Li
 pub record IsTurned (g : Settings) (moments : Option (List ℕ)) (me : Knowledge) (new : List Entry) (s t : Shown) (b : Between) (r : Turned) : Type 0 where
   pub left : List ℕ
   pub turn : IsTurn g moments me b.conn b.left left new
+  -- the link has all the bytes that it had
+  pub grown : HasGrown s.given t.given × HasGrown s.taken t.taken
   -- where the pump goes on something has moved, unless nothing but a frame was there
   pub progress : is_last r ≡ false → HasMoved s t ⊎ HadOnlyFrames g (record me { front = turn.begins.ticked; note = None }) b turn.begun
   -- where a frame waited nothing is taken

@@ -4,7 +4,7 @@ ghost use Rattle.std.specs.Prelude.{◌≡◌, ◌<◌, ◌≤◌, ◌^◌, ◌+
 ghost use Rattle.rs_chunk.specs.Stream.{IsCut, IsWhole, after_frame, first_frame};
 ghost use Rattle.outside.specs.Links.{NoneFell};
 ghost use Rattle.link_model.specs.Reading.{IsPart, IsWaiting};
-ghost use Rattle.pump.specs.Moves.{HasTaken, IsCaused, IsCounted, IsNext, TakesMore, all_of};
+ghost use Rattle.pump.specs.Moves.{HasGrown, IsCaused, IsCounted, IsNext, TakesMore, all_of};
 
 use crate::numbers::PIECE;
 use outside::{Link, Taken};
@@ -123,7 +123,7 @@ impl Incoming {
 
     /// Takes what comes from the link, and drops it.
     pub(crate) fn skip<L: Link>(&mut self, link: &mut L) -> Taken
-        ensures taken { HasTaken (L.shown link.old).taken (L.shown link.new).taken }
+        ensures taken { HasGrown (L.shown link.old).taken (L.shown link.new).taken }
         ensures count { IsCounted (L.shown link.old).taken (L.shown link.new).taken result }
         ensures cause { IsCaused (L.shown link.old) (L.shown link.new) result }
         ensures given { (L.shown link.new).given ≡ (L.shown link.old).given }

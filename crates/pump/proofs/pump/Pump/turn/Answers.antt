@@ -13,7 +13,7 @@ use Rattle.pump.specs.declared.inner.Inner.{Inner}
 use Rattle.pump.specs.declared.bringing.Brought.{Brought}
 use Rattle.pump.specs.declared.bringing.Brought.TheVariants as brings
 use Rattle.pump.specs.declared.outgoing.Gave.{Gave}
-use Rattle.pump.specs.Moves.{Comes, all_of}
+use Rattle.pump.specs.Moves.{Comes, HasGrown, all_of}
 use Rattle.pump.specs.declared.numbers.TheConstants.{PIECE}
 use Rattle.pump.specs.Parts.{SumsUp}
 use Rattle.pump.specs.Turns.{Arrives, BroughtFor, GoesOn, HadOnlyFrames, HasArrived, HasMoved, HasWaiting, IsKept, IsPumped, IsTurned, Names, goes_on_after, goes_on_from, has, is_last}
@@ -22,7 +22,7 @@ use Rattle.pump.proofs.Adding.{IsOn, continues_both, goes_both, goes_continues, 
 use Rattle.pump.proofs.Keeping.{kept_follows, kept_moved}
 use Rattle.pump.proofs.Drawing.{found_none, idle_by, was_empty, went_ticked}
 use Rattle.pump.proofs.Going.{begun_on}
-use Rattle.pump.proofs.Outcomes.{began_for, ended_early, ended_last, none_ended, none_fell, none_fell_both, read_out, ruled_out, rules_out, stall_of, turned_for}
+use Rattle.pump.proofs.Outcomes.{began_for, ended_early, ended_last, gave_more, no_more, none_ended, none_fell, none_fell_both, read_out, ruled_out, rules_out, stall_of, took_more, turned_for}
 use Rattle.pump.proofs.Progress.{progress}
 use Rattle.pump.proofs.pump.Pump.turn.Goals as goal
 
@@ -42,6 +42,7 @@ returns-in-Some-clause-turned g c =
     subst (λ (b : Between). IsTurned c.args.connection.now.settings (g.K.Clock.moments c.args.clock.now) me d.front s s b c.in-Some.turned) c.self.view_is (record {
       left = c.begin-begun.new.self.outgoing;
       turn = record { begun = d.front; begins = c.begin-begun.ensures.begins.begins; arrivals = goes_none (Arrives c.self.inside.inner.conn) (record me { front = d.front; note = None }); ended = λ none. refl };
+      grown = (no_more (g.L.Link.shown c.args.link.now).given, no_more (g.L.Link.shown c.args.link.now).taken);
       progress = λ goes_on. absurd (true≢false (sym last ∙ goes_on));
       waited = λ waits. refl;
       ticked = λ late. absurd (true≢false (sym early ∙ late));
@@ -116,6 +117,10 @@ returns-clause-turned g c =
         ended = λ ends. absurd (true≢false (sym went ∙ ends));
         arrivals = goes_both P start h n.front on_h (goes_both P start d h.front on_d (goes_none P start) heard) (goes_follows P h n.front c.look-looked.ensures.follows);
       };
+      grown = (
+        subst (HasGrown s.given) (sym c.take_some-took.ensures.given) (gave_more s m c.give_some-gave.result c.give_some-gave.ensures.gave),
+        subst (λ k. HasGrown k t.taken) c.give_some-gave.ensures.taken (took_more m t c.take_some-took.result c.take_some-took.ensures.took),
+      );
       waited = λ waits. c.take_some-took.ensures.waited (waits_on p c.give_some-gave.new.self incoming bad waits) ∙ c.give_some-gave.ensures.taken;
       ticked = λ late. went_ticked start_b.begins.answer start_b.begins.drew went;
       drawn = λ late. went;

@@ -1,0 +1,11 @@
+pub mod Ends
+pub use Rattle.rs_wire.specs.Calls
+pub use Rattle.rs_wire.specs.Settings
+pub use Rattle.rs_wire.specs.declared.words.Side
+pub use Rattle.tape.specs.declared.event.Event
+pub use Rattle.tape.specs.declared.answer.Answer
+pub use Rattle.session_model.specs.Answers
+pub use Rattle.session_model.specs.Legal
+pub use Rattle.session_core.specs.Seen
+pub use Rattle.handlers.specs.declared.law.Law
+pub use Rattle.handlers.specs.Values

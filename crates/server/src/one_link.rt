@@ -1,0 +1,210 @@
+//! An opened connection, served to its end.
+
+ghost use Rattle.std.specs.Prelude.{◌≡◌, ◌≢◌, ◌<◌, ◌^◌, ◌++◌, List, is_some};
+ghost use Rattle.tape.specs.declared.entry.Entry.{Entry};
+ghost use Rattle.outside.specs.Links.{NoneFell};
+ghost use Rattle.session_model.specs.Legal.{Legal};
+ghost use Rattle.rs_frame.specs.declared.frame.Frame.{Frame as Head};
+ghost use Rattle.link_model.specs.Carrying.{Carried, IsAlone, IsFresh};
+ghost use Rattle.link_model.specs.Leaving.{Left};
+ghost use Rattle.link_laws.specs.Opened.{IsJustOpened};
+ghost use Rattle.link_laws.specs.Staying.{IsHeld};
+ghost use Rattle.pump.specs.Moves.{HasGrown};
+ghost use Rattle.pump.specs.Turns.{GoesOn};
+ghost use Rattle.server.specs.Attending.{AreFewTicks, AreRoutedIn, IsCut, KeepsWork};
+ghost use Rattle.server.specs.Running.{AttendsSo, EndedFor, Leases, Ran, ended_by};
+
+use crate::attending::attend;
+use crate::lost::{cut, note_dead};
+use conn::{Caller, Connection};
+use handlers::{Handler, Routes};
+use outside::{Clock, Link};
+use pump::{Pump, Turned};
+use rs_chunk::Reader;
+use rs_wire::{Amount, Call};
+use session_table::Sessions;
+use std::alloc::Global;
+use std::sync::{Mutex, Wait};
+use tape::{Answer, Tape};
+use workers::Work;
+
+/// How long a lease lasts that a server grants after an opening, in milliseconds.
+pub(crate) const LEASE_MS: u32 = 60_000;
+
+// What ends a connection at once whose lease was answered so.
+fn ended_by(answer: &Answer) -> Option<Turned>
+    ensures { result ≡ ended_by answer.now }
+{
+    match answer {
+        Answer::TapeFull => Some(Turned::TapeFull),
+        Answer::OutOfMemory => Some(Turned::OutOfMemory),
+        _ => None,
+    }
+}
+
+// Lets the client make this many requests, where it asked for leases: it is refused, and nothing is
+// lost, where it did not. What ends the connection at once.
+fn grant_lease<R: Wait, T: Tape>(
+    rt: &R,
+    connection: &Connection<T>,
+    caller: &mut Caller<T>,
+    grant: Option<Amount>,
+) -> Option<Turned>
+    requires of { caller.old.of ≡ connection.now }
+    ensures same { caller.new ≡
+        record caller.old { front = caller.new.front; note = caller.new.note } }
+    ensures leases { Leases connection.now.settings grant caller.old caller.new.front result }
+{
+    let count = grant?;
+    let ttl = Amount::of(LEASE_MS)?;
+    let answer = connection.call(
+        rt,
+        caller,
+        &Call::Lease {
+            ttl,
+            count,
+            metadata: None,
+        },
+    );
+    ended_by(&answer)
+}
+
+// Grants, and moves bytes until the link or the session ends.
+fn run<R: Wait, L: Link, K: Clock, T: Tape, F: Handler>(
+    rt: &R,
+    alloc: Global,
+    link: &mut L,
+    clock: &K,
+    connection: &Connection<T>,
+    caller: &mut Caller<T>,
+    conn: u64,
+    reader: Reader,
+    routes: &Routes<F>,
+    grant: Option<Amount>,
+    jobs: &mut Option<Work>,
+) -> Turned
+    requires of { caller.old.of ≡ connection.now }
+    requires limit { reader.max_in ≡ connection.now.settings.max_in }
+    requires short { reader.max_in < 2 ^ 24 }
+    requires routed { AreRoutedIn routes.now jobs.old }
+    requires fresh { IsFresh connection.now.settings caller.old.front (L.shown link.old) conn
+        reader.bytes }
+    ensures same { caller.new ≡
+        record caller.old { front = caller.new.front; note = caller.new.note } }
+    ensures ran { Ran connection.now.settings (K.moments clock.now) (is_some jobs.old) grant
+        caller.old caller.new (L.shown link.old) (L.shown link.new) conn result }
+    ensures taken { HasGrown (L.shown link.old).taken (L.shown link.new).taken }
+    ensures work { KeepsWork caller.old.names routes.now caller.old.front caller.new.front jobs.old
+        jobs.new }
+    ensures counted { NoneFell (L.shown link.old).counts (L.shown link.new).counts }
+{
+    if let Some(turned) = grant_lease(rt, connection, caller, grant) {
+        return turned;
+    }
+    link.hear(rt, connection.bell());
+    match Pump::new(alloc, conn, reader) {
+        Ok(mut pump) => attend(
+            rt, alloc, &mut pump, connection, caller, link, clock, routes, jobs,
+        ),
+        Err(_) => Turned::OutOfMemory,
+    }
+}
+
+// What a connection comes to whose cut was answered so.
+fn after_cut(answer: &Answer, turned: Turned) -> Turned
+    ensures result { result ≢ Turned.OutOfMemory → result ≡ turned }
+    ensures want { turned ≡ Turned.OutOfMemory → result ≡ Turned.OutOfMemory }
+{
+    match answer {
+        Answer::OutOfMemory => Turned::OutOfMemory,
+        _ => turned,
+    }
+}
+
+// Ends the connection, which came to this.
+fn finish<R: Wait, K: Clock, T: Tape>(
+    rt: &R,
+    clock: &K,
+    table: &Mutex<Sessions>,
+    slot: u32,
+    connection: &Connection<T>,
+    caller: &mut Caller<T>,
+    conn: u64,
+    turned: Turned,
+) -> Turned
+    requires of { caller.old.of ≡ connection.now }
+    ensures same { caller.new ≡
+        record caller.old { front = caller.new.front; note = caller.new.note } }
+    ensures goes { GoesOn (IsCut conn) caller.old caller.new.front }
+    ensures result { result ≢ Turned.OutOfMemory → result ≡ turned }
+    ensures want { turned ≡ Turned.OutOfMemory → result ≡ Turned.OutOfMemory }
+{
+    if let Turned::Dead(_) = turned {
+        note_dead(rt, clock, table, slot, connection, caller);
+        return turned;
+    }
+    let answer = cut(rt, clock, table, slot, connection, caller, conn);
+    after_cut(&answer, turned)
+}
+
+/// Serves a link whose connection this caller just opened, to its end: it grants the requests, moves
+/// bytes, and answers jobs where there is a work for them; then it cuts the connection. A connection
+/// whose peer counts as dead is not cut. The table notes since when the session has no connection.
+/// It answers what its pump came to, or `OutOfMemory` where the lease, the pump or the cut found
+/// none.
+pub(crate) fn serve_opened<R: Wait, L: Link, K: Clock, T: Tape, F: Handler>(
+    rt: &R,
+    alloc: Global,
+    link: &mut L,
+    clock: &K,
+    table: &Mutex<Sessions>,
+    slot: u32,
+    connection: &Connection<T>,
+    caller: &mut Caller<T>,
+    conn: u64,
+    reader: Reader,
+    routes: &Routes<F>,
+    grant: Option<Amount>,
+    jobs: &mut Option<Work>,
+) -> Turned
+    requires of { caller.old.of ≡ connection.now }
+    requires limit { reader.max_in ≡ connection.now.settings.max_in }
+    requires short { reader.max_in < 2 ^ 24 }
+    requires routed { AreRoutedIn routes.now jobs.old }
+    requires fresh { IsFresh connection.now.settings caller.old.front (L.shown link.old) conn
+        reader.bytes }
+    ensures same { caller.new ≡
+        record caller.old { front = caller.new.front; note = caller.new.note } }
+    ensures legal { Legal connection.now.settings caller.new.front }
+
+    // The lease, what attends the connection, and its cut.
+    ensures attends { AttendsSo connection.now.settings (K.moments clock.now) (is_some jobs.old)
+        grant conn caller.old caller.new.front result }
+
+    // Its link is carried, if its caller alone moves bytes of it.
+    ensures carried { IsAlone conn caller.new.number caller.new.front →
+        Carried connection.now.settings caller.new.front (L.shown link.new) conn }
+
+    // Its link may be left, if this caller alone also ends the connection.
+    ensures left { (first : Head) →
+        IsJustOpened connection.now.settings caller.old.front conn first →
+        IsHeld conn caller.new.number caller.new.front → result ≢ Turned.OutOfMemory →
+        Left connection.now.settings caller.new.front (L.shown link.new) conn }
+    ensures cause { EndedFor connection.now.settings (K.moments clock.now) conn caller.old
+        caller.new.front (L.shown link.new) result }
+    ensures ticks { IsAlone conn caller.new.number caller.new.front → (more : List Entry) →
+        caller.new.front ≡ more ++ caller.old.front →
+        AreFewTicks caller.new.names more (L.shown link.new) }
+    ensures taken { HasGrown (L.shown link.old).taken (L.shown link.new).taken }
+    ensures work { KeepsWork caller.old.names routes.now caller.old.front caller.new.front jobs.old
+        jobs.new }
+    ensures counted { NoneFell (L.shown link.old).counts (L.shown link.new).counts }
+{
+    let turned = run(
+        rt, alloc, link, clock, connection, caller, conn, reader, routes, grant, jobs,
+    );
+    let turned = finish(rt, clock, table, slot, connection, caller, conn, turned);
+    caller.number();
+    caller.legal();
+    turned
+}

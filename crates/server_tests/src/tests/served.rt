@@ -1,0 +1,236 @@
+//! How links end that a server serves: by their first bytes, and by those after a SETUP.
+
+ghost use Rattle.std.specs.Prelude.{◌≡◌, ◌<◌, length};
+ghost use Rattle.rs_wire.specs.declared.words.Side.TheVariants.{Server};
+ghost use Rattle.server.specs.Opening.{AreOf};
+
+use super::slots::{PLAIN, Plan, Shared, link, make_shared, serve, slots};
+use super::tokens::{RESUME, RESUMING_SETUP};
+use conn::{Caller, Connection};
+use outside::After;
+use rs_wire::{Cause, Gone, Rule, SetupFault};
+use server::Served;
+use std::alloc::Global;
+use std::process::Abort;
+use std::sync::Wait;
+use tape::{BlankShelf, KeptShelf, Shelf, Tape};
+
+/// A SETUP of version 1.0 after its length, with a keepalive of 20,000 and a lifetime of 90,000
+/// milliseconds, without a token and without leases.
+const SETUP: &[u8] = b"\
+    \x00\x00\x44\
+    \x00\x00\x00\x00\x04\x00\x00\x01\x00\x00\x00\x00\x4e\x20\x00\x01\x5f\x90\
+    \x18application/octet-stream\
+    \x18application/octet-stream";
+
+/// The same of a client that asks for leases.
+const LEASING_SETUP: &[u8] = b"\
+    \x00\x00\x44\
+    \x00\x00\x00\x00\x04\x40\x00\x01\x00\x00\x00\x00\x4e\x20\x00\x01\x5f\x90\
+    \x18application/octet-stream\
+    \x18application/octet-stream";
+
+/// A request of a response by the route `echo`, with the content `hi`, after its length.
+const ECHO: &[u8] = b"\x00\x00\x0f\x00\x00\x00\x01\x11\x00\x00\x00\x04echohi";
+
+/// The response to it.
+const ECHOED: &[u8] = b"\x00\x00\x08\x00\x00\x00\x01\x28\x60hi";
+
+/// A LEASE of 5 requests for 60,000 milliseconds.
+const LEASE: &[u8] = b"\x00\x00\x0e\x00\x00\x00\x00\x08\x00\x00\x00\xea\x60\x00\x00\x00\x05";
+
+/// A link, and how it is served.
+#[derive(Clone, Copy)]
+struct Row {
+    /// The server resumes, and has leases.
+    resume: bool,
+    lease: bool,
+    /// What comes first, and what comes then.
+    first: &'static [u8],
+    then: &'static [u8],
+    after: After,
+    plan: Plan,
+    served: Served,
+    opened: Option<(u32, u64)>,
+    /// How many bytes the link is given, and how they end.
+    given: usize,
+    end: &'static [u8],
+}
+
+/// A link to a server that neither resumes nor has leases, and that is not opened.
+const REFUSED: Row = Row {
+    resume: false,
+    lease: false,
+    first: b"",
+    then: b"",
+    after: After::Lulls,
+    plan: PLAIN,
+    served: Served::End,
+    opened: None,
+    given: 0,
+    end: b"",
+};
+
+/// One that opens the first slot by a SETUP.
+const OPENED: Row = Row {
+    first: SETUP,
+    opened: Some((0, 1)),
+    ..REFUSED
+};
+
+const ROWS: &[Row] = &[
+    // The first frame is a CANCEL: the ERROR has 19 bytes after its length.
+    Row {
+        first: b"\x00\x00\x06\x00\x00\x00\x01\x24\x00",
+        served: Served::SetupRefused(SetupFault::NotFirst),
+        given: 22,
+        end: b"not-first",
+        ..REFUSED
+    },
+    // A RESUME of a token that no session has.
+    Row {
+        resume: true,
+        first: RESUME,
+        served: Served::ResumeRefused(Gone::Token),
+        given: 18,
+        end: b"token",
+        ..REFUSED
+    },
+    // A SETUP that asks for resumption, of a server without.
+    Row {
+        first: RESUMING_SETUP,
+        served: Served::SetupRefused(SetupFault::NoResume),
+        given: 22,
+        end: b"no-resume",
+        ..REFUSED
+    },
+    // A first frame of five bytes, which is none.
+    Row {
+        first: b"\x00\x00\x05\x00\x00\x00\x01\x24",
+        then: b"\x00",
+        served: Served::BadFirst(1),
+        given: 22,
+        end: b"bad-frame",
+        ..REFUSED
+    },
+    // No first frame for the lifetime.
+    Row {
+        plan: Plan {
+            later: 90_000,
+            ..PLAIN
+        },
+        served: Served::NoFirst(90_000),
+        ..REFUSED
+    },
+    // A SETUP that is cut off.
+    Row {
+        first: b"\x00\x00\x44\x00\x00",
+        after: After::Ends,
+        ..REFUSED
+    },
+    // A PAYLOAD too short for its row.
+    Row {
+        then: b"\x00\x00\x06\x00\x00\x00\x01\x04\x00",
+        served: Served::Over(Cause::Broken(Rule::BadFrame(3))),
+        given: 22,
+        end: b"bad-frame",
+        ..OPENED
+    },
+    // A frame of an unknown type that may be ignored, and one that may not.
+    Row {
+        then: b"\x00\x00\x06\x00\x00\x00\x01\x82\x00\x00\x00\x06\x00\x00\x00\x01\x80\x00",
+        served: Served::Over(Cause::Broken(Rule::UnknownType(32))),
+        given: 25,
+        end: b"unknown-type",
+        ..OPENED
+    },
+    // A request on a stream of the server's own ids.
+    Row {
+        then: b"\x00\x00\x06\x00\x00\x00\x02\x14\x00",
+        served: Served::Over(Cause::Broken(Rule::StreamId(2))),
+        given: 22,
+        end: b"stream-id",
+        ..OPENED
+    },
+    // A KEEPALIVE that tells a position above that of the frames made.
+    Row {
+        resume: true,
+        first: RESUMING_SETUP,
+        then: b"\x00\x00\x0e\x00\x00\x00\x00\x0c\x00\x00\x00\x00\x00\x00\x00\x00\x01",
+        served: Served::Over(Cause::Broken(Rule::Ahead(0))),
+        given: 18,
+        end: b"ahead",
+        ..OPENED
+    },
+    // The thread of the link answers a request.
+    Row {
+        then: ECHO,
+        after: After::Ends,
+        plan: Plan {
+            works: true,
+            ..PLAIN
+        },
+        given: 11,
+        end: ECHOED,
+        ..OPENED
+    },
+    // Requests are granted at once.
+    Row {
+        lease: true,
+        first: LEASING_SETUP,
+        after: After::Ends,
+        plan: Plan { grant: 5, ..PLAIN },
+        given: 17,
+        end: LEASE,
+        ..OPENED
+    },
+];
+
+fn play<R: Abort + Wait, T: Tape>(
+    rt: &R,
+    alloc: Global,
+    connections: &[Connection<T>],
+    callers: &mut [Caller<T>],
+    shared: &Shared,
+    row: &Row,
+)
+    requires of { AreOf shared.now.settings connections.now callers.old }
+    requires server { shared.now.settings.side ≡ Server }
+    requires three { length connections.now ≡ 3 }
+{
+    let mut bytes = Vec::from_slice(alloc, row.first).expect(rt, "there is memory");
+    assert!(rt; bytes.extend_from_slice(row.then).is_ok());
+    let mut link = link(rt, alloc, &bytes, row.after, 0);
+    assert!(rt; row.plan.slot < 3);
+    serve(
+        rt,
+        alloc,
+        connections,
+        callers,
+        shared,
+        row.plan,
+        &mut link,
+        row.served,
+        row.opened,
+    );
+    assert!(rt; link.given().len() == row.given);
+    assert!(rt; link.given().ends_with(row.end));
+}
+
+fn play_all<R: Abort + Wait, H: Shelf>(rt: &R, alloc: Global, shelf: &mut H)
+where
+    H::Tape: Drop,
+{
+    for row in ROWS {
+        let shared = make_shared(rt, alloc, row.resume, row.lease);
+        let (connections, mut callers) = slots(rt, alloc, shelf, row.resume, row.lease);
+        play(rt, alloc, &connections, &mut callers, &shared, row);
+    }
+}
+
+#[test]
+fn links_end_as_their_bytes_say(rt: HostRuntime) {
+    let alloc = rt.alloc();
+    play_all(&rt, alloc, &mut KeptShelf::new(alloc));
+    play_all(&rt, alloc, &mut BlankShelf::new(alloc));
+}

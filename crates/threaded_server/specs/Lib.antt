@@ -1,0 +1,4 @@
+pub mod Serving
+pub mod Carrying
+pub mod Begun
+pub mod Moves

@@ -1,0 +1,21 @@
+//! Trials of links over WebSocket, over streams in memory, and of the host's net over the loopback.
+//!
+//! They are in a crate of their own, so that what they try is not proved again for them. That one
+//! binary message is one frame, both ways, and that each call is counted as it answers is proved; the
+//! trials show what is on the wire, by values worked out by hand from RFC 6455, and that bytes come.
+#![tactic(auto)]
+
+#[cfg(test)]
+mod coming;
+#[cfg(test)]
+mod host;
+#[cfg(test)]
+mod pipe;
+#[cfg(test)]
+mod pumps;
+#[cfg(test)]
+mod sending;
+#[cfg(test)]
+mod two_ends;
+#[cfg(test)]
+mod wire;
