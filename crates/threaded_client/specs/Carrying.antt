@@ -2,6 +2,7 @@
 use Rattle.std.specs.Prelude.{◌≡◌, ◌<◌, ◌⊎◌, ℕ, true, List, [], Option, Some, None, IfSome}
 use Rattle.rs_wire.specs.declared.settings.Settings.{Settings}
 use Rattle.tape.specs.declared.entry.Entry.{Entry}
+use Rattle.tape.specs.declared.event.Event.{Event}
 use Rattle.session_model.specs.Frames.{came, first_bad}
 use Rattle.session_model.specs.Joined.{is_accepted}
 use Rattle.conn_shared.specs.Members.{Knowledge}
@@ -67,3 +68,7 @@ IsCarrying me lines p sent received = OthersAsk me → ClientCarries me.of.setti
 -- the pump is that of the connection of this number, and of a session with these settings
 abbrev pub IsSound : Settings → ℕ → Option Between → Type 0
 IsSound g conn p = IfSome p (λ b. (b.conn ≡ conn) × (b.max_in ≡ g.max_in))
+
+-- any event
+abbrev pub IsAny : Event → Type 0
+IsAny e = Unit {0}

@@ -5,9 +5,9 @@ ghost use Rattle.rtrb.specs.Ring.{SameConsumer, SameProducer, received, sent};
 ghost use Rattle.cable_script.specs.declared.line.Line.{Line};
 ghost use Rattle.ring.specs.declared.item.Item.TheVariants as item;
 ghost use Rattle.ring.specs.declared.item.Mark.TheVariants as mark;
-ghost use Rattle.pump.specs.Turns.{IsEmptied};
+ghost use Rattle.pump.specs.Turns.{GoesOn, IsEmptied};
 ghost use Rattle.carriers.specs.Moves.{mark_for};
-ghost use Rattle.threaded_client.specs.Carrying.{IsCarrying, IsSound};
+ghost use Rattle.threaded_client.specs.Carrying.{IsAny, IsCarrying, IsSound};
 
 use crate::carrier::ClientCarrier;
 use carriers::{heard_before, is_more, push_mark, send, skip, take};
@@ -41,6 +41,7 @@ impl<T: Tape> ClientCarrier<T> {
         ensures out { SameProducer self.old.out self.new.out }
         ensures from { SameConsumer self.old.from self.new.from }
         ensures sound { OnOk result (IsSound connection.now.settings self.new.conn self.new.pump) }
+        ensures goes { OnOk result (GoesOn IsAny self.old.caller self.new.caller.front) }
         ensures kept { OnOk result ((done : List Line) →
             IsCarrying self.old.caller done self.old.pump (sent self.old.out)
             (received self.old.from) → IsCarrying self.new.caller done self.new.pump
@@ -69,6 +70,7 @@ impl<T: Tape> ClientCarrier<T> {
         ensures out { SameProducer self.old.out self.new.out }
         ensures from { SameConsumer self.old.from self.new.from }
         ensures sound { OnOk result (IsSound connection.now.settings self.new.conn self.new.pump) }
+        ensures goes { OnOk result (GoesOn IsAny self.old.caller self.new.caller.front) }
         ensures kept { OnOk result ((done : List Line) →
             IsCarrying self.old.caller done self.old.pump (sent self.old.out)
             (received self.old.from) → IsCarrying self.new.caller done self.new.pump
@@ -102,6 +104,7 @@ impl<T: Tape> ClientCarrier<T> {
         ensures out { SameProducer self.old.out self.new.out }
         ensures from { SameConsumer self.old.from self.new.from }
         ensures sound { OnOk result (IsSound connection.now.settings self.new.conn self.new.pump) }
+        ensures goes { OnOk result (GoesOn IsAny self.old.caller self.new.caller.front) }
         ensures kept { OnOk result ((done : List Line) →
             IsCarrying self.old.caller done self.old.pump (sent self.old.out)
             (received self.old.from) → IsCarrying self.new.caller done self.new.pump
