@@ -24,11 +24,11 @@ on_ok {P} r is h = subst (λ (x : Result (Unit {0}) BeginFault). OnOk x P) is h
 
 -- ---- another link
 
-pub goes_as : (moments : Option (List ℕ)) (r : Option Called) (was x now : ClientSeen) (pump : Between) (looked : List Entry) → IfNone r (Changes moments x now pump) → x ≡ looking was looked → Follows was.caller.names was.caller.front looked → IfNone r (GoesElsewhere moments was now pump)
-goes_as moments None was x now pump looked changes at follows = record { looked = looked; follows = follows; changes = subst (λ (z : ClientSeen). Changes moments z now pump) at changes }
-goes_as moments (Some r) was x now pump looked changes at follows = tt
+pub goes_as : (moments : Option (List ℕ)) (r : Option Called) (was x now : ClientSeen) (pump : Between) (back back' : Option (List Shown)) (looked : List Entry) → IfNone r (Changes moments x now pump back back') → x ≡ looking was looked → Follows was.caller.names was.caller.front looked → IfNone r (GoesElsewhere moments was now pump back back')
+goes_as moments None was x now pump back back' looked changes at follows = record { looked = looked; follows = follows; changes = subst (λ (z : ClientSeen). Changes moments z now pump back back') at changes }
+goes_as moments (Some r) was x now pump back back' looked changes at follows = tt
 
-pub stops_as : (r : Option Called) (was x now : ClientSeen) (looked : List Entry) → IfSome r (λ c. (c ≡ called.OutOfMemory) ⊎ ((c ≡ called.Net) × IsParted x now)) → x ≡ looking was looked → Follows was.caller.names was.caller.front looked → IfSome r (StopsElsewhere was now)
-stops_as None was x now looked stops at follows = tt
-stops_as (Some r) was x now looked (inl is) at follows = subst (StopsElsewhere was now) (sym is) tt
-stops_as (Some r) was x now looked (inr parted) at follows = subst (StopsElsewhere was now) (sym parted.0) (inr (record { looked = looked; follows = follows; parted = subst (λ (z : ClientSeen). IsParted z now) at parted.1 }))
+pub stops_as : (r : Option Called) (was x now : ClientSeen) (back back' : Option (List Shown)) (looked : List Entry) → IfSome r (λ c. (c ≡ called.OutOfMemory) ⊎ ((c ≡ called.Net) × IsParted x now back back')) → x ≡ looking was looked → Follows was.caller.names was.caller.front looked → IfSome r (StopsElsewhere was now back back')
+stops_as None was x now back back' looked stops at follows = tt
+stops_as (Some r) was x now back back' looked (inl is) at follows = subst (StopsElsewhere was now back back') (sym is) tt
+stops_as (Some r) was x now back back' looked (inr parted) at follows = subst (StopsElsewhere was now back back') (sym parted.0) (inr (record { looked = looked; follows = follows; parted = subst (λ (z : ClientSeen). IsParted z now back back') at parted.1 }))

@@ -6,7 +6,7 @@ use Rattle.rs_wire.specs.declared.words.Kind.{Kind}
 use Rattle.rs_wire.specs.declared.words.Kind.TheVariants as kind
 use Rattle.rs_wire.specs.declared.fault.Cause.{Cause}
 use Rattle.rs_wire.specs.declared.settings.Settings.{Settings}
-use Rattle.outside.specs.Links.{Shown}
+use Rattle.outside.specs.Links.{Shown, and_then_one}
 use Rattle.tape.specs.Answers.{leaves}
 use Rattle.tape.specs.Told.{entry_of}
 use Rattle.tape.specs.declared.event.Event.{Event}
@@ -37,7 +37,7 @@ use Rattle.call_model.proofs.Ordering.{started_same}
 use Rattle.client.specs.Alone.{IsOwn}
 use Rattle.client.specs.Answered.{Cuts}
 use Rattle.client.specs.Calling.{EndsBy, GoesFrom, GoesOn, HasEndedBy, IsUnderWay, Owns, StepsTo, StopsFrom, is_finished}
-use Rattle.client.specs.Clients.{ClientSeen, PartsFrom, on, refused_for}
+use Rattle.client.specs.Clients.{ClientSeen, PartsFrom, on, refused_for, and_back}
 use Rattle.client.specs.Elsewhere.{FollowsSo, GoesElsewhere, LeavesSo}
 use Rattle.client.specs.Takes.{HasPrinted}
 use Rattle.client.specs.Turning.{HasStepped, IsReady}
@@ -138,10 +138,10 @@ pub record Went (w : Asking) (moments : Option (List ℕ)) (was : Knowledge) (no
   pub place : HasPlace was.front
   pub again : Reopened w moments was.of.settings was.front now first conn number links t next most stream fresh
 
-pub went : (w : Asking) (moments : Option (List ℕ)) (c1 c2 : ClientSeen) (pump : Between) (t : Shown) (first : ℕ) (links : List Shown) (stream : Option ℕ) (fresh most : ℕ) → IsSame c1.caller c2.caller → c1.link ≡ Some t → (x : GoesElsewhere moments c1 c2 pump) → IsOwn c2.caller
+pub went : (w : Asking) (moments : Option (List ℕ)) (c1 c2 : ClientSeen) (pump : Between) (back back' : Option (List Shown)) (t : Shown) (first : ℕ) (links : List Shown) (stream : Option ℕ) (fresh most : ℕ) → IsSame c1.caller c2.caller → c1.link ≡ Some t → (x : GoesElsewhere moments c1 c2 pump back back') → IsOwn c2.caller
     → IsOwn c1.caller × (0 < first → first + length links ≡ c1.conn → openings c1.caller.front ≡ c1.conn → Parts w moments c1.caller.of.settings c1.caller.front c1.caller.front first c1.conn links t stream fresh
     → Went w moments c1.caller c2.caller.front t first c1.conn c2.conn links x.changes.link most stream fresh)
-went w moments c1 c2 pump t first links stream fresh most same has x own = (
+went w moments c1 c2 pump back back' t first links stream fresh most same has x own = (
   l.0,
   λ some at last p. (
       let p0 = subst (λ (e : List Entry). Parts w moments g start e first c1.conn links t stream fresh) (sym l.1) p in
@@ -191,11 +191,11 @@ went w moments c1 c2 pump t first links stream fresh most same has x own = (
     l = own_follows c1.caller kl refl x.follows cut.0
 
 -- the call goes on over it
-goes_there : (w : Asking) (moments : Option (List ℕ)) (past : List Entry) (was : Knowledge) (new : List Entry) (t next : Shown) (first conn number most : ℕ) (shown : Option Shown) (k k1 k2 : Calling) (r : Turned) (out out' : List ℕ) (links : List Shown)
-    → IsUnderWay w moments first was.of.settings past conn shown k links → HasStepped w moments was.of.settings past was.front t conn k1.pump k1.stream k1.fresh k.full r false out out' → k1.request ≡ k.request → k1.full ≡ k.full → k2 ≡ record k1 { pump = k2.pump; tried = k2.tried }
+goes_there : (w : Asking) (moments : Option (List ℕ)) (past : List Entry) (was : Knowledge) (new : List Entry) (t next : Shown) (first conn number most : ℕ) (shown : Option Shown) (k k1 k2 : Calling) (r : Turned) (out out' : List ℕ) (links : List Shown) (back back' : Option (List Shown))
+    → back' ≡ and_then_one back t → IsUnderWay w moments first was.of.settings past conn shown k links → HasStepped w moments was.of.settings past was.front t conn k1.pump k1.stream k1.fresh k.full r false out out' → k1.request ≡ k.request → k1.full ≡ k.full → k2 ≡ record k1 { pump = k2.pump; tried = k2.tried }
     → k2.pump ≡ record { conn = number; left = []; rest = []; max_in = most; bad = false } → Went w moments was new t first conn number links next most k1.stream k1.fresh
-    → GoesFrom w moments first was.of.settings past new number (Some next) k2 links out out'
-goes_there w moments past was new t next first conn number most shown k k1 k2 r out out' links u h request full same pump v = by k.full refl h.served
+    → GoesFrom w moments first was.of.settings past new number (Some next) k2 links back back' out out'
+goes_there w moments past was new t next first conn number most shown k k1 k2 r out out' links back back' got u h request full same pump v = by k.full refl h.served
   where
     g : Settings
     g = was.of.settings
@@ -203,10 +203,11 @@ goes_there w moments past was new t next first conn number most shown k k1 k2 r 
     a : Reopened w moments g was.front new first conn number links t next most k1.stream k1.fresh
     a = v.again
 
-    by : (f : Bool) → k.full ≡ f → IsServed g was.front t conn k1.pump k.full → GoesFrom w moments first g past new number (Some next) k2 links out out'
+    by : (f : Bool) → k.full ≡ f → IsServed g was.front t conn k1.pump k.full → GoesFrom w moments first g past new number (Some next) k2 links back back' out out'
     by true is served = absurd (let no = served.place is in let place = v.place in omega (arith, no, place))
     by false is served = record {
       more = t ∷ [];
+      got = got;
       under_way = record {
         request = ap (λ (x : Calling). x.request) same ∙ (request ∙ u.request);
         link = next;
@@ -230,12 +231,13 @@ goes_there w moments past was new t next first conn number most shown k k1 k2 r 
     }
 
 -- or its link was put back, and no other is there
-goes_nowhere : (w : Asking) (moments : Option (List ℕ)) (lulls : ℕ) (past : List Entry) (was now : Knowledge) (t : Shown) (first conn : ℕ) (stream : Option ℕ) (fresh : ℕ) (out out' : List ℕ) (links : List Shown) (a : Answer) → 0 < first → conn ≡ first + length links → IsLawful was.of.settings now.front
+goes_nowhere : (w : Asking) (moments : Option (List ℕ)) (lulls : ℕ) (past : List Entry) (was now : Knowledge) (t : Shown) (first conn : ℕ) (stream : Option ℕ) (fresh : ℕ) (out out' : List ℕ) (links : List Shown) (back back' : Option (List Shown)) (a : Answer) → back' ≡ and_then_one back t → 0 < first → conn ≡ first + length links → IsLawful was.of.settings now.front
     → Adds was (event.Cut conn) a now.front → HasPrinted w.kind false past was.front out out' → (HasPlace was.front → HasNotEnded w.kind was.of.settings was.front t conn) → Parts w moments was.of.settings was.front now.front first conn links t stream fresh
-    → StopsFrom called.Net w moments lulls first was.of.settings past now.front links out out'
-goes_nowhere w moments lulls past was now t first conn stream fresh out out' links a some at lawful adds prints goes p = record {
+    → StopsFrom called.Net w moments lulls first was.of.settings past now.front None links back back' out out'
+goes_nowhere w moments lulls past was now t first conn stream fresh out out' links back back' a got some at lawful adds prints goes p = record {
   more = [];
   last = t;
+  got = inr (refl, got);
   number = conn;
   ended = subst (λ ls. HasEndedBy called.Net w moments lulls first conn g past now.front ls t out out') (sym (append-nil links)) (record {
     order = p.stands.order;
@@ -258,14 +260,18 @@ goes_nowhere w moments lulls past was now t first conn stream fresh out out' lin
 
 -- ---- by the result of the turn
 
-same_goes : (w : Asking) (moments : Option (List ℕ)) (first : ℕ) (g : Settings) (past : List Entry) (c1 c2 : ClientSeen) (k1 k2 : Calling) (links : List Shown) (out out' : List ℕ) → c2 ≡ c1 → k2 ≡ k1
-    → GoesFrom w moments first g past c1.caller.front c1.conn c1.link k1 links out out' → GoesFrom w moments first g past c2.caller.front c2.conn c2.link k2 links out out'
-same_goes w moments first g past c1 c2 k1 k2 links out out' a b h =
-    subst (λ (c : ClientSeen). GoesFrom w moments first g past c.caller.front c.conn c.link k2 links out out') (sym a)
-    (subst (λ (k : Calling). GoesFrom w moments first g past c1.caller.front c1.conn c1.link k links out out') (sym b) h)
+same_goes : (w : Asking) (moments : Option (List ℕ)) (first : ℕ) (g : Settings) (past : List Entry) (c1 c2 : ClientSeen) (k1 k2 : Calling) (links : List Shown) (back back' : Option (List Shown)) (out out' : List ℕ) → c2 ≡ c1 → k2 ≡ k1 → back' ≡ back
+    → GoesFrom w moments first g past c1.caller.front c1.conn c1.link k1 links back back out out' → GoesFrom w moments first g past c2.caller.front c2.conn c2.link k2 links back back' out out'
+same_goes w moments first g past c1 c2 k1 k2 links back back' out out' a b d h =
+    subst (λ (z : Option (List Shown)). GoesFrom w moments first g past c2.caller.front c2.conn c2.link k2 links back z out out') (sym d)
+    (subst (λ (c : ClientSeen). GoesFrom w moments first g past c.caller.front c.conn c.link k2 links back back out out') (sym a)
+    (subst (λ (k : Calling). GoesFrom w moments first g past c1.caller.front c1.conn c1.link k links back back out out') (sym b) h))
 
-same_stops : (r : Called) (w : Asking) (moments : Option (List ℕ)) (lulls first : ℕ) (g : Settings) (past a b : List Entry) (links : List Shown) (out out' : List ℕ) → b ≡ a → StopsFrom r w moments lulls first g past a links out out' → StopsFrom r w moments lulls first g past b links out out'
-same_stops r w moments lulls first g past a b links out out' same h = subst (λ (e : List Entry). StopsFrom r w moments lulls first g past e links out out') (sym same) h
+same_stops : (r : Called) (w : Asking) (moments : Option (List ℕ)) (lulls first : ℕ) (g : Settings) (past a b : List Entry) (p p' : Option Shown) (links : List Shown) (back back' : Option (List Shown)) (out out' : List ℕ) → b ≡ a → p' ≡ p → back' ≡ back → StopsFrom r w moments lulls first g past a p links back back out out' → StopsFrom r w moments lulls first g past b p' links back back' out out'
+same_stops r w moments lulls first g past a b p p' links back back' out out' same q d h =
+    subst (λ (z : Option (List Shown)). StopsFrom r w moments lulls first g past b p' links back z out out') (sym d)
+    (subst (λ (z : Option Shown). StopsFrom r w moments lulls first g past b z links back back out out') (sym q)
+    (subst (λ (e : List Entry). StopsFrom r w moments lulls first g past e p links back back out out') (sym same) h))
 
 -- what a step leaves to be followed
 pub record Left-over (w : Asking) (moments : Option (List ℕ)) (first : ℕ) (past : List Entry) (shown : Option Shown) (c1 : ClientSeen) (k k1 : Calling) (r : Turned) (links : List Shown) (out out' : List ℕ) : Type 0 where
@@ -277,10 +283,10 @@ pub record Left-over (w : Asking) (moments : Option (List ℕ)) (first : ℕ) (p
   pub full : k1.full ≡ k.full
   pub at : k1.pump.conn ≡ c1.conn
 
-module _ (w : Asking) (moments : Option (List ℕ)) (lulls first : ℕ) (past : List Entry) (shown : Option Shown) (c1 c2 : ClientSeen) (k k1 k2 : Calling) (links : List Shown) (out out' : List ℕ) where
+module _ (w : Asking) (moments : Option (List ℕ)) (lulls first : ℕ) (past : List Entry) (shown : Option Shown) (c1 c2 : ClientSeen) (k k1 k2 : Calling) (links : List Shown) (back back' : Option (List Shown)) (out out' : List ℕ) where
   -- what is shown of a result, after a turn with this one
   abbrev pub Follow : Turned → Option Called → Type 0
-  Follow r result = Owns result (IsOwn c1.caller × (Left-over w moments first past shown c1 k k1 r links out out' → StepsTo result w moments lulls first c1.caller.of.settings past c2.caller.front c2.conn c2.link k2 links out out'))
+  Follow r result = Owns result (IsOwn c1.caller × (Left-over w moments first past shown c1 k k1 r links out out' → StepsTo result w moments lulls first c1.caller.of.settings past c2.caller.front c2.conn c2.link k2 links back back' out out'))
 
   own_back : c2 ≡ c1 → IsOwn c2.caller → IsOwn c1.caller
   own_back same own = subst (λ (c : ClientSeen). IsOwn c.caller) same own
@@ -288,37 +294,37 @@ module _ (w : Asking) (moments : Option (List ℕ)) (lulls first : ℕ) (past : 
   front_back : c2 ≡ c1 → c2.caller.front ≡ c1.caller.front
   front_back same = ap (λ (c : ClientSeen). c.caller.front) same
 
-  goes_on_here : (r : Turned) (kn : Calling) → is_early r ≡ false → c2 ≡ c1 → k2 ≡ kn → kn.pump ≡ k1.pump → kn.stream ≡ k1.stream → kn.fresh ≡ k1.fresh → kn.request ≡ k1.request → kn.full ≡ k1.full → IsOwn c2.caller → Follow r None
-  goes_on_here r kn late same same_k pump stream fresh request full own = (
+  goes_on_here : (r : Turned) (kn : Calling) → is_early r ≡ false → c2 ≡ c1 → k2 ≡ kn → back' ≡ back → kn.pump ≡ k1.pump → kn.stream ≡ k1.stream → kn.fresh ≡ k1.fresh → kn.request ≡ k1.request → kn.full ≡ k1.full → IsOwn c2.caller → Follow r None
+  goes_on_here r kn late same same_k got pump stream fresh request full own = (
     own_back same own,
     λ l.
         let lawful = (own_back same own).lawful in
-        same_goes w moments first c1.caller.of.settings past c1 c2 kn k2 links out out' same same_k
-        (subst (λ (o : Option Shown). GoesFrom w moments first c1.caller.of.settings past c1.caller.front c1.conn o kn links out out') (sym l.has)
-        (goes_here w moments c1.caller.of.settings past c1.caller.front l.t first c1.conn shown k kn r out out' links lawful l.under_way
+        same_goes w moments first c1.caller.of.settings past c1 c2 kn k2 links back back' out out' same same_k got
+        (subst (λ (o : Option Shown). GoesFrom w moments first c1.caller.of.settings past c1.caller.front c1.conn o kn links back back out out') (sym l.has)
+        (goes_here w moments c1.caller.of.settings past c1.caller.front l.t first c1.conn shown k kn r out out' links back lawful l.under_way
         (subst (λ (b : Between). HasStepped w moments c1.caller.of.settings past c1.caller.front l.t c1.conn b kn.stream kn.fresh k.full r false out out') (sym pump)
         (subst (λ (o : Option ℕ). HasStepped w moments c1.caller.of.settings past c1.caller.front l.t c1.conn k1.pump o kn.fresh k.full r false out out') (sym stream)
         (subst (λ f. HasStepped w moments c1.caller.of.settings past c1.caller.front l.t c1.conn k1.pump k1.stream f k.full r false out out') (sym fresh) l.stepped)))
         (request ∙ l.request) (ap (λ (b : Between). b.conn) pump ∙ l.at) (full ∙ l.full) late)),
   )
 
-  stops_on_here : (r : Turned) (r' : Called) → c2 ≡ c1 → IsOwn c2.caller → is_finished r' ≡ false → ((l : Left-over w moments first past shown c1 k k1 r links out out') → EndsBy r' w.kind lulls c1.caller.of.settings c1.caller.front l.t c1.conn)
-      → IsOwn c1.caller × (Left-over w moments first past shown c1 k k1 r links out out' → StopsFrom r' w moments lulls first c1.caller.of.settings past c2.caller.front links out out')
-  stops_on_here r r' same own off why = (
+  stops_on_here : (r : Turned) (r' : Called) → c2 ≡ c1 → back' ≡ back → IsOwn c2.caller → is_finished r' ≡ false → ((l : Left-over w moments first past shown c1 k k1 r links out out') → EndsBy r' w.kind lulls c1.caller.of.settings c1.caller.front l.t c1.conn)
+      → IsOwn c1.caller × (Left-over w moments first past shown c1 k k1 r links out out' → StopsFrom r' w moments lulls first c1.caller.of.settings past c2.caller.front c2.link links back back' out out')
+  stops_on_here r r' same got own off why = (
     own_back same own,
     λ l.
-        same_stops r' w moments lulls first c1.caller.of.settings past c1.caller.front c2.caller.front links out out' (front_back same)
-        (stops_here r' w moments lulls c1.caller.of.settings past c1.caller.front l.t first c1.conn shown k k1.pump k1.stream k1.fresh r false out out' links (own_back same own).lawful l.under_way l.stepped (sym off) (why l)),
+        same_stops r' w moments lulls first c1.caller.of.settings past c1.caller.front c2.caller.front (Some l.t) c2.link links back back' out out' (front_back same) (ap (λ (c : ClientSeen). c.link) same ∙ l.has) got
+        (stops_here r' w moments lulls c1.caller.of.settings past c1.caller.front l.t first c1.conn shown k k1.pump k1.stream k1.fresh r false out out' links back (own_back same own).lawful l.under_way l.stepped (sym off) (why l)),
   )
 
   goes_still : (r : Turned) → (l : Left-over w moments first past shown c1 k k1 r links out out') → GoesOn w.kind c1.caller.of.settings c1.caller.front l.t c1.conn
   goes_still r l = still_goes w moments c1.caller.of.settings past c1.caller.front l.t c1.conn k1.pump k1.stream k1.fresh k.full r out out' l.stepped
 
   -- by the cause of a closed session
-  refused : (r : Turned) (why : Cause) (result : Option Called) → result ≡ Some (refused_for why) → c2 ≡ c1 → IsOwn c2.caller → ((l : Left-over w moments first past shown c1 k k1 r links out out') → closed c1.caller.of.settings c1.caller.front ≡ Some why) → Follow r result
-  refused r why result is same own shut = elim (closed_for why (refused_for why) refl) [
+  refused : (r : Turned) (why : Cause) (result : Option Called) → result ≡ Some (refused_for why) → c2 ≡ c1 → back' ≡ back → IsOwn c2.caller → ((l : Left-over w moments first past shown c1 k k1 r links out out') → closed c1.caller.of.settings c1.caller.front ≡ Some why) → Follow r result
+  refused r why result is same got own shut = elim (closed_for why (refused_for why) refl) [
     | inl none ↦ subst (Follow r) (sym (is ∙ ap Some none)) tt
-    | inr some ↦ subst (Follow r) (sym (is ∙ ap Some some.0)) (stops_on_here r (called.Refused why) same own refl (λ l. (shut l, some.1, goes_still r l)))
+    | inr some ↦ subst (Follow r) (sym (is ∙ ap Some some.0)) (stops_on_here r (called.Refused why) same got own refl (λ l. (shut l, some.1, goes_still r l)))
   ]
 
   -- ---- another link
@@ -327,28 +333,28 @@ module _ (w : Asking) (moments : Option (List ℕ)) (lulls first : ℕ) (past : 
       → IsLawful c1.caller.of.settings c1.caller.front → (l : Left-over w moments first past shown c1 k k1 r links out out') → Parts w moments c1.caller.of.settings c1.caller.front c1.caller.front first c1.conn links l.t k1.stream k1.fresh
   left-of r left lawful l = parts_of w moments c1.caller.of.settings past c1.caller.front l.under_way.link l.t first c1.conn k.pump k1.pump k1.stream k1.fresh k.full r out out' links l.under_way.some l.under_way.number lawful l.under_way.ready.served l.under_way.carried l.under_way.left l.stepped (left l)
 
-  leaves_so : (r : Turned) (result : Option Called) → IsSame c1.caller c2.caller → ((l : Left-over w moments first past shown c1 k k1 r links out out') → HasPlace c1.caller.front → Left c1.caller.of.settings c1.caller.front l.t c1.conn) → LeavesSo moments c1 c2 k1 k2 result → IsSome c1.link → IsOwn c2.caller → Follow r result
+  leaves_so : (r : Turned) (result : Option Called) → IsSame c1.caller c2.caller → ((l : Left-over w moments first past shown c1 k k1 r links out out') → HasPlace c1.caller.front → Left c1.caller.of.settings c1.caller.front l.t c1.conn) → LeavesSo moments c1 c2 k1 k2 back back' result → IsSome c1.link → IsOwn c2.caller → Follow r result
   leaves_so r None same left x linked own = there c1.link refl linked
     where
       there : (o : Option Shown) → c1.link ≡ o → IsSome o → Follow r None
       there None is some = absurd (true≢false (sym some))
       there (Some t) is some =
-          let v = went w moments c1 c2 k2.pump t first links k1.stream k1.fresh c1.of.settings.max_in same is x.0 own in (
+          let v = went w moments c1 c2 k2.pump back back' t first links k1.stream k1.fresh c1.of.settings.max_in same is x.0 own in (
             v.0,
             λ l.
                 let same_t : l.t ≡ t = (let e : Some l.t ≡ Some t = sym l.has ∙ is in cc) in
                 let p = subst (λ (z : Shown). Parts w moments c1.caller.of.settings c1.caller.front c1.caller.front first c1.conn links z k1.stream k1.fresh) same_t (left-of r left v.0.lawful l) in
                 let y = v.1 l.under_way.some (sym l.under_way.number) l.stepped.served.joined.last p in
-                subst (λ (o : Option Shown). GoesFrom w moments first c1.caller.of.settings past c2.caller.front c2.conn o k2 links out out') (sym x.0.changes.has)
-                (goes_there w moments past c1.caller c2.caller.front t x.0.changes.link first c1.conn c2.conn c1.of.settings.max_in shown k k1 k2 r out out' links l.under_way
+                subst (λ (o : Option Shown). GoesFrom w moments first c1.caller.of.settings past c2.caller.front c2.conn o k2 links back back' out out') (sym x.0.changes.has)
+                (goes_there w moments past c1.caller c2.caller.front t x.0.changes.link first c1.conn c2.conn c1.of.settings.max_in shown k k1 k2 r out out' links back back' (subst (λ (o : Option Shown). back' ≡ and_back o back) is x.0.changes.got) l.under_way
                 (subst (λ (z : Shown). HasStepped w moments c1.caller.of.settings past c1.caller.front z c1.conn k1.pump k1.stream k1.fresh k.full r false out out') same_t l.stepped) l.request l.full x.1 x.0.changes.pump_is y),
           )
   leaves_so r (Some (called.Refused why)) same left x linked own =
       let o = own_follows c1.caller c2.caller same x.0.follows own in (
         o.0,
         λ l.
-            same_stops (called.Refused why) w moments lulls first c1.caller.of.settings past c1.caller.front c2.caller.front links out out' o.1
-            (stops_here (called.Refused why) w moments lulls c1.caller.of.settings past c1.caller.front l.t first c1.conn shown k k1.pump k1.stream k1.fresh r false out out' links o.0.lawful l.under_way l.stepped refl (
+            same_stops (called.Refused why) w moments lulls first c1.caller.of.settings past c1.caller.front c2.caller.front (Some l.t) c2.link links back back' out out' o.1 (x.0.link ∙ l.has) x.0.same
+            (stops_here (called.Refused why) w moments lulls c1.caller.of.settings past c1.caller.front l.t first c1.conn shown k k1.pump k1.stream k1.fresh r false out out' links back o.0.lawful l.under_way l.stepped refl (
               shut o.1 x.1,
               (elim (closed_for why (called.Refused why) (sym x.2)) [
                 | inl none ↦ absurd (let no : called.Refused why ≡ called.OutOfMemory = none in cc)
@@ -364,8 +370,8 @@ module _ (w : Asking) (moments : Option (List ℕ)) (lulls first : ℕ) (past : 
       let o = own_follows c1.caller c2.caller same stays.follows own in (
         o.0,
         λ l.
-            same_stops called.Net w moments lulls first c1.caller.of.settings past c1.caller.front c2.caller.front links out out' o.1
-            (stops_here called.Net w moments lulls c1.caller.of.settings past c1.caller.front l.t first c1.conn shown k k1.pump k1.stream k1.fresh r false out out' links o.0.lawful l.under_way l.stepped refl (left l, goes_still r l)),
+            same_stops called.Net w moments lulls first c1.caller.of.settings past c1.caller.front c2.caller.front (Some l.t) c2.link links back back' out out' o.1 (stays.link ∙ l.has) stays.same
+            (stops_here called.Net w moments lulls c1.caller.of.settings past c1.caller.front l.t first c1.conn shown k k1.pump k1.stream k1.fresh r false out out' links back o.0.lawful l.under_way l.stepped refl (left l, goes_still r l)),
       )
   leaves_so r (Some called.Net) same left (inr parted) linked own = there c1.link refl linked
     where
@@ -384,8 +390,9 @@ module _ (w : Asking) (moments : Option (List ℕ)) (lulls first : ℕ) (past : 
                 let p = subst (λ (z : Shown). Parts w moments c1.caller.of.settings c1.caller.front c1.caller.front first c1.conn links z k1.stream k1.fresh) same_t (left-of r left o.0.lawful l) in
                 let p1 = c.2 l.under_way.some (sym l.under_way.number) (subst (λ (e : List Entry). Parts w moments c1.caller.of.settings c1.caller.front e first c1.conn links t k1.stream k1.fresh) (sym o.1) p) in
                 let goes : HasPlace kl.front → HasNotEnded w.kind c1.caller.of.settings kl.front t c1.conn = λ place. subst (λ (e : List Entry). HasNotEnded w.kind c1.caller.of.settings e t c1.conn) (sym o.1) (subst (λ (z : Shown). HasNotEnded w.kind c1.caller.of.settings c1.caller.front z c1.conn) same_t (goes_still r l (subst HasPlace o.1 place))) in
-                goes_nowhere w moments lulls past kl c2.caller t first c1.conn k1.stream k1.fresh out out' links c.1.0 l.under_way.some l.under_way.number (own_lawful kl c2.caller same own) c.1.1
-                (subst (λ (e : List Entry). HasPrinted w.kind false past e out out') (sym o.1) l.stepped.prints) goes (subst (λ (e : List Entry). Parts w moments c1.caller.of.settings e c2.caller.front first c1.conn links t k1.stream k1.fresh) (sym o.1) p1),
+                subst (λ (o : Option Shown). StopsFrom called.Net w moments lulls first c1.caller.of.settings past c2.caller.front o links back back' out out') (sym parted.parted.link)
+                (goes_nowhere w moments lulls past kl c2.caller t first c1.conn k1.stream k1.fresh out out' links back back' c.1.0 (subst (λ (o : Option Shown). back' ≡ and_back o back) is parted.parted.got) l.under_way.some l.under_way.number (own_lawful kl c2.caller same own) c.1.1
+                (subst (λ (e : List Entry). HasPrinted w.kind false past e out out') (sym o.1) l.stepped.prints) goes (subst (λ (e : List Entry). Parts w moments c1.caller.of.settings e c2.caller.front first c1.conn links t k1.stream k1.fresh) (sym o.1) p1)),
           )
   leaves_so r (Some called.OutOfMemory) same left x linked own = tt
   leaves_so r (Some called.Finished) same left x linked own = absurd x
@@ -394,12 +401,12 @@ module _ (w : Asking) (moments : Option (List ℕ)) (lulls first : ℕ) (past : 
 
   -- ---- by the result of the turn
 
-  pub followed : (r : Turned) (result : Option Called) → IsSame c1.caller c2.caller → FollowsSo r moments lulls c1 c2 k1 k2 result → IsSome c1.link → IsOwn c2.caller → Follow r result
-  followed (turned.Moved given taken) result same f linked own = subst (Follow (turned.Moved given taken)) (sym f.0) (goes_on_here (turned.Moved given taken) k1 refl f.1 f.2 refl refl refl refl refl own)
-  followed (turned.Busy q) result same f linked own = subst (Follow (turned.Busy q)) (sym f.0) (goes_on_here (turned.Busy q) k1 refl f.1 f.2 refl refl refl refl refl own)
+  pub followed : (r : Turned) (result : Option Called) → IsSame c1.caller c2.caller → FollowsSo r moments lulls c1 c2 k1 k2 back back' result → IsSome c1.link → IsOwn c2.caller → Follow r result
+  followed (turned.Moved given taken) result same f linked own = subst (Follow (turned.Moved given taken)) (sym f.0) (goes_on_here (turned.Moved given taken) k1 refl f.1 f.2 f.3 refl refl refl refl refl own)
+  followed (turned.Busy q) result same f linked own = subst (Follow (turned.Busy q)) (sym f.0) (goes_on_here (turned.Busy q) k1 refl f.1 f.2 f.3 refl refl refl refl refl own)
   followed turned.Lull result same f linked own = elim f.0 [
-    | inl none ↦ subst (Follow turned.Lull) (sym none) (goes_on_here turned.Lull (record k1 { met = k2.met }) refl f.1 f.2 refl refl refl refl refl own)
-    | inr idle ↦ subst (Follow turned.Lull) (sym idle) (stops_on_here turned.Lull (called.Idle lulls) f.1 own refl (λ l. (
+    | inl none ↦ subst (Follow turned.Lull) (sym none) (goes_on_here turned.Lull (record k1 { met = k2.met }) refl f.1 f.2 f.3 refl refl refl refl refl own)
+    | inr idle ↦ subst (Follow turned.Lull) (sym idle) (stops_on_here turned.Lull (called.Idle lulls) f.1 f.3 own refl (λ l. (
       refl,
       (λ place. (let s = l.stepped.says refl place in (s.0, s.1, (l.stepped.ends.1 place).1))),
       goes_still turned.Lull l,
@@ -407,14 +414,14 @@ module _ (w : Asking) (moments : Option (List ℕ)) (lulls first : ℕ) (past : 
   ]
   followed turned.End result same f linked own = leaves_so turned.End result same (λ l. (l.stepped.says refl).1) f linked own
   followed turned.LinkFault result same f linked own = leaves_so turned.LinkFault result same (λ l. (l.stepped.says refl).1) f linked own
-  followed (turned.Over why) result same f linked own = refused (turned.Over why) why result f.0 f.1 own (λ l. l.stepped.says refl)
-  followed (turned.Dead last) result same f linked own = subst (Follow (turned.Dead last)) (sym f.0) (stops_on_here (turned.Dead last) (called.Dead last) f.1 own refl (λ l. (l.stepped.says refl, goes_still (turned.Dead last) l)))
+  followed (turned.Over why) result same f linked own = refused (turned.Over why) why result f.0 f.1 f.2 own (λ l. l.stepped.says refl)
+  followed (turned.Dead last) result same f linked own = subst (Follow (turned.Dead last)) (sym f.0) (stops_on_here (turned.Dead last) (called.Dead last) f.1 f.2 own refl (λ l. (l.stepped.says refl, goes_still (turned.Dead last) l)))
   followed turned.TapeFull result same f linked own = subst (Follow turned.TapeFull) (sym f.0) (
     own_back f.1 own,
     λ l.
-        same_goes w moments first c1.caller.of.settings past c1 c2 (record k1 { full = true }) k2 links out out' f.1 f.2
-        (subst (λ (o : Option Shown). GoesFrom w moments first c1.caller.of.settings past c1.caller.front c1.conn o (record k1 { full = true }) links out out') (sym l.has)
-        (full_here w moments c1.caller.of.settings past c1.caller.front l.t first c1.conn shown k (record k1 { full = true }) out out' links (own_back f.1 own).lawful l.under_way l.stepped l.request l.at refl)),
+        same_goes w moments first c1.caller.of.settings past c1 c2 (record k1 { full = true }) k2 links back back' out out' f.1 f.2 f.3
+        (subst (λ (o : Option Shown). GoesFrom w moments first c1.caller.of.settings past c1.caller.front c1.conn o (record k1 { full = true }) links back back out out') (sym l.has)
+        (full_here w moments c1.caller.of.settings past c1.caller.front l.t first c1.conn shown k (record k1 { full = true }) out out' links back (own_back f.1 own).lawful l.under_way l.stepped l.request l.at refl)),
   )
   followed (turned.Displaced n) result same f linked own = subst (Follow (turned.Displaced n)) (sym f.0) tt
   followed turned.OutOfMemory result same f linked own = subst (Follow turned.OutOfMemory) (sym f.0) tt
@@ -425,10 +432,10 @@ same_link : (o : Option Shown) (s t : Shown) → o ≡ Some s → o ≡ Some t �
 same_link o s t a b = (let e : Some s ≡ Some t = sym a ∙ b in cc)
 
 -- a step that did not end the call, and what follows from it
-pub go_by : (w : Asking) (moments : Option (List ℕ)) (lulls : ℕ) (c c1 c2 : ClientSeen) (k k1 k2 : Calling) (r : Turned) (e : Bool) (result : Option Called) (out out' : List ℕ) (s : Shown) → e ≡ false → c1.caller.of.settings ≡ c.caller.of.settings → c1.conn ≡ c.conn → k1.request ≡ k.request → k1.full ≡ k.full → k1.pump.conn ≡ c1.conn → IsSome c1.link → c.link ≡ Some s → IsSame c1.caller c2.caller → FollowsSo r moments lulls c1 c2 k1 k2 result
+pub go_by : (w : Asking) (moments : Option (List ℕ)) (lulls : ℕ) (c c1 c2 : ClientSeen) (k k1 k2 : Calling) (r : Turned) (e : Bool) (result : Option Called) (back back' : Option (List Shown)) (out out' : List ℕ) (s : Shown) → e ≡ false → c1.caller.of.settings ≡ c.caller.of.settings → c1.conn ≡ c.conn → k1.request ≡ k.request → k1.full ≡ k.full → k1.pump.conn ≡ c1.conn → IsSome c1.link → c.link ≡ Some s → IsSame c1.caller c2.caller → FollowsSo r moments lulls c1 c2 k1 k2 back back' result
     → (IsOwn c1.caller → IsOwn c.caller × (IsReady w moments c.caller.of.settings c.caller.front s c.conn k.pump k.stream k.fresh k.full → (t : Shown) × (c1.link ≡ Some t) × HasStepped w moments c.caller.of.settings c.caller.front c1.caller.front t c.conn k1.pump k1.stream k1.fresh k.full r e out out'))
-    → IsOwn c2.caller → Owns result (IsOwn c.caller × ((first : ℕ) (links : List Shown) → IsUnderWay w moments first c.caller.of.settings c.caller.front c.conn c.link k links → StepsTo result w moments lulls first c.caller.of.settings c.caller.front c2.caller.front c2.conn c2.link k2 links out out'))
-go_by w moments lulls c c1 c2 k k1 k2 r e result out out' s goes st cn request full at linked link same follows stepped own = by result refl
+    → IsOwn c2.caller → Owns result (IsOwn c.caller × ((first : ℕ) (links : List Shown) → IsUnderWay w moments first c.caller.of.settings c.caller.front c.conn c.link k links → StepsTo result w moments lulls first c.caller.of.settings c.caller.front c2.caller.front c2.conn c2.link k2 links back back' out out'))
+go_by w moments lulls c c1 c2 k k1 k2 r e result back back' out out' s goes st cn request full at linked link same follows stepped own = by result refl
   where
     g : Settings
     g = c.caller.of.settings
@@ -436,9 +443,9 @@ go_by w moments lulls c c1 c2 k k1 k2 r e result out out' s goes st cn request f
     past : List Entry
     past = c.caller.front
 
-    by : (res : Option Called) → result ≡ res → Owns result (IsOwn c.caller × ((first : ℕ) (links : List Shown) → IsUnderWay w moments first g past c.conn c.link k links → StepsTo result w moments lulls first g past c2.caller.front c2.conn c2.link k2 links out out'))
-    by (Some called.OutOfMemory) is = subst (λ x. Owns x (IsOwn c.caller × ((first : ℕ) (links : List Shown) → IsUnderWay w moments first g past c.conn c.link k links → StepsTo x w moments lulls first g past c2.caller.front c2.conn c2.link k2 links out out'))) (sym is) tt
-    by _ is = owns_with result (λ first links. followed w moments lulls first past c.link c1 c2 k k1 k2 links out out' r result same follows linked own)
+    by : (res : Option Called) → result ≡ res → Owns result (IsOwn c.caller × ((first : ℕ) (links : List Shown) → IsUnderWay w moments first g past c.conn c.link k links → StepsTo result w moments lulls first g past c2.caller.front c2.conn c2.link k2 links back back' out out'))
+    by (Some called.OutOfMemory) is = subst (λ x. Owns x (IsOwn c.caller × ((first : ℕ) (links : List Shown) → IsUnderWay w moments first g past c.conn c.link k links → StepsTo x w moments lulls first g past c2.caller.front c2.conn c2.link k2 links back back' out out'))) (sym is) tt
+    by _ is = owns_with result (λ first links. followed w moments lulls first past c.link c1 c2 k k1 k2 links back back' out out' r result same follows linked own)
       where
         left_over : IsOwn c1.caller → (first : ℕ) (links : List Shown) → IsUnderWay w moments first g past c.conn c.link k links → Left-over w moments first past c.link c1 k k1 r links out out'
         left_over own1 first links u =
@@ -454,33 +461,34 @@ go_by w moments lulls c c1 c2 k k1 k2 r e result out out' s goes st cn request f
               at = at;
             }
 
-        back : IsOwn c1.caller → (res : Option Called) → ((first : ℕ) (links : List Shown) → Left-over w moments first past c.link c1 k k1 r links out out' → StepsTo res w moments lulls first c1.caller.of.settings past c2.caller.front c2.conn c2.link k2 links out out')
-            → IsOwn c.caller × ((first : ℕ) (links : List Shown) → IsUnderWay w moments first g past c.conn c.link k links → StepsTo res w moments lulls first g past c2.caller.front c2.conn c2.link k2 links out out')
-        back own1 res f = ((stepped own1).0, λ first links u. subst (λ (z : Settings). StepsTo res w moments lulls first z past c2.caller.front c2.conn c2.link k2 links out out') st (f first links (left_over own1 first links u)))
+        joins : IsOwn c1.caller → (res : Option Called) → ((first : ℕ) (links : List Shown) → Left-over w moments first past c.link c1 k k1 r links out out' → StepsTo res w moments lulls first c1.caller.of.settings past c2.caller.front c2.conn c2.link k2 links back back' out out')
+            → IsOwn c.caller × ((first : ℕ) (links : List Shown) → IsUnderWay w moments first g past c.conn c.link k links → StepsTo res w moments lulls first g past c2.caller.front c2.conn c2.link k2 links back back' out out')
+        joins own1 res f = ((stepped own1).0, λ first links u. subst (λ (z : Settings). StepsTo res w moments lulls first z past c2.caller.front c2.conn c2.link k2 links back back' out out') st (f first links (left_over own1 first links u)))
 
-        owns_with : (res : Option Called) → ((first : ℕ) (links : List Shown) → Owns res (IsOwn c1.caller × (Left-over w moments first past c.link c1 k k1 r links out out' → StepsTo res w moments lulls first c1.caller.of.settings past c2.caller.front c2.conn c2.link k2 links out out')))
-            → Owns res (IsOwn c.caller × ((first : ℕ) (links : List Shown) → IsUnderWay w moments first g past c.conn c.link k links → StepsTo res w moments lulls first g past c2.caller.front c2.conn c2.link k2 links out out'))
-        owns_with None f = back (f 0 []).0 None (λ first links. (f first links).1)
+        owns_with : (res : Option Called) → ((first : ℕ) (links : List Shown) → Owns res (IsOwn c1.caller × (Left-over w moments first past c.link c1 k k1 r links out out' → StepsTo res w moments lulls first c1.caller.of.settings past c2.caller.front c2.conn c2.link k2 links back back' out out')))
+            → Owns res (IsOwn c.caller × ((first : ℕ) (links : List Shown) → IsUnderWay w moments first g past c.conn c.link k links → StepsTo res w moments lulls first g past c2.caller.front c2.conn c2.link k2 links back back' out out'))
+        owns_with None f = joins (f 0 []).0 None (λ first links. (f first links).1)
         owns_with (Some called.OutOfMemory) f = tt
-        owns_with (Some called.Finished) f = back (f 0 []).0 (Some called.Finished) (λ first links. (f first links).1)
-        owns_with (Some called.Net) f = back (f 0 []).0 (Some called.Net) (λ first links. (f first links).1)
-        owns_with (Some (called.Dead last)) f = back (f 0 []).0 (Some (called.Dead last)) (λ first links. (f first links).1)
-        owns_with (Some (called.Idle n)) f = back (f 0 []).0 (Some (called.Idle n)) (λ first links. (f first links).1)
-        owns_with (Some (called.Refused why)) f = back (f 0 []).0 (Some (called.Refused why)) (λ first links. (f first links).1)
+        owns_with (Some called.Finished) f = joins (f 0 []).0 (Some called.Finished) (λ first links. (f first links).1)
+        owns_with (Some called.Net) f = joins (f 0 []).0 (Some called.Net) (λ first links. (f first links).1)
+        owns_with (Some (called.Dead last)) f = joins (f 0 []).0 (Some (called.Dead last)) (λ first links. (f first links).1)
+        owns_with (Some (called.Idle n)) f = joins (f 0 []).0 (Some (called.Idle n)) (λ first links. (f first links).1)
+        owns_with (Some (called.Refused why)) f = joins (f 0 []).0 (Some (called.Refused why)) (λ first links. (f first links).1)
 
 pub some_of : (o : Option Shown) → IsSome o → (s : Shown) × (o ≡ Some s)
 some_of None is = absurd (true≢false (sym is))
 some_of (Some s) is = (s, refl)
 
 -- a step that ended it
-pub finish_by : (w : Asking) (moments : Option (List ℕ)) (lulls : ℕ) (c c1 : ClientSeen) (k k1 : Calling) (r : Turned) (e : Bool) (out out' : List ℕ) (s : Shown) → IsSame c.caller c1.caller → c.link ≡ Some s → e ≡ true
+pub finish_by : (w : Asking) (moments : Option (List ℕ)) (lulls : ℕ) (c c1 : ClientSeen) (k k1 : Calling) (r : Turned) (e : Bool) (back : Option (List Shown)) (out out' : List ℕ) (s : Shown) → IsSame c.caller c1.caller → c.link ≡ Some s → e ≡ true
     → (IsOwn c1.caller → IsOwn c.caller × (IsReady w moments c.caller.of.settings c.caller.front s c.conn k.pump k.stream k.fresh k.full → (t : Shown) × (c1.link ≡ Some t) × HasStepped w moments c.caller.of.settings c.caller.front c1.caller.front t c.conn k1.pump k1.stream k1.fresh k.full r e out out'))
-    → IsOwn c1.caller → IsOwn c.caller × ((first : ℕ) (links : List Shown) → IsUnderWay w moments first c.caller.of.settings c.caller.front c.conn c.link k links → StopsFrom called.Finished w moments lulls first c.caller.of.settings c.caller.front c1.caller.front links out out')
-finish_by w moments lulls c c1 k k1 r e out out' s same link is stepped own =
+    → IsOwn c1.caller → IsOwn c.caller × ((first : ℕ) (links : List Shown) → IsUnderWay w moments first c.caller.of.settings c.caller.front c.conn c.link k links → StopsFrom called.Finished w moments lulls first c.caller.of.settings c.caller.front c1.caller.front c1.link links back back out out')
+finish_by w moments lulls c c1 k k1 r e back out out' s same link is stepped own =
     let st = stepped own in (
       st.0,
       λ first links u.
           let one : u.link ≡ s = same_link c.link u.link s u.has link in
           let v = st.1 (subst (λ (z : Shown). IsReady w moments c.caller.of.settings c.caller.front z c.conn k.pump k.stream k.fresh k.full) one u.ready) in
-          finished_here w moments lulls c.caller.of.settings c.caller.front c1.caller.front v.0 first c.conn c.link k k1.pump k1.stream k1.fresh r out out' links (own_lawful c.caller c1.caller same own) u (subst (λ b. HasStepped w moments c.caller.of.settings c.caller.front c1.caller.front v.0 c.conn k1.pump k1.stream k1.fresh k.full r b out out') is v.2),
+          subst (λ (o : Option Shown). StopsFrom called.Finished w moments lulls first c.caller.of.settings c.caller.front c1.caller.front o links back back out out') (sym v.1)
+          (finished_here w moments lulls c.caller.of.settings c.caller.front c1.caller.front v.0 first c.conn c.link k k1.pump k1.stream k1.fresh r out out' links back (own_lawful c.caller c1.caller same own) u (subst (λ b. HasStepped w moments c.caller.of.settings c.caller.front c1.caller.front v.0 c.conn k1.pump k1.stream k1.fresh k.full r b out out') is v.2)),
     )

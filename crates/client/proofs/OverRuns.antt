@@ -1,6 +1,6 @@
 -- A step of a call and what follows from it, where its caller is alone.
 use Rattle.std.proofs.lemmas.List.{length-append}
-use Rattle.std.proofs.Common.{◌≡◌, ◌<◌, ◌≤◌, ◌+◌, ◌^◌, ◌⊎◌, inl, inr, ◌∙◌, ℕ, Bool, true, false, true≢false, List, [], ◌∷◌, ◌++◌, length, Option, Some, IsSome, append-nil, refl, sym, ap, subst, arith}
+use Rattle.std.proofs.Common.{◌≡◌, ◌<◌, ◌≤◌, ◌+◌, ◌^◌, ◌⊎◌, inl, inr, ◌∙◌, ℕ, Bool, true, false, true≢false, List, [], ◌∷◌, ◌++◌, length, Option, Some, IsSome, append-nil, refl, sym, ap, subst, arith, None}
 use Rattle.rs_wire.specs.declared.fault.Cause.{Cause}
 use Rattle.rs_wire.specs.declared.fault.Cause.TheVariants as cause
 use Rattle.rs_wire.specs.declared.settings.Settings.{Settings}
@@ -12,7 +12,7 @@ use Rattle.link_model.proofs.Fresh.{is_carried}
 use Rattle.pump.specs.declared.turned.Turned.{Turned}
 use Rattle.pump.specs.declared.turned.Turned.TheVariants as turned
 use Rattle.pump.specs.Turns.{is_early}
-use Rattle.call_model.specs.Leaving.{AreCarried, AreLeft}
+use Rattle.call_model.specs.Leaving.{AreCarried, AreLeft, GotBack}
 use Rattle.call_model.specs.Order.{Asking}
 use Rattle.call_model.specs.Present.{IsServed}
 use Rattle.call_model.specs.Ran.{HasPlace, cause_line}
@@ -53,12 +53,17 @@ stepped_left w moments g past new s t first c b d stream fresh full r ended out 
 
 -- ---- the call goes on here
 
+pub got_none : (back : Option (List Shown)) → GotBack [] back back
+got_none None = refl
+got_none (Some links) = ap Some (sym (append-nil links))
+
 -- over the same link, with this call
-pub goes_here : (w : Asking) (moments : Option (List ℕ)) (g : Settings) (past new : List Entry) (t : Shown) (first conn : ℕ) (shown : Option Shown) (k k1 : Calling) (r : Turned) (out out' : List ℕ) (links : List Shown)
+pub goes_here : (w : Asking) (moments : Option (List ℕ)) (g : Settings) (past new : List Entry) (t : Shown) (first conn : ℕ) (shown : Option Shown) (k k1 : Calling) (r : Turned) (out out' : List ℕ) (links : List Shown) (back : Option (List Shown))
     → IsLawful g new → IsUnderWay w moments first g past conn shown k links → HasStepped w moments g past new t conn k1.pump k1.stream k1.fresh k.full r false out out' → k1.request ≡ k.request → k1.pump.conn ≡ conn → k1.full ≡ k.full → is_early r ≡ false
-    → GoesFrom w moments first g past new conn (Some t) k1 links out out'
-goes_here w moments g past new t first conn shown k k1 r out out' links lawful u h request at full late = record {
+    → GoesFrom w moments first g past new conn (Some t) k1 links back back out out'
+goes_here w moments g past new t first conn shown k k1 r out out' links back lawful u h request at full late = record {
   more = [];
+  got = got_none back;
   under_way = subst (IsUnderWay w moments first g new conn (Some t) k1) (sym (append-nil links)) (record {
     request = request ∙ u.request;
     link = t;
@@ -86,14 +91,15 @@ goes_here w moments g past new t first conn shown k k1 r out out' links lawful u
     are_firsts past c (l ∷ links) last h = (h.0, are_firsts past (c + 1) links last h.1)
 
 -- what is taken is dropped from now on
-pub full_here : (w : Asking) (moments : Option (List ℕ)) (g : Settings) (past new : List Entry) (t : Shown) (first conn : ℕ) (shown : Option Shown) (k k1 : Calling) (out out' : List ℕ) (links : List Shown)
+pub full_here : (w : Asking) (moments : Option (List ℕ)) (g : Settings) (past new : List Entry) (t : Shown) (first conn : ℕ) (shown : Option Shown) (k k1 : Calling) (out out' : List ℕ) (links : List Shown) (back : Option (List Shown))
     → IsLawful g new → IsUnderWay w moments first g past conn shown k links → HasStepped w moments g past new t conn k1.pump k1.stream k1.fresh k.full turned.TapeFull false out out' → k1.request ≡ k.request → k1.pump.conn ≡ conn → k1.full ≡ true
-    → GoesFrom w moments first g past new conn (Some t) k1 links out out'
-full_here w moments g past new t first conn shown k k1 out out' links lawful u h request at full =
+    → GoesFrom w moments first g past new conn (Some t) k1 links back back out out'
+full_here w moments g past new t first conn shown k k1 out out' links back lawful u h request at full =
     let most : 2 ^ 63 ≤ length new = h.says refl in
     let off : HasPlace new → ⊥ = λ place. omega (arith, most, place) in
     record {
       more = [];
+      got = got_none back;
       under_way = subst (IsUnderWay w moments first g new conn (Some t) k1) (sym (append-nil links)) (record {
         request = request ∙ u.request;
         link = t;
@@ -124,12 +130,13 @@ full_here w moments g past new t first conn shown k k1 out out' links lawful u h
 
 -- ---- the call has come to something here
 
-pub stops_here : (r' : Called) (w : Asking) (moments : Option (List ℕ)) (lulls : ℕ) (g : Settings) (past new : List Entry) (t : Shown) (first conn : ℕ) (shown : Option Shown) (k : Calling) (d : Between) (stream : Option ℕ) (fresh : ℕ) (r : Turned) (ended : Bool) (out out' : List ℕ) (links : List Shown)
+pub stops_here : (r' : Called) (w : Asking) (moments : Option (List ℕ)) (lulls : ℕ) (g : Settings) (past new : List Entry) (t : Shown) (first conn : ℕ) (shown : Option Shown) (k : Calling) (d : Between) (stream : Option ℕ) (fresh : ℕ) (r : Turned) (ended : Bool) (out out' : List ℕ) (links : List Shown) (back : Option (List Shown))
     → IsLawful g new → IsUnderWay w moments first g past conn shown k links → HasStepped w moments g past new t conn d stream fresh k.full r ended out out' → ended ≡ is_finished r' → EndsBy r' w.kind lulls g new t conn
-    → StopsFrom r' w moments lulls first g past new links out out'
-stops_here r' w moments lulls g past new t first conn shown k d stream fresh r ended out out' links lawful u h same why = record {
+    → StopsFrom r' w moments lulls first g past new (Some t) links back back out out'
+stops_here r' w moments lulls g past new t first conn shown k d stream fresh r ended out out' links back lawful u h same why = record {
   more = [];
   last = t;
+  got = inl (refl, got_none back);
   number = conn;
   ended = subst (λ ls. HasEndedBy r' w moments lulls first conn g past new ls t out out') (sym (append-nil links)) (record {
     order = h.stands.order;
@@ -142,10 +149,10 @@ stops_here r' w moments lulls g past new t first conn shown k d stream fresh r e
   });
 }
 
-pub finished_here : (w : Asking) (moments : Option (List ℕ)) (lulls : ℕ) (g : Settings) (past new : List Entry) (t : Shown) (first conn : ℕ) (shown : Option Shown) (k : Calling) (d : Between) (stream : Option ℕ) (fresh : ℕ) (r : Turned) (out out' : List ℕ) (links : List Shown)
-    → IsLawful g new → IsUnderWay w moments first g past conn shown k links → HasStepped w moments g past new t conn d stream fresh k.full r true out out' → StopsFrom called.Finished w moments lulls first g past new links out out'
-finished_here w moments lulls g past new t first conn shown k d stream fresh r out out' links lawful u h =
-    stops_here called.Finished w moments lulls g past new t first conn shown k d stream fresh r true out out' links lawful u h refl h.ends
+pub finished_here : (w : Asking) (moments : Option (List ℕ)) (lulls : ℕ) (g : Settings) (past new : List Entry) (t : Shown) (first conn : ℕ) (shown : Option Shown) (k : Calling) (d : Between) (stream : Option ℕ) (fresh : ℕ) (r : Turned) (out out' : List ℕ) (links : List Shown) (back : Option (List Shown))
+    → IsLawful g new → IsUnderWay w moments first g past conn shown k links → HasStepped w moments g past new t conn d stream fresh k.full r true out out' → StopsFrom called.Finished w moments lulls first g past new (Some t) links back back out out'
+finished_here w moments lulls g past new t first conn shown k d stream fresh r out out' links back lawful u h =
+    stops_here called.Finished w moments lulls g past new t first conn shown k d stream fresh r true out out' links back lawful u h refl h.ends
 
 -- the end has not come
 pub still_goes : (w : Asking) (moments : Option (List ℕ)) (g : Settings) (past new : List Entry) (t : Shown) (conn : ℕ) (d : Between) (stream : Option ℕ) (fresh : ℕ) (full : Bool) (r : Turned) (out out' : List ℕ) → HasStepped w moments g past new t conn d stream fresh full r false out out' → GoesOn w.kind g new t conn

@@ -16,7 +16,7 @@ loop-init g c =
       record { link = search rules; limit = search rules; at = search rules; out_is = search rules },
       c.in-Ok.ensures.askable,
       c.in-Ok.ensures.request,
-      run_start (asking_of c.args.plan.now) moments c.args.self.now.conn start.of.settings start c.start.new.self.caller c.args.self.now.conn c.start.new.self.conn c.args.self.now.link c.start.new.self.link c.in-Ok.calling c.args.out.now.items c.in-Ok.ensures.starts,
+      run_start (asking_of c.args.plan.now) moments c.args.self.now.conn start.of.settings start c.start.new.self.caller c.args.self.now.conn c.start.new.self.conn c.args.self.now.link c.start.new.self.link c.in-Ok.calling (g.N.Net.back c.args.net.now) c.args.out.now.items c.in-Ok.ensures.starts,
     )
 
 pub loop-preserved : goal.loop-preserved
@@ -29,7 +29,7 @@ loop-preserved g c =
       c.in_default-go_on.ensures.joined,
       subst CanBeAsked (sym c.go_on.ensures.request) i.3,
       c.go_on.ensures.request ∙ i.4,
-      run_on_by (asking_of c.args.plan.now) moments c.args.plan.now.lulls c.args.self.now.conn start.of.settings start c.loop.self.caller c.go_on.new.self.caller c.loop.self.conn c.go_on.new.self.conn c.loop.self.link c.go_on.new.self.link c.loop.calling c.go_on.new.calling c.args.out.now.items c.loop.out.items c.go_on.new.out.items
+      run_on_by (asking_of c.args.plan.now) moments c.args.plan.now.lulls c.args.self.now.conn start.of.settings start c.loop.self.caller c.go_on.new.self.caller c.loop.self.conn c.go_on.new.self.conn c.loop.self.link c.go_on.new.self.link c.loop.calling c.go_on.new.calling (g.N.Net.back c.args.net.now) (g.N.Net.back c.loop.net) (g.N.Net.back c.go_on.new.net) c.args.out.now.items c.loop.out.items c.go_on.new.out.items
           (CanBegin (asking_of c.args.plan.now) moments start.front c.args.self.now.conn c.args.self.now.link) c.loop.self.caller.of.settings c.go_on.result (search rules) (search rules) i.5 (c.go_on.ensures.steps (asking_of c.args.plan.now) i.4 refl refl),
     )
 
@@ -38,5 +38,5 @@ returns-in-Some-go_on-clause-comes g c =
     let moments = g.K.Clock.moments c.args.clock.now in
     let start : Knowledge = c.args.self.now.caller in
     let i = c.loop.invariant in
-    run_stops_by (asking_of c.args.plan.now) moments c.args.plan.now.lulls c.args.self.now.conn start.of.settings start c.loop.self.caller c.go_on.new.self.caller c.loop.self.conn c.go_on.new.self.conn c.loop.self.link c.go_on.new.self.link c.loop.calling c.go_on.new.calling c.args.out.now.items c.loop.out.items c.go_on.new.out.items
+    run_stops_by (asking_of c.args.plan.now) moments c.args.plan.now.lulls c.args.self.now.conn start.of.settings start c.loop.self.caller c.go_on.new.self.caller c.loop.self.conn c.go_on.new.self.conn c.loop.self.link c.go_on.new.self.link c.loop.calling c.go_on.new.calling (g.N.Net.back c.args.net.now) (g.N.Net.back c.loop.net) (g.N.Net.back c.go_on.new.net) c.args.out.now.items c.loop.out.items c.go_on.new.out.items
     (CanBegin (asking_of c.args.plan.now) moments start.front c.args.self.now.conn c.args.self.now.link) c.loop.self.caller.of.settings c.go_on.result c.in-Some-go_on.called (search rules) (search rules) i.5 (c.go_on.ensures.steps (asking_of c.args.plan.now) i.4 refl refl)
