@@ -5,8 +5,12 @@ use anyhow::{Result, ensure};
 use std::alloc::Global;
 use std::net::{Net, TcpListener, TcpStream};
 use std::sync::Wait;
-use std::thread::{Threads, spawn};
-use std::time::{Clock, CpuClock, Instant};
+use std::thread::{Threads, sleep, spawn};
+use std::time::{Clock, CpuClock, Duration, Instant};
+
+/// How many milliseconds the links have to begin before the time that counts, and stand after it: what
+/// it takes to make and to drop them is not theirs as idle ones.
+const MARGIN: u64 = 300;
 
 // Turns for so long. Whether the link stood.
 fn turn_for<R: Wait + Clock>(rt: &R, client: &mut TcpSide, millis: u64) -> bool {
@@ -25,6 +29,15 @@ fn turn_for<R: Wait + Clock>(rt: &R, client: &mut TcpSide, millis: u64) -> bool 
     true
 }
 
+// How many thousandths of a processor this process takes while so many milliseconds pass.
+fn used_in<R: Clock + CpuClock>(rt: &R, millis: u64) -> Result<u128> {
+    let start = Instant::now(rt)?;
+    let before = rt.process_cpu_time()?;
+    sleep(rt, Duration::from_millis(millis));
+    let used = rt.process_cpu_time()?.saturating_sub(before).as_nanos();
+    Ok(used / start.elapsed(rt)?.as_micros().max(1))
+}
+
 /// So many links are idle for so many milliseconds, each with a pump and a thread of its own. How many
 /// thousandths of a processor that took.
 pub fn wait<R>(rt: R, alloc: Global, links: u32, millis: u64) -> Result<u128>
@@ -41,16 +54,18 @@ where
 {
     let mut fars = Vec::new(alloc);
     let mut threads = Vec::new(alloc);
-    let before = rt.process_cpu_time()?;
+    let standing = millis.saturating_add(2 * MARGIN);
     for _ in 0..links {
         let (near, far) = two_sockets(&rt)?;
         fars.push(far)?;
         let turns = move || match client_over(&rt, alloc, near) {
-            Ok(mut client) => turn_for(&rt, &mut client, millis),
+            Ok(mut client) => turn_for(&rt, &mut client, standing),
             Err(_) => false,
         };
         threads.push(spawn(&rt, turns)?)?;
     }
+    sleep(&rt, Duration::from_millis(MARGIN));
+    let used = used_in(&rt, millis);
     let mut stood = 0u32;
     for thread in threads {
         if thread.join(&rt) {
@@ -58,6 +73,5 @@ where
         }
     }
     ensure!(stood == links, "{stood} of {links} links stood");
-    let used = rt.process_cpu_time()?.saturating_sub(before).as_nanos();
-    Ok(used / (u128::from(millis.max(1)) * 1_000))
+    used
 }

@@ -40,15 +40,16 @@ fn send_some<R: Wait>(
     Ok(batch)
 }
 
-// Sends all items of the stream that is asked for, and then waits until the client is gone.
+// Sends all items of the stream that is asked for. The last ones go out while it waits for the client
+// to be gone.
 fn send_all<R: Wait>(rt: &R, alloc: Global, server: &mut TcpSide, items: u32) -> Result<()> {
     let stream = next_request(rt, server)?;
     let mut sent = 0u32;
     for _ in 0..u64::MAX {
+        sent = sent.saturating_add(send_some(rt, alloc, server, stream, sent, items)?);
         if sent >= items {
             break;
         }
-        sent = sent.saturating_add(send_some(rt, alloc, server, stream, sent, items)?);
         server.turn(rt)?;
     }
     outlast(rt, server);

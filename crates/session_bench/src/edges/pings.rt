@@ -17,14 +17,14 @@ use std::time::{Clock, Instant};
 /// How many turns a response may take.
 const MOST_TURNS: u32 = 10_000;
 
-// Answers so many requests, and then waits until the client is gone.
+// Answers so many requests. A response goes out while it waits for the next request, and the last one
+// while it waits for the client to be gone.
 fn serve<R: Wait>(rt: &R, alloc: Global, server: &mut TcpSide, pings: u32) -> Result<()> {
     for _ in 0..pings {
         let stream = next_request(rt, server)?;
         let content = Blob::from_slice(alloc, SMALL)?;
         let said = server.ask(rt, &respond(stream, content));
         ensure!(said == Some(Said::Done), "a response is {said:?}");
-        server.turn(rt)?;
     }
     outlast(rt, server);
     Ok(())
