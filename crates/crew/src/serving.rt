@@ -15,7 +15,7 @@ use std::thread::{Threads, join_mut};
 
 /// Serves the links of a net at these places, with the workers beside, and does the last task when
 /// all links have ended, over the places as the links left them. It returns when the workers have
-/// ended, too. There are at most as many threads beside this one as places, workers and one.
+/// ended, too. Beside this thread there are at most as many as places and workers, and one at least.
 pub fn serve_with_workers<
     S: Sync,
     N: Send,
