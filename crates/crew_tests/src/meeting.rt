@@ -67,14 +67,15 @@ pub enum Seat {
 
 impl Place<Links, Meeting> for Seat {
     ghost use Rattle.std.specs.Prelude.{◌≡◌};
+    ghost use Rattle.crew_tests.specs.declared.meeting.Seat.TheVariants as seats;
 
-    ghost vacant = { λ meeting p. p ≡ seat.Vacant };
+    ghost vacant = { λ meeting p. p ≡ seats.Vacant };
 
     ghost arrived = { λ meeting p q. Unit {0} };
 
     ghost served = { λ meeting p q. Unit {0} };
 
-    ghost missed = { λ meeting n m p q. q ≡ seat.Missed };
+    ghost missed = { λ meeting n m p q. q ≡ seats.Missed };
 
     ghost accepted = { λ k n m. Unit {0} };
 
