@@ -8,28 +8,6 @@ use crate::place::Place;
 use std::sync::Wait;
 use std::thread::{Threads, join_mut};
 
-/// Serves the links of a net at these places, from the first on, each in a thread of its own where
-/// one can be made: the first link in this thread, while another thread waits for the next. Nothing
-/// is accepted after a wait in vain, and the places after that one are left as they were.
-#[cycle(serve)]
-pub fn serve_each<S: Sync, N: Send, P: Place<N, S> + Send, R: Threads + Wait + Sync>(
-    rt: &R,
-    shared: &S,
-    net: &mut N,
-    places: &mut [P],
-)
-    requires { AllByRecursion (P.vacant shared.now) places.old }
-    ensures { AreServed P.accepted (P.served shared.now) (P.missed shared.now)
-        net.old net.new places.old places.new }
-{
-    let Some((first, rest)) = places.split_first_mut() else {
-        return;
-    };
-    if first.accept(net, shared) {
-        serve_apart(rt, shared, first, net, rest);
-    }
-}
-
 // The first link in this thread, the next ones from another, or after it.
 #[cycle(serve)]
 fn serve_apart<S: Sync, N: Send, P: Place<N, S> + Send, R: Threads + Wait + Sync>(
@@ -61,4 +39,26 @@ fn serve_apart<S: Sync, N: Send, P: Place<N, S> + Send, R: Threads + Wait + Sync
             → P.served shared.entry.now p first.exit.now }
     { first.serve(rt, shared) };
     join_mut(rt, &mut others, &mut mine);
+}
+
+/// Serves the links of a net at these places, from the first on, each in a thread of its own where
+/// one can be made: the first link in this thread, while another thread waits for the next. Nothing
+/// is accepted after a wait in vain, and the places after that one are left as they were.
+#[cycle(serve)]
+pub fn serve_each<S: Sync, N: Send, P: Place<N, S> + Send, R: Threads + Wait + Sync>(
+    rt: &R,
+    shared: &S,
+    net: &mut N,
+    places: &mut [P],
+)
+    requires { AllByRecursion (P.vacant shared.now) places.old }
+    ensures { AreServed P.accepted (P.served shared.now) (P.missed shared.now)
+        net.old net.new places.old places.new }
+{
+    let Some((first, rest)) = places.split_first_mut() else {
+        return;
+    };
+    if first.accept(net, shared) {
+        serve_apart(rt, shared, first, net, rest);
+    }
 }

@@ -23,7 +23,8 @@ pub trait Place<N, S> {
 
     ghost accepted_none: { (n : N) → accepted 0 n n };
 
-    ghost accepted_more: { (j k : ℕ) (a b c : N) → accepted j a b → accepted k b c → accepted (j + k) a c };
+    ghost accepted_more: { (j k : ℕ) (a b c : N) → accepted j a b → accepted k b c
+        → accepted (j + k) a c };
 
     /// Waits for the next link of the net, once. False where none came: then this is the last wait,
     /// and the place keeps why.

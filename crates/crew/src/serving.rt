@@ -15,7 +15,7 @@ use std::thread::{Threads, join_mut};
 
 /// Serves the links of a net at these places, with the workers beside, and does the last task when
 /// all links have ended, over the places as the links left them. It returns when the workers have
-/// ended, too. Beside this thread there are at most as many as places and workers, and one at least.
+/// ended, too. Beside this thread there are at most as many as places and workers, and at least one.
 pub fn serve_with_workers<
     S: Sync,
     N: Send,
@@ -31,12 +31,14 @@ pub fn serve_with_workers<
     requires workers { AllByRecursion (W.ready shared.now) workers.old }
     // The places are as the links left them, and then as the last task did.
     ensures places { (left : List P)
-        × AreServed P.accepted (P.served shared.now) (P.missed shared.now) net.old net.new places.old left
+        × AreServed P.accepted (P.served shared.now) (P.missed shared.now)
+        net.old net.new places.old left
         × F.done shared.now last.old left last.new places.new }
     ensures workers { Pairwise (W.done shared.now) workers.old workers.new }
 {
     let mut beside = ||
-        requires { IsSync R.row × IsSync S.row × IsSend W.row × AllByRecursion (W.ready shared.now) workers.now }
+        requires { IsSync R.row × IsSync S.row × IsSend W.row
+            × AllByRecursion (W.ready shared.now) workers.now }
         ensures { Pairwise (W.done shared.entry.now) workers.entry.now workers.exit.now }
     { run_each(rt, shared, workers) };
     let mut here = ||

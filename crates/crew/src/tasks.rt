@@ -8,22 +8,6 @@ use crate::task::Task;
 use std::sync::Wait;
 use std::thread::{Threads, join_mut};
 
-/// Does each of the tasks once, in a thread of its own where one can be made.
-#[cycle(each)]
-pub fn run_each<S: Sync, T: Task<S> + Send, R: Threads + Wait + Sync>(
-    rt: &R,
-    shared: &S,
-    tasks: &mut [T],
-)
-    requires { AllByRecursion (T.ready shared.now) tasks.old }
-    ensures { Pairwise (T.done shared.now) tasks.old tasks.new }
-{
-    let Some((first, rest)) = tasks.split_first_mut() else {
-        return;
-    };
-    run_apart(rt, shared, first, rest);
-}
-
 // The first in this thread, the rest in another, or after it.
 #[cycle(each)]
 fn run_apart<S: Sync, T: Task<S> + Send, R: Threads + Wait + Sync>(
@@ -42,7 +26,8 @@ fn run_apart<S: Sync, T: Task<S> + Send, R: Threads + Wait + Sync>(
         return;
     }
     let mut others = ||
-        requires { IsSync R.row × IsSync S.row × IsSend T.row × AllByRecursion (T.ready shared.now) rest.now }
+        requires { IsSync R.row × IsSync S.row × IsSend T.row
+            × AllByRecursion (T.ready shared.now) rest.now }
         ensures { Pairwise (T.done shared.entry.now) rest.entry.now rest.exit.now }
     { run_each(rt, shared, rest) };
     let mut mine = ||
@@ -50,4 +35,20 @@ fn run_apart<S: Sync, T: Task<S> + Send, R: Threads + Wait + Sync>(
         ensures { T.done shared.entry.now first.entry.now first.exit.now }
     { first.run(rt, shared) };
     join_mut(rt, &mut others, &mut mine);
+}
+
+/// Does each of the tasks once, in a thread of its own where one can be made.
+#[cycle(each)]
+pub fn run_each<S: Sync, T: Task<S> + Send, R: Threads + Wait + Sync>(
+    rt: &R,
+    shared: &S,
+    tasks: &mut [T],
+)
+    requires { AllByRecursion (T.ready shared.now) tasks.old }
+    ensures { Pairwise (T.done shared.now) tasks.old tasks.new }
+{
+    let Some((first, rest)) = tasks.split_first_mut() else {
+        return;
+    };
+    run_apart(rt, shared, first, rest);
 }
