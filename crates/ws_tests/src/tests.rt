@@ -1,0 +1,7 @@
+//! Links over streams in memory.
+
+mod coming;
+mod large;
+mod sending;
+mod stream;
+mod two_ends;
