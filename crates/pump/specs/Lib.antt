@@ -3,3 +3,10 @@ pub mod Turns
 pub mod Parts
 pub mod Runs
 pub mod Halves
+pub use Rattle.rs_wire.specs.declared.settings.Settings
+pub use Rattle.tape.specs.declared.entry.Entry
+pub use Rattle.outside.specs.Links
+pub use Rattle.session_model.specs.Frames
+pub use Rattle.conn_shared.specs.Members
+pub use Rattle.link_model.specs.Carrying
+pub use Rattle.link_model.specs.Leaving

@@ -184,6 +184,14 @@ IfDone _ P = Unit {0}
 abbrev pub HasWaiting : Between → Type 0
 HasWaiting b = (b.bad ≡ false) × IsWaiting b.rest b.max_in
 
+-- What stood in front was brought, and it came to this: no byte is lost, nothing but what came is added, and each end has its cause.
+pub record Hears (g : Settings) (was now : Knowledge) (old b : Between) (heard : Brought) : Type 0 where
+  pub kept : (s : Shown) → IsKept was s old → IsKept now s b
+  pub goes : GoesOn (Arrives old.conn) was now.front
+  pub cause : BroughtFor (Names old.conn) g was now.front heard
+  pub busy : IfBusy g now.front b heard
+  pub arrived : heard ≡ brings.Noted → HasArrived old.conn was now.front
+
 -- ---- a tick and a draw
 
 abbrev pub is_empty : List ℕ → Bool
@@ -228,6 +236,12 @@ pub record DrawsSo (due : Bool) (g : Settings) (me : Knowledge) (c room : ℕ) (
   pub drew : Option Answer
   pub draw : DrawsWhere due g me c room drew old left new
   pub came_to : b ≡ drawn_by drew
+
+-- The same draw of a pump: no byte is lost, and each end has its cause.
+pub record Draws (due : Bool) (g : Settings) (was now : Knowledge) (old b : Between) (room : ℕ) (drawn : Brought) : Type 0 where
+  pub kept : (s : Shown) → IsKept was s old → IsKept now s b
+  pub drew : DrawsSo due g was old.conn room old.left b.left now.front drawn
+  pub cause : BroughtFor (Names old.conn) g was now.front drawn
 
 -- the answers to the tick, and to the draw where one was due, let the turn go on
 abbrev pub goes_on_from : Answer → Option Answer → Bool

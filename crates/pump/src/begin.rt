@@ -2,7 +2,7 @@
 
 ghost use Rattle.std.specs.Prelude.{◌≡◌, ◌<◌, ◌≤◌};
 ghost use Rattle.outside.specs.Links.{Shown};
-ghost use Rattle.pump.specs.Turns.{BeginsSo, BroughtFor, DrawsSo, IsKept, IsPumped, Names, has, is_empty};
+ghost use Rattle.pump.specs.Turns.{BeginsSo, BroughtFor, Draws, IsKept, IsPumped, has, is_empty};
 ghost use Rattle.pump.specs.declared.numbers.TheConstants as pieces;
 
 use crate::bringing::{Brought, is_ended, tick};
@@ -29,12 +29,8 @@ impl Inner {
           front = caller.new.front;
           note = caller.new.note;
         } }
-        ensures kept { (s : Shown) → IsKept caller.old s (has self.old)
-            → IsKept caller.new s (has self.new) }
-        ensures drew { DrawsSo (is_empty self.old.outgoing) connection.now.settings caller.old
-            self.old.conn room self.old.outgoing self.new.outgoing caller.new.front result }
-        ensures cause { BroughtFor (Names self.old.conn) connection.now.settings
-            caller.old caller.new.front result }
+        ensures draws { Draws (is_empty self.old.outgoing) connection.now.settings caller.old
+            caller.new (has self.old) (has self.new) room result }
         ensures rest { self.new ≡ record self.old { outgoing = self.new.outgoing } }
     {
         if self.outgoing.len() != 0 {

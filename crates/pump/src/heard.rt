@@ -1,11 +1,10 @@
 //! What came, on its way from a pump to the session.
 
 ghost use Rattle.std.specs.Prelude.{◌≡◌, ◌≢◌, [], false};
-ghost use Rattle.outside.specs.Links.{Shown};
 ghost use Rattle.rs_chunk.specs.Stream.{IsWhole};
 ghost use Rattle.tape.specs.declared.event.Event.{Event as Happening};
 ghost use Rattle.link_model.specs.Reading.{IsInFront};
-ghost use Rattle.pump.specs.Turns.{Arrives, BroughtFor, GoesOn, HasArrived, HasWaiting, IfBusy, IfDone, IsEmptied, IsKept, Names, Steps, has, is_bad};
+ghost use Rattle.pump.specs.Turns.{HasWaiting, Hears, IfDone, IsEmptied, Steps, has, is_bad};
 
 use crate::bringing::{Brought, after_some, bring_event, is_bad, leaves};
 use crate::inner::Inner;
@@ -52,14 +51,8 @@ impl Inner {
           front = caller.new.front;
           note = caller.new.note;
         } }
-        ensures kept { (s : Shown) → IsKept caller.old s (has self.old)
-            → IsKept caller.new s (has self.new) }
-        ensures goes { GoesOn (Arrives self.old.conn) caller.old caller.new.front }
-        ensures cause { BroughtFor (Names self.old.conn) connection.now.settings
-            caller.old caller.new.front result }
-        ensures busy { IfBusy connection.now.settings caller.new.front (has self.new) result }
-        ensures arrived { result ≡ Brought.Noted →
-            HasArrived self.old.conn caller.old caller.new.front }
+        ensures hears { Hears connection.now.settings caller.old caller.new (has self.old)
+            (has self.new) result }
         ensures some { result ≢ Brought.Nothing }
         ensures conn { self.new.conn ≡ self.old.conn }
         ensures max_in { self.new.incoming.max_in ≡ self.old.incoming.max_in }
@@ -87,14 +80,8 @@ impl Inner {
           front = caller.new.front;
           note = caller.new.note;
         } }
-        ensures kept { (s : Shown) → IsKept caller.old s (has self.old)
-            → IsKept caller.new s (has self.new) }
-        ensures goes { GoesOn (Arrives self.old.conn) caller.old caller.new.front }
-        ensures cause { BroughtFor (Names self.old.conn) connection.now.settings
-            caller.old caller.new.front result }
-        ensures busy { IfBusy connection.now.settings caller.new.front (has self.new) result }
-        ensures arrived { result ≡ Brought.Noted →
-            HasArrived self.old.conn caller.old caller.new.front }
+        ensures hears { Hears connection.now.settings caller.old caller.new (has self.old)
+            (has self.new) result }
         ensures emptied { result ≡ Brought.Nothing → IsEmptied (has self.new) }
         ensures some { HasWaiting (has self.old) → result ≢ Brought.Nothing }
         ensures quiet { result ≡ Brought.Nothing → caller.new.front ≡ caller.old.front }
@@ -128,14 +115,8 @@ impl Inner {
           front = caller.new.front;
           note = caller.new.note;
         } }
-        ensures kept { (s : Shown) → IsKept caller.old s (has self.old)
-            → IsKept caller.new s (has self.new) }
-        ensures goes { GoesOn (Arrives self.old.conn) caller.old caller.new.front }
-        ensures cause { BroughtFor (Names self.old.conn) connection.now.settings
-            caller.old caller.new.front result }
-        ensures busy { IfBusy connection.now.settings caller.new.front (has self.new) result }
-        ensures arrived { result ≡ Brought.Noted →
-            HasArrived self.old.conn caller.old caller.new.front }
+        ensures hears { Hears connection.now.settings caller.old caller.new (has self.old)
+            (has self.new) result }
         ensures emptied { IfDone result (IsEmptied (has self.new)) }
         ensures some { HasWaiting (has self.old) → result ≢ Brought.Nothing }
         ensures quiet { result ≡ Brought.Nothing → caller.new.front ≡ caller.old.front }

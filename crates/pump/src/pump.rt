@@ -4,7 +4,7 @@ ghost use Rattle.std.specs.Prelude.{◌≡◌, ◌<◌, ◌≤◌, ◌^◌, ◌&
 ghost use Rattle.outside.specs.Links.{Shown};
 ghost use Rattle.conn_shared.specs.Members.{Knowledge};
 ghost use Rattle.pump.specs.Halves.{and_given, and_taken};
-ghost use Rattle.pump.specs.Turns.{Arrives, BroughtFor, DrawsSo, GoesOn, IfBusy, IfDone, IsEmptied, IsKept, Names, has, is_empty};
+ghost use Rattle.pump.specs.Turns.{Draws, Hears, IfDone, IsEmptied, IsKept, has, is_empty};
 ghost use Rattle.pump.specs.declared.numbers.TheConstants as pieces;
 
 use crate::bringing::Brought;
@@ -105,14 +105,10 @@ impl Pump {
           front = caller.new.front;
           note = caller.new.note;
         } }
-        ensures kept { (s : Shown) → IsKept caller.old s self.old → IsKept caller.new s self.new }
 
-        // One draw, where it is due.
-        ensures drew { DrawsSo (is_empty self.old.left && nat_lt 0 most) connection.now.settings
-            caller.old self.old.conn (min most pieces.PIECE) self.old.left self.new.left
-            caller.new.front result }
-        ensures cause { BroughtFor (Names self.old.conn) connection.now.settings caller.old
-            caller.new.front result }
+        // One draw, where it is due; no byte is lost, and each end has its cause.
+        ensures draws { Draws (is_empty self.old.left && nat_lt 0 most) connection.now.settings
+            caller.old caller.new self.old self.new (min most pieces.PIECE) result }
         ensures rest { self.new ≡ record self.old { left = self.new.left } }
     {
         if most == 0 {
@@ -151,11 +147,10 @@ impl Pump {
           front = caller.new.front;
           note = caller.new.note;
         } }
-        ensures kept { (s : Shown) → IsKept caller.old s self.old → IsKept caller.new s self.new }
-        ensures goes { GoesOn (Arrives self.old.conn) caller.old caller.new.front }
-        ensures cause { BroughtFor (Names self.old.conn) connection.now.settings caller.old
-            caller.new.front result }
-        ensures busy { IfBusy connection.now.settings caller.new.front self.new result }
+
+        // No byte is lost, nothing but what came is added, and each end has its cause.
+        ensures hears { Hears connection.now.settings caller.old caller.new self.old self.new
+            result }
         ensures emptied { IfDone result (IsEmptied self.new) }
         ensures conn { self.new.conn ≡ self.old.conn }
         ensures max_in { self.new.max_in ≡ self.old.max_in }

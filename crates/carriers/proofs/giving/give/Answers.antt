@@ -16,6 +16,6 @@ returns-clause-gave g c = record {
   sent = c.in_ok-push_all.ensures.ok ∙ ap (λ (l : List ℕ). sent c.args.out.now ++ bytes_of l) c.bytes.ensures;
   conn = ap (λ (b : Between). b.conn) c.gave.ensures.rest ∙ ap (λ (b : Between). b.conn) c.draw.ensures.rest;
   max_in = ap (λ (b : Between). b.max_in) c.gave.ensures.rest ∙ ap (λ (b : Between). b.max_in) c.draw.ensures.rest;
-  goes = draw_goes (Names c.args.pump.now.conn) _ _ _ _ _ _ _ _ _ (same_number c.args.pump.now.conn) c.draw.ensures.drew.draw;
-  kept = λ s k. c.gave.ensures.kept c.draw.new.caller s (c.draw.ensures.kept s k);
+  goes = draw_goes (Names c.args.pump.now.conn) _ _ _ _ _ _ _ _ _ (same_number c.args.pump.now.conn) c.draw.ensures.draws.drew.draw;
+  kept = λ s k. c.gave.ensures.kept c.draw.new.caller s (c.draw.ensures.draws.kept s k);
 }

@@ -15,6 +15,6 @@ returns-clause-took g c =
       conn = c.hear-brought.ensures.conn ∙ ap (λ (b : Between). b.conn) c.feed.ensures.rest;
       max_in = c.hear-brought.ensures.max_in ∙ ap (λ (b : Between). b.max_in) c.feed.ensures.rest;
       left = c.hear-brought.ensures.left ∙ ap (λ (b : Between). b.left) c.feed.ensures.rest;
-      goes = subst (λ (n : ℕ). GoesOn (Arrives n) c.args.caller.now c.hear-brought.new.caller.front) (ap (λ (b : Between). b.conn) c.feed.ensures.rest) c.hear-brought.ensures.goes;
-      kept = λ s k. c.hear-brought.ensures.kept (and_taken s bytes) (subst (λ (l : List ℕ). IsKept c.args.caller.now (and_taken s l) c.feed.new.pump) same (c.in_ok-feed.ensures.kept c.args.caller.now s k));
+      goes = subst (λ (n : ℕ). GoesOn (Arrives n) c.args.caller.now c.hear-brought.new.caller.front) (ap (λ (b : Between). b.conn) c.feed.ensures.rest) c.hear-brought.ensures.hears.goes;
+      kept = λ s k. c.hear-brought.ensures.hears.kept (and_taken s bytes) (subst (λ (l : List ℕ). IsKept c.args.caller.now (and_taken s l) c.feed.new.pump) same (c.in_ok-feed.ensures.kept c.args.caller.now s k));
     }

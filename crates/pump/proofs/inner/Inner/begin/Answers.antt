@@ -17,7 +17,7 @@ returns-then-is_ended-clause-kept g c s k =
 pub returns-clause-kept : goal.returns-clause-kept
 returns-clause-kept g c s k =
     let t = c.tick-ticked.ensures.ticked in
-    c.draw_some.ensures.kept s (kept_other c.args.connection.now.settings c.args.caller.now c.tick-ticked.new.caller (event.Tick t.now) c.tick-ticked.result s (has c.args.self.now) (search rules) refl t.brought k)
+    c.draw_some.ensures.draws.kept s (kept_other c.args.connection.now.settings c.args.caller.now c.tick-ticked.new.caller (event.Tick t.now) c.tick-ticked.result s (has c.args.self.now) (search rules) refl t.brought k)
 
 pub returns-then-is_ended-clause-begins : goal.returns-then-is_ended-clause-begins
 returns-then-is_ended-clause-begins g c =
@@ -46,7 +46,7 @@ returns-clause-begins g c =
     let old = c.args.self.now.outgoing in
     let ended : is_ended c.tick-ticked.result ≡ false = search rules in
     let on : (goes_on_after t.brought.answer && is_empty old) ≡ is_empty old = ap (λ b. not (is_ended b) && is_empty old) (sym t.brought.is) ∙ ap (λ v. not v && is_empty old) ended in
-    let d = c.draw_some.ensures.drew in
+    let d = c.draw_some.ensures.draws.drew in
     let went : goes_on_after t.brought.answer ≡ true = ap (λ b. not (is_ended b)) (sym t.brought.is) ∙ ap not ended in
     record {
       begins = record {
@@ -73,4 +73,4 @@ returns-clause-cause g c =
     let P = IsPumped (g.K.Clock.moments c.args.clock.now) c.args.self.now.conn in
     let goes = goes_called P c.args.connection.now.settings c.args.caller.now (event.Tick t.now) t.brought.answer c.tick-ticked.new.caller.front (inl t.moment) t.brought.called in
     brought_wider (Names c.args.self.now.conn) P c.args.connection.now.settings c.args.caller.now c.tick-ticked.new.caller c.draw_some.new.caller.front c.draw_some.new.caller.front c.draw_some.result (λ v h. inr h)
-    (ap (λ (x : Knowledge). x.number) c.tick-ticked.ensures.same) (goes_continues P c.args.caller.now c.tick-ticked.new.caller.front goes) (continues_same c.draw_some.new.caller.front) c.draw_some.ensures.cause
+    (ap (λ (x : Knowledge). x.number) c.tick-ticked.ensures.same) (goes_continues P c.args.caller.now c.tick-ticked.new.caller.front goes) (continues_same c.draw_some.new.caller.front) c.draw_some.ensures.draws.cause

@@ -1,5 +1,12 @@
+use Rattle.std.proofs.Common.{rules, ◌≡◌, subst}
+use Rattle.outside.specs.Links.{Shown}
+use Rattle.conn_shared.specs.Members.{Knowledge}
+use Rattle.rs_wire.specs.declared.settings.Settings.{Settings}
+use Rattle.link_model.specs.Carrying.{Between}
+use Rattle.pump.specs.declared.bringing.Brought.{Brought}
+use Rattle.pump.specs.declared.bringing.Brought.TheVariants as brings
+use Rattle.pump.specs.Turns.{Arrives, Hears, IsKept, has}
+use Rattle.pump.proofs.Adding.{goes_none}
 use Rattle.pump.proofs.Keeping.{fed_still}
 use Rattle.pump.proofs.inner.Inner.hear.Goals as goal
 
-pub returns-in-Ok-Some-clause-kept : goal.returns-in-Ok-Some-clause-kept
-returns-in-Ok-Some-clause-kept g c s k = c.bring.ensures.kept s (fed_still c.args.caller.now s c.args.self.now c.feed.new.self c.feed.ensures.all c.feed.ensures.max_in k)

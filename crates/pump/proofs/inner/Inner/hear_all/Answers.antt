@@ -12,10 +12,10 @@ loop-preserved g c =
     let was = c.loop.caller in
     let now = c.hear-brought.new.caller in
     let conn = i.3 in
-    let goes : GoesOn (Arrives c.args.self.now.conn) was now.front = subst (λ n. GoesOn (Arrives n) was now.front) conn c.hear-brought.ensures.goes in
-    let came : HasArrived c.args.self.now.conn was now.front = subst (λ n. HasArrived n was now.front) conn (c.hear-brought.ensures.arrived (search rules)) in (
+    let goes : GoesOn (Arrives c.args.self.now.conn) was now.front = subst (λ n. GoesOn (Arrives n) was now.front) conn c.hear-brought.ensures.hears.goes in
+    let came : HasArrived c.args.self.now.conn was now.front = subst (λ n. HasArrived n was now.front) conn (c.hear-brought.ensures.hears.arrived (search rules)) in (
       on_both me was now i.0 c.hear-brought.ensures.same,
-      λ s k. c.hear-brought.ensures.kept s (i.1 s k),
+      λ s k. c.hear-brought.ensures.hears.kept s (i.1 s k),
       goes_both (Arrives c.args.self.now.conn) me was now.front i.0 i.2 goes,
       c.hear-brought.ensures.conn ∙ conn,
       c.hear-brought.ensures.max_in ∙ i.4,
@@ -25,41 +25,27 @@ loop-preserved g c =
       λ none. absurd (true≢false none),
     )
 
-pub returns-then-ne-clause-kept : goal.returns-then-ne-clause-kept
-returns-then-ne-clause-kept g c s k = c.hear-brought.ensures.kept s (c.loop.invariant.1 s k)
-
-pub returns-then-ne-clause-goes : goal.returns-then-ne-clause-goes
-returns-then-ne-clause-goes g c =
+pub returns-then-ne-clause-hears : goal.returns-then-ne-clause-hears
+returns-then-ne-clause-hears g c =
     let i = c.loop.invariant in
-    goes_both (Arrives c.args.self.now.conn) c.args.caller.now c.loop.caller c.hear-brought.new.caller.front i.0 i.2 (subst (λ n. GoesOn (Arrives n) c.loop.caller c.hear-brought.new.caller.front) i.3 c.hear-brought.ensures.goes)
-
-pub returns-then-ne-clause-cause : goal.returns-then-ne-clause-cause
-returns-then-ne-clause-cause g c =
-    let i = c.loop.invariant in
+    let h = c.hear-brought.ensures.hears in
     let me = c.args.caller.now in
+    let was = c.loop.caller in
     let now = c.hear-brought.new.caller in
     let st = c.args.connection.now.settings in
     let conn = c.args.self.now.conn in
-    let was = c.loop.caller in
-    let h : BroughtFor (Names conn) st was now.front c.hear-brought.result = subst (λ n. BroughtFor (Names n) st was now.front c.hear-brought.result) i.3 c.hear-brought.ensures.cause in
-    let w = brought_wider (Names conn) (Names conn) st me was now.front now.front c.hear-brought.result (λ v k. k) (ap (λ (x : Knowledge). x.number) i.0) (goes_continues (Arrives conn) me c.loop.caller.front i.2) (continues_same now.front) h in
-    subst (BroughtFor (Names conn) st me now.front) (sym c.after_some.ensures) (for_after (Names conn) st me now.front c.loop.noted c.hear-brought.result w)
-
-pub returns-then-ne-clause-busy : goal.returns-then-ne-clause-busy
-returns-then-ne-clause-busy g c =
-    let st = c.args.connection.now.settings in
-    let front = c.hear-brought.new.caller.front in
     let b = has c.hear-brought.new.self in
-    subst (IfBusy st front b) (sym c.after_some.ensures) (busy_after st front b c.loop.noted c.hear-brought.result c.hear-brought.ensures.busy)
-
-pub returns-then-ne-clause-arrived : goal.returns-then-ne-clause-arrived
-returns-then-ne-clause-arrived g c is =
-    let i = c.loop.invariant in
-    let me = c.args.caller.now in
-    let now = c.hear-brought.new.caller in
-    let noted : c.loop.noted ≡ true = noted_after c.loop.noted c.hear-brought.result (search rules) (sym c.after_some.ensures ∙ is) in
-    let goes = subst (λ n. GoesOn (Arrives n) c.loop.caller now.front) i.3 c.hear-brought.ensures.goes in
-    arrived_wider c.args.self.now.conn me me c.loop.caller.front now.front refl (continues_same me.front) (goes_continues (Arrives c.args.self.now.conn) c.loop.caller now.front goes) (i.6 noted)
+    let goes : GoesOn (Arrives conn) was now.front = subst (λ n. GoesOn (Arrives n) was now.front) i.3 h.goes in
+    let caused : BroughtFor (Names conn) st was now.front c.hear-brought.result = subst (λ n. BroughtFor (Names n) st was now.front c.hear-brought.result) i.3 h.cause in
+    let wider = brought_wider (Names conn) (Names conn) st me was now.front now.front c.hear-brought.result (λ v k. k) (ap (λ (x : Knowledge). x.number) i.0) (goes_continues (Arrives conn) me was.front i.2) (continues_same now.front) caused in
+    record {
+      kept = λ s k. h.kept s (i.1 s k);
+      goes = goes_both (Arrives conn) me was now.front i.0 i.2 goes;
+      cause = subst (BroughtFor (Names conn) st me now.front) (sym c.after_some.ensures) (for_after (Names conn) st me now.front c.loop.noted c.hear-brought.result wider);
+      busy = subst (IfBusy st now.front b) (sym c.after_some.ensures) (busy_after st now.front b c.loop.noted c.hear-brought.result h.busy);
+      arrived = λ is. (let noted : c.loop.noted ≡ true = noted_after c.loop.noted c.hear-brought.result (search rules) (sym c.after_some.ensures ∙ is) in
+          arrived_wider conn me me was.front now.front refl (continues_same me.front) (goes_continues (Arrives conn) was now.front goes) (i.6 noted));
+    }
 
 pub returns-then-ne-clause-emptied : goal.returns-then-ne-clause-emptied
 returns-then-ne-clause-emptied g c =

@@ -79,7 +79,7 @@ returns-clause-kept g c k =
     let begun = c.begin-begun.ensures.kept s (subst (IsKept c.args.caller.now s) (sym c.self.view_is) k) in
     let gave = kept_moved d s m (has c.begin-begun.new.self) (has c.give_some-gave.new.self) (search rules) c.give_some-gave.ensures.kept begun in
     let took = kept_moved d m t (has c.give_some-gave.new.self) (has c.take_some-took.new.self) (search rules) c.take_some-took.ensures.kept gave in
-    kept_follows h c.look-looked.new.caller t (has c.hear_all-heard.new.self) (search rules) c.look-looked.ensures.follows (c.hear_all-heard.ensures.kept t took)
+    kept_follows h c.look-looked.new.caller t (has c.hear_all-heard.new.self) (search rules) c.look-looked.ensures.follows (c.hear_all-heard.ensures.hears.kept t took)
 
 pub returns-clause-counted : goal.returns-clause-counted
 returns-clause-counted g c = none_fell_both _ _ _ c.give_some-gave.ensures.counted c.take_some-took.ensures.counted
@@ -100,7 +100,7 @@ returns-clause-turned g c =
     let incoming : c.give_some-gave.new.self.incoming ≡ p.incoming = search rules in
     let bad : c.give_some-gave.new.self.bad ≡ p.bad = search rules in
     let st = c.args.connection.now.settings in
-    let heard : GoesOn P d h.front = subst (λ n. GoesOn (Arrives n) d h.front) conn c.hear_all-heard.ensures.goes in
+    let heard : GoesOn P d h.front = subst (λ n. GoesOn (Arrives n) d h.front) conn c.hear_all-heard.ensures.hears.goes in
     let on_d : IsOn start d = c.begin-begun.ensures.same in
     let on_h : IsOn start h = on_both start d h on_d c.hear_all-heard.ensures.same in
     let start_b = c.begin-begun.ensures.begins in
@@ -165,11 +165,11 @@ returns-clause-cause g c =
     (record {
       number = search rules;
       before = begun;
-      between = goes_continues (Arrives c.take_some-took.new.self.conn) d h.front c.hear_all-heard.ensures.goes;
+      between = goes_continues (Arrives c.take_some-took.new.self.conn) d h.front c.hear_all-heard.ensures.hears.goes;
       follows = subst (λ ns. Follows ns h.front n.front) names c.look-looked.ensures.follows;
-      cause = subst (λ k. BroughtFor (Names k) st d h.front c.hear_all-heard.result) conn c.hear_all-heard.ensures.cause;
-      busy = c.hear_all-heard.ensures.busy;
-      arrived = λ noted. subst (λ k. HasArrived k d h.front) conn (c.hear_all-heard.ensures.arrived noted);
+      cause = subst (λ k. BroughtFor (Names k) st d h.front c.hear_all-heard.result) conn c.hear_all-heard.ensures.hears.cause;
+      busy = c.hear_all-heard.ensures.hears.busy;
+      arrived = λ noted. subst (λ k. HasArrived k d h.front) conn (c.hear_all-heard.ensures.hears.arrived noted);
       gave_is = c.give_some-gave.ensures.gave;
       given_still = c.take_some-took.ensures.given;
       taken_still = c.give_some-gave.ensures.taken;
@@ -196,9 +196,9 @@ returns-clause-read g c late =
     let st = c.args.connection.now.settings in
     let moments = g.K.Clock.moments c.args.clock.now in
     let begun : Continues me.front d.front = begun_on st moments me c.self.inside.inner.conn _ _ d.front c.begin-begun.ensures.begins.begins in
-    let heard : Continues d.front h.front = goes_continues (Arrives c.take_some-took.new.self.conn) d h.front c.hear_all-heard.ensures.goes in
+    let heard : Continues d.front h.front = goes_continues (Arrives c.take_some-took.new.self.conn) d h.front c.hear_all-heard.ensures.hears.goes in
     let names : h.names ≡ me.names = search rules in
-    read_out st me h.front n.front (has c.hear_all-heard.new.self) c.hear_all-heard.result (continues_both me.front d.front h.front begun heard) (subst (λ ns. Follows ns h.front n.front) names c.look-looked.ensures.follows) c.hear_all-heard.ensures.busy c.hear_all-heard.ensures.emptied (c.sum_up.ensures.heard late)
+    read_out st me h.front n.front (has c.hear_all-heard.new.self) c.hear_all-heard.result (continues_both me.front d.front h.front begun heard) (subst (λ ns. Follows ns h.front n.front) names c.look-looked.ensures.follows) c.hear_all-heard.ensures.hears.busy c.hear_all-heard.ensures.emptied (c.sum_up.ensures.heard late)
 
 pub returns-clause-order : goal.returns-clause-order
 returns-clause-order g c =
