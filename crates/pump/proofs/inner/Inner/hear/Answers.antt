@@ -9,4 +9,3 @@ use Rattle.pump.specs.Turns.{Arrives, Hears, IsKept, has}
 use Rattle.pump.proofs.Adding.{goes_none}
 use Rattle.pump.proofs.Keeping.{fed_still}
 use Rattle.pump.proofs.inner.Inner.hear.Goals as goal
-
