@@ -24,7 +24,7 @@ use Rattle.workers.specs.Replies.{item_of, items_of, law_of}
 use Rattle.workers.specs.Courses.{IsReplyOn, after_reply, course}
 use Rattle.workers.specs.Serving.{Serving, Stands}
 use Rattle.workers.specs.Causes.{IsOver, IsPushed, WasAnswered, WasHad, WentAt, WholeOfProgress}
-use Rattle.workers.specs.Going.{HasGone, IsAccepted, IsEnded, IsSameJob, IsSettled, IsWholeOf, Keeps, WholeOfStep, found_of, outcome_of, plan_of, progress_of, told}
+use Rattle.workers.specs.Going.{ClosesTake, HasGone, IsAccepted, IsClosedOff, IsEnded, IsSameJob, IsSettled, IsWholeOf, Keeps, WholeOfStep, found_of, outcome_of, plan_of, progress_of, told}
 use Rattle.workers.proofs.Fronts.{answered_between}
 use Rattle.workers.proofs.Gone.{IsOn}
 use Rattle.workers.proofs.Items.{stands_items}
@@ -44,7 +44,10 @@ whole_said names routes old new j asked last a (step.Served items) end is on tel
     let went : course names j.stream new ≡ after_reply asked answer.Done before = tells j.stream ∙ (ap (λ b. told j.stream asked b before) (accepted_done a is) ∙ after_said j.stream asked answer.Done before on) in
     let count : items ≡ item_of asked + items_of before.made = (let all = stands_items routes before j stands in let so = end.1 in omega arith) in
     subst (IsWholeOf routes j.stream items) (sym went) (whole_last routes before j asked stands (plans ∙ ap (λ b. plan.Say asked b) end.0), count)
-whole_said names routes old new j asked last a _ end is on tells plans = tt
+whole_said names routes old new j asked last a (step.Went bytes) end is on tells plans = tt
+whole_said names routes old new j asked last a step.Blocked end is on tells plans = absurd end
+whole_said names routes old new j asked last a (step.Stopped r) end is on tells plans = absurd end
+whole_said names routes old new j asked last a step.OutOfMemory end is on tells plans = absurd end
 
 pub whole_quietly : (names : List ℕ) (routes : List Listed) (a : List Entry) (j : OpenJob) → plan_of (law_of routes j.kind j.message) j ≡ plan.Nothing → IsEnded names routes a a j j.made
 whole_quietly names routes a j plans = λ stands. (whole_unsaid routes (course names j.stream a) j stands plans, sym (stands_items routes (course names j.stream a) j stands))
@@ -58,6 +61,14 @@ whole_after was mid now routes i j items on same h k = λ stands.
     let ends = subst (λ names. IsEnded names routes mid.front now.front j items) (ap (λ (x : Knowledge). x.names) on) k in
     let stood = subst (λ q. Stands routes (course was.names q mid.front) j) (sym s) (h.kept stands) in
     subst (λ q. IsWholeOf routes q items (course was.names q now.front)) s (ends stood)
+
+pub closed_after : (was mid now : Knowledge) (routes : List Listed) (i j : OpenJob) (a : Answer) → IsOn was mid → IsSameJob i j → HasGone was.names routes was.front mid.front i (j ∷ [])
+    → IsClosedOff mid.names routes mid.front now.front j a → IsClosedOff was.names routes was.front now.front i a
+closed_after was mid now routes i j a on same h k = λ stands.
+    let s : j.stream ≡ i.stream = ap (λ (x : OpenJob). x.stream) same in
+    let ends = subst (λ names. IsClosedOff names routes mid.front now.front j a) (ap (λ (x : Knowledge). x.names) on) k in
+    let stood = subst (λ q. Stands routes (course was.names q mid.front) j) (sym s) (h.kept stands) in
+    subst (λ q. ClosesTake q (course was.names q now.front) a) s (ends stood)
 
 -- ---- one job of the work
 

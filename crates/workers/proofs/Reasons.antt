@@ -1,10 +1,11 @@
 -- Why a step or a job ended as it did, by the answer to its call.
 use Rattle.std.proofs.Common.{◌≡◌, ◌+◌, ◌∙◌, ℕ, Bool, true, if◌then◌else◌, List, length, inl, inr, refl, sym, ap, subst, arith}
-use Rattle.std.specs.Prelude.{Some}
+use Rattle.std.specs.Prelude.{Option, None, Some}
 use Rattle.rs_wire.specs.declared.call.Call.{Call}
 use Rattle.rs_wire.specs.declared.call.Call.TheVariants as call
 use Rattle.rs_wire.specs.declared.delivery.Delivery.{Delivery}
 use Rattle.rs_wire.specs.declared.delivery.Delivery.TheVariants as delivery
+use Rattle.rs_wire.specs.declared.fault.Refusal.{Refusal}
 use Rattle.rs_wire.specs.declared.fault.Refusal.TheVariants as refusal
 use Rattle.tape.specs.Answers.{leaves}
 use Rattle.tape.specs.declared.answer.Answer.{Answer}
@@ -18,12 +19,15 @@ use Rattle.workers.specs.declared.outcome.Taken.TheVariants as taken
 use Rattle.workers.specs.Replies.{law_of}
 use Rattle.workers.specs.declared.step.Step.{Step}
 use Rattle.workers.specs.declared.step.Step.TheVariants as step
-use Rattle.workers.specs.Causes.{CauseOfStep, IsForGood, IsHindrance, IsLast, IsStoppedBy, IsWaiting, WasAnswered}
+use Rattle.workers.specs.Causes.{CauseOfStep, IsForGood, IsHindrance, IsLast, IsStopBy, IsStoppedBy, IsWaiting, WasAnswered}
 use Rattle.workers.specs.Courses.{Course, HasSent, IsReplyOn, accepted_of, bytes_of, bytes_of_all, after_call, course}
-use Rattle.workers.specs.Going.{Awaits, IsAccepted, IsOfReply, IsOfTake, MayAnswer, outcome_of, plan_of, taken_of, told}
+use Rattle.workers.specs.Serving.{IsFinalTake}
+use Rattle.session_laws.specs.Streams.{IsLawful}
+use Rattle.workers.specs.Going.{Awaits, ClosesTake, IsAccepted, IsClosedOff, IsNextOf, IsOfReply, IsOfTake, MayAnswer, outcome_of, plan_of, taken_of, told}
 use Rattle.rs_wire.specs.declared.settings.Settings.{Settings}
+use Rattle.workers.proofs.AtEnd.{final_of, take_ends}
 use Rattle.workers.proofs.Gone.{reply_only, take_here}
-use Rattle.workers.proofs.Plans.{after_said}
+use Rattle.workers.proofs.Plans.{after_said, says_fairly}
 
 blocked_hinders : (a : Answer) → outcome_of a ≡ outcome.Blocked → IsHindrance a
 blocked_hinders (answer.Refused (refusal.NoCredit granted)) h = tt
@@ -149,3 +153,44 @@ stopped_take g routes names number old new j a b is may tells was awaits =
       last = take_last names old new j a tells;
       final = f.1;
     })
+
+-- ---- a job that was stopped by a Take
+
+not_ended : (a b : Answer) (why : Refusal) → taken_of a ≡ taken.Final b → a ≡ answer.Refused why → why ≡ refusal.Ended → ⊥
+not_ended a b why of is ended =
+    let e : taken.End ≡ taken.Final b = ap taken_of (sym (is ∙ ap (λ w. answer.Refused w) ended)) ∙ of in
+    absurd (cc)
+
+-- a Take of a job that stood is refused for good only where the session is closed
+pub closed_take : (g : Settings) (routes : List Listed) (names : List ℕ) (number : ℕ) (old new : List Entry) (j : OpenJob) (a b : Answer) → taken_of a ≡ taken.Final b → MayAnswer (call.Take j.stream) a → IsLawful g new
+    → WasAnswered g number old new (call.Take j.stream) a → Awaits routes j → IsClosedOff names routes old new j b
+closed_take g routes names number old new j a b of may lawful was awaits = λ stands last why is.
+    let refused : a ≡ answer.Refused why = (final_take a b of may).0 ∙ is in
+    subst IsFinalTake (sym is) (final_of why (take_ends g routes names number old new j a lawful was awaits stands why refused) (not_ended a b why of refused))
+
+abbrev call_in : Call → Option (Call × Answer) → Call
+call_in other None = other
+call_in other (Some p) = p.0
+
+one_call : (d : Course) (x y : Call) (a : Answer) → d.last ≡ Some (x, a) → d.last ≡ Some (y, a) → x ≡ y
+one_call d x y a h k = ap (call_in x) (sym h ∙ k)
+
+-- a reply is no Take
+pub closed_reply : (names : List ℕ) (routes : List Listed) (old new : List Entry) (j : OpenJob) (asked : Call) (a : Answer) → IsReplyOn j.stream asked → ((s : ℕ) → course names s new ≡ told s asked a (course names s old))
+    → IsClosedOff names routes old new j a
+closed_reply names routes old new j asked a on tells = λ stands last why is.
+    let take : asked ≡ call.Take j.stream = one_call (course names j.stream new) asked (call.Take j.stream) a (reply_last names old new j asked a on tells (ap leaves is)) last in
+    absurd (subst (IsReplyOn j.stream) take on)
+
+-- the Take that is the next call of a job is that of its stream
+take_asked : (routes : List Listed) (j : OpenJob) (q : ℕ) → IsNextOf routes j (call.Take q) → call.Take q ≡ call.Take j.stream
+take_asked routes j q (inl said) = absurd (says_fairly (law_of routes j.kind j.message) j (call.Take q) said.0 said.1).0
+take_asked routes j q (inr taken) = taken.1
+
+pub stop_by : (names : List ℕ) (routes : List Listed) (new : List Entry) (j : OpenJob) (asked : Call) (a : Answer) → IsNextOf routes j asked → IsForGood a → IsLast names new j asked a
+    → ClosesTake j.stream (course names j.stream new) a → IsStopBy asked a
+stop_by names routes new j (call.Take q) answer.TapeFull next good last closes = tt
+stop_by names routes new j (call.Take q) (answer.Refused why) next good last closes =
+    closes (last refl ∙ ap (λ (c : Call). Some (c, answer.Refused why)) (take_asked routes j q next)) why refl
+stop_by names routes new j (call.Take q) _ next good last closes = absurd good
+stop_by names routes new j _ a next good last closes = good

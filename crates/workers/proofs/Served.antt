@@ -15,13 +15,14 @@ use Rattle.workers.specs.declared.worked.Worked.TheVariants as worked
 use Rattle.workers.specs.declared.worked.Progress.{Progress}
 use Rattle.workers.specs.declared.worked.Progress.TheVariants as progress
 use Rattle.workers.specs.Causes.{AreHindered, CauseOf, CauseOfProgress, CauseOfTaking, IsHinderedAt, IsNotMore, IsOfJobs, WasHad, WentAt}
-use Rattle.workers.specs.Courses.{GoesOn, IsWorkersCall, WorksOn}
+use Rattle.workers.specs.Courses.{GoesOn, IsWorkersCall, WorksOn, course}
 use Rattle.workers.specs.Serving.{AreRouted, IsRouted, Serving, jobs_on}
-use Rattle.workers.specs.Going.{HasGone, HasWorked, IsSameJob, IsSettled, Keeps, StoodIn, WholeOf, left_by, progress_of}
-use Rattle.workers.proofs.Fronts.{all_weaker, answered_between, goes_both, goes_later, got_since, hindered_between, most_since, of_worker, stopped_since, waiting_since, works_after, works_job}
+use Rattle.workers.specs.Going.{ClosesTake, HasGone, HasWorked, IsSameJob, IsSettled, Keeps, StoodIn, WholeOf, left_by, progress_of}
+use Rattle.workers.proofs.Fronts.{all_weaker, answered_between, goes_both, goes_later, got_since, hindered_between, most_since, of_worker, tried_between, waiting_since, works_after, works_job}
 use Rattle.workers.proofs.Gone.{IsOn, same_both}
 use Rattle.workers.proofs.Jobs.{IsLeft, left_job, none_left, one_left, routed_both, routed_split, serving_job}
 use Rattle.workers.proofs.Putting.{cut_at, cut_length, set_split}
+use Rattle.workers.proofs.Reasons.{stop_by}
 
 -- ---- the job at a place
 
@@ -195,6 +196,10 @@ went_of_jobs names routes number g most old new place was mid now (going.Stopped
       (subst (λ js. jobs_on w.job.stream js ≡ []) (sym (settled w.before w.after w.left w.are w.at))
       (left_job names routes old w.before w.after w.job (subst (Serving names old routes) w.were serving)).0);
   stopped = w.cause;
+  exact = λ serving.
+      let stream : w.job.stream ≡ w.left.stream = sym (ap (λ (j : OpenJob). j.stream) w.same) in
+      let closes = w.whole (left_job names routes old w.before w.after w.job (subst (Serving names old routes) w.were serving)).1 in
+      stop_by names routes new w.left w.cause.asked a w.cause.tried.next w.cause.final w.cause.last (subst (λ q. ClosesTake q (course names q new) a) stream closes);
 }
 went_of_jobs names routes number g most old new place was mid now going.OutOfMemory x is w settled = tt
 
@@ -248,7 +253,18 @@ of_jobs_since g routes names number most a b c was mid now (progress.Worked (wor
 of_jobs_since g routes names number most a b c was mid now (progress.Worked (worked.Waiting s)) later keeps had k =
     record { job = k.job; stream = k.stream; stands = k.stands; waiting = waiting_since g routes names number a b c k.job later k.waiting }
 of_jobs_since g routes names number most a b c was mid now (progress.Worked (worked.Stopped r)) later keeps had k =
-    record { job = k.job; had = had k.job k.had; left = λ serving. k.left (keeps serving); stopped = stopped_since g routes names number a b c k.job r later k.stopped }
+    record {
+      job = k.job;
+      had = had k.job k.had;
+      left = λ serving. k.left (keeps serving);
+      stopped = record {
+        asked = k.stopped.asked;
+        tried = tried_between g routes number a b c c k.job k.stopped.asked r later ([], refl) k.stopped.tried;
+        last = k.stopped.last;
+        final = k.stopped.final;
+      };
+      exact = λ serving. k.exact (keeps serving);
+    }
 of_jobs_since g routes names number most a b c was mid now (progress.Worked worked.OutOfMemory) later keeps had k = tt
 of_jobs_since g routes names number most a b c was mid now (progress.Worked (worked.NoMore r)) later keeps had k = absurd k
 of_jobs_since g routes names number most a b c was mid now (progress.Worked worked.Idle) later keeps had k = absurd k

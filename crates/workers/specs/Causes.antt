@@ -25,7 +25,7 @@ use Rattle.workers.specs.declared.worked.Worked.TheVariants as worked
 use Rattle.workers.specs.declared.worked.Progress.{Progress}
 use Rattle.workers.specs.declared.worked.Progress.TheVariants as progress
 use Rattle.workers.specs.Courses.{GoesOn, HasSent, HasSentMost, IsWorkersCall, course}
-use Rattle.workers.specs.Serving.{IsFinal, Serving, jobs_on}
+use Rattle.workers.specs.Serving.{IsFinal, IsFinalTake, Serving, jobs_on}
 use Rattle.workers.specs.Going.{HasGone, HasWorked, IsNextOf, IsSameJob, IsWholeOf, StoodIn, WholeOf, left_by}
 
 -- ---- a call that was made
@@ -65,6 +65,16 @@ IsHindrance _ = ⊥
 abbrev pub IsForGood : Answer → Type 0
 IsForGood answer.TapeFull = Unit {0}
 IsForGood a = IsFinal a
+
+-- and of a Take on the stream of a job: the session is closed, or the tape is full
+abbrev pub IsTakeForGood : Answer → Type 0
+IsTakeForGood answer.TapeFull = Unit {0}
+IsTakeForGood a = IsFinalTake a
+
+-- such an answer to this call stops a job
+abbrev pub IsStopBy : Call → Answer → Type 0
+IsStopBy (call.Take s) a = IsTakeForGood a
+IsStopBy _ a = IsForGood a
 
 -- the next call of the job was hindered
 pub record IsHindered (g : Settings) (routes : List Listed) (number : ℕ) (old new : List Entry) (j : OpenJob) : Type 0 where
@@ -161,12 +171,13 @@ pub record HasMore (names : List ℕ) (most : Option ℕ) (old new : List Entry)
   pub stands : IsIn now job
   pub sent : HasSentMost names most old new
 
--- a job was stopped by this answer: it has left the work, if the statement held before
+-- a job was stopped by this answer: if the statement held before, it has left the work, and the answer stops its call
 pub record HasStopped (g : Settings) (routes : List Listed) (names : List ℕ) (number : ℕ) (old new : List Entry) (was now : List OpenJob) (a : Answer) : Type 0 where
   pub job : OpenJob
   pub had : WasHad g number old new was job
   pub left : Serving names old routes was → jobs_on job.stream now ≡ []
   pub stopped : IsStoppedBy g routes names number old new job a
+  pub exact : Serving names old routes was → IsStopBy stopped.asked a
 
 -- the next call of each of these jobs was hindered
 abbrev pub AreHindered : Settings → List Listed → ℕ → List Entry → List Entry → List OpenJob → Type 0

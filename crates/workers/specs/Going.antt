@@ -7,6 +7,7 @@ use Rattle.rs_wire.specs.declared.call.Call.{Call}
 use Rattle.rs_wire.specs.declared.call.Call.TheVariants as call
 use Rattle.rs_wire.specs.declared.delivery.Delivery.TheVariants as delivery
 use Rattle.rs_wire.specs.declared.delivery.Job.TheVariants as job
+use Rattle.rs_wire.specs.declared.fault.Refusal.{Refusal}
 use Rattle.rs_wire.specs.declared.fault.Refusal.TheVariants as refusal
 use Rattle.tape.specs.Answers.{leaves}
 use Rattle.tape.specs.declared.answer.Answer.{Answer}
@@ -36,7 +37,7 @@ use Rattle.workers.specs.declared.worked.Progress.{Progress}
 use Rattle.workers.specs.declared.worked.Progress.TheVariants as progress
 use Rattle.workers.specs.Replies.{item_of, items_of, law_of, no_route, plain, response}
 use Rattle.workers.specs.Courses.{Course, GoesOn, IsOfJob, WorksOn, after_call, bytes_of, course}
-use Rattle.workers.specs.Serving.{AreRouted, IsRouted, IsServed, IsWholeJob, Serving, Stands, jobs_on}
+use Rattle.workers.specs.Serving.{AreRouted, IsFinalTake, IsRouted, IsServed, IsWholeJob, Serving, Stands, jobs_on}
 
 -- ---- what a job says next
 
@@ -201,13 +202,23 @@ IsWholeOf routes s items c = IsWholeJob routes s c c.job × (items ≡ items_of 
 abbrev pub IsEnded : List ℕ → List Listed → List Entry → List Entry → OpenJob → ℕ → Type 0
 IsEnded names routes old new was items = Stands routes (course names was.stream old) was → IsWholeOf routes was.stream items (course names was.stream new)
 
--- a job that is served is whole
+-- where the last call on stream s was a Take that was refused so, the session is closed
+abbrev pub ClosesTake : ℕ → Course → Answer → Type 0
+ClosesTake s c a = c.last ≡ Some (call.Take s, a) → (why : Refusal) → a ≡ answer.Refused why → IsFinalTake a
+
+-- if the job stood, that is so on its stream
+abbrev pub IsClosedOff : List ℕ → List Listed → List Entry → List Entry → OpenJob → Answer → Type 0
+IsClosedOff names routes old new was a = Stands routes (course names was.stream old) was → ClosesTake was.stream (course names was.stream new) a
+
+-- a job that is served is whole, and a Take stops one only where the session is closed
 abbrev pub WholeOfStep : List ℕ → List Listed → List Entry → List Entry → OpenJob → Step → Type 0
 WholeOfStep names routes old new was (step.Served items) = IsEnded names routes old new was items
+WholeOfStep names routes old new was (step.Stopped a) = IsClosedOff names routes old new was a
 WholeOfStep names routes old new was _ = Unit {0}
 
 abbrev pub WholeOf : List ℕ → List Listed → List Entry → List Entry → OpenJob → Going → Type 0
 WholeOf names routes old new was (going.Served items) = IsEnded names routes old new was items
+WholeOf names routes old new was (going.Stopped a) = IsClosedOff names routes old new was a
 WholeOf names routes old new was _ = Unit {0}
 
 -- a step by this reply, which was accepted after so many items: the last one serves the job, and after another one it goes on

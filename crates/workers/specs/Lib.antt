@@ -3,3 +3,8 @@ pub mod Courses
 pub mod Serving
 pub mod Going
 pub mod Causes
+pub use Rattle.tape.specs.declared.entry.Entry
+pub use Rattle.conn_lock.specs.Callers
+pub use Rattle.conn_shared.specs.Lines
+pub use Rattle.conn_shared.specs.Members
+pub use Rattle.handlers.specs.Listed

@@ -89,8 +89,8 @@ fn take_content<R: Wait, T: Tape>(
         caller.new.front job.new result }
     ensures kept { (routes : List Listed) → Awaits routes job.old → HasGone caller.old.names routes
         caller.old.front caller.new.front job.old (left_by_step result job.new) }
-    ensures whole { (routes : List Listed) → WholeOfStep caller.old.names routes caller.old.front
-        caller.new.front job.old result }
+    ensures whole { (routes : List Listed) → Awaits routes job.old → WholeOfStep caller.old.names
+        routes caller.old.front caller.new.front job.old result }
 {
     let call = Call::Take { stream: job.stream };
     match sort(ask(rt, connection, caller, &call)) {

@@ -1,5 +1,5 @@
 use Rattle.std.proofs.Common.{◌≤◌, ◌+◌, ◌∙◌, arith, sym, true≢false}
-use Rattle.workers.proofs.Ended.{whole_after}
+use Rattle.workers.proofs.Ended.{closed_after, whole_after}
 use Rattle.workers.proofs.Fronts.{enough_sent}
 use Rattle.workers.proofs.Gone.{gone_after, on_both, same_both, sent_after, stopped_after, waiting_after, worked_after}
 use Rattle.workers.proofs.going.go_on.Goals as goal
@@ -53,6 +53,11 @@ pub returns-in-Served-clause-whole : goal.returns-in-Served-clause-whole
 returns-in-Served-clause-whole g c =
     whole_after c.args.caller.now c.loop.caller c.make_step.new.caller c.args.tools.now.routes.now c.args.job.now c.loop.job c.in-Served.items
     c.loop.invariant.same c.loop.invariant.job c.loop.invariant.gone c.in-Served.ensures.whole
+
+pub returns-in-Stopped-clause-whole : goal.returns-in-Stopped-clause-whole
+returns-in-Stopped-clause-whole g c =
+    closed_after c.args.caller.now c.loop.caller c.make_step.new.caller c.args.tools.now.routes.now c.args.job.now c.loop.job c.in-Stopped.answer
+    c.loop.invariant.same c.loop.invariant.job c.loop.invariant.gone c.in-Stopped.ensures.whole
 
 pub returns-then-is_enough-clause-cause : goal.returns-then-is_enough-clause-cause
 returns-then-is_enough-clause-cause g c =

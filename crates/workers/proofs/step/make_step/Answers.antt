@@ -14,4 +14,7 @@ returns-then-awaits_content-clause-cause g c =
     (found_awaits c.args.tools.now.routes.now c.args.job.now c.requires.routed (c.awaits_content.ensures.route yes) (c.awaits_content.ensures.kind yes) (c.awaits_content.ensures.stage yes))
 
 pub returns-then-awaits_content-clause-whole : goal.returns-then-awaits_content-clause-whole
-returns-then-awaits_content-clause-whole g c = c.take_content.ensures.whole c.args.tools.now.routes.now
+returns-then-awaits_content-clause-whole g c =
+    let yes = c.if-awaits_content.true in
+    c.take_content.ensures.whole c.args.tools.now.routes.now
+    (found_awaits c.args.tools.now.routes.now c.args.job.now c.requires.routed (c.awaits_content.ensures.route yes) (c.awaits_content.ensures.kind yes) (c.awaits_content.ensures.stage yes))

@@ -5,7 +5,7 @@ use Rattle.workers.specs.declared.outcome.Outcome.TheVariants as outcome
 use Rattle.workers.specs.Going.{HasGone}
 use Rattle.workers.proofs.Ended.{whole_said}
 use Rattle.workers.proofs.Gone.{made_after, said_by, worked_said}
-use Rattle.workers.proofs.Reasons.{stopped_reply, waiting_reply, went_reply}
+use Rattle.workers.proofs.Reasons.{closed_reply, stopped_reply, waiting_reply, went_reply}
 use Rattle.workers.proofs.step.say.Goals as goal
 
 pub returns-in-Accepted-clause-worked : goal.returns-in-Accepted-clause-worked
@@ -67,3 +67,7 @@ pub returns-in-Accepted-clause-whole : goal.returns-in-Accepted-clause-whole
 returns-in-Accepted-clause-whole g c = λ routes plans.
     whole_said _ routes _ _ c.args.job.now c.args.call.now c.args.last c.ask-answer.result c.accepted.result c.accepted.ensures.accepted (sym c.judge.ensures ∙ c.in-Accepted.is)
     c.requires.on c.ask-answer.ensures.told plans
+
+pub returns-in-Final-clause-whole : goal.returns-in-Final-clause-whole
+returns-in-Final-clause-whole g c = λ routes plans.
+    closed_reply _ routes _ _ c.args.job.now c.args.call.now c.ask-answer.result c.requires.on c.ask-answer.ensures.told

@@ -2,7 +2,7 @@ use Rattle.std.proofs.Common.{refl, sym, ◌∙◌}
 use Rattle.workers.specs.declared.outcome.Taken.TheVariants as taken
 use Rattle.workers.proofs.AtEnd.{take_ends}
 use Rattle.workers.proofs.Gone.{took_by, worked_took}
-use Rattle.workers.proofs.Reasons.{stopped_take, waiting_take}
+use Rattle.workers.proofs.Reasons.{closed_take, stopped_take, waiting_take}
 use Rattle.workers.proofs.step.take_content.Goals as goal
 
 pub returns-in-Item-clause-worked : goal.returns-in-Item-clause-worked
@@ -48,3 +48,7 @@ pub returns-clause-kept : goal.returns-clause-kept
 returns-clause-kept g c = λ routes w.
     took_by _ routes _ _ _ c.args.job.now c.ask.result (taken.Final c.in-Final.answer) (sym c.sort.ensures ∙ c.in-Final.is) w
     (take_ends c.args.connection.now.settings routes _ _ _ _ c.args.job.now c.ask.result c.ask.ensures.lawful c.ask.ensures.was w) c.ask.ensures.may c.ask.ensures.told c.ask.ensures.goes c.ask.ensures.full
+
+pub returns-clause-whole : goal.returns-clause-whole
+returns-clause-whole g c = λ routes w.
+    closed_take c.args.connection.now.settings routes _ _ _ _ c.args.job.now c.ask.result c.in-Final.answer (sym c.sort.ensures ∙ c.in-Final.is) c.ask.ensures.may c.ask.ensures.lawful c.ask.ensures.was w
