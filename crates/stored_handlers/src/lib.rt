@@ -3,13 +3,13 @@
 //! | route | kind | content | items |
 //! |---|---|---|---|
 //! | `echo` | request-response | any | the content |
-//! | `upper` | request-channel | any | the content, with `a` to `z` as capital letters |
-//! | `count` | request-stream | 1 to 9 ASCII digits | the numbers from 0 up to that of the content, which is left out |
+//! | `upper` | request-channel | any | the content, `a` to `z` as capitals |
+//! | `count` | request-stream | a number of 1 to 9 digits | 0 and on, as many as it says |
 //! | `drop` | fire-and-forget | any | none |
 //!
-//! Each of them is a [`Law`] that is called itself, so what it answers is the law's item. The promise to the layer
-//! above: the routes are these four, in this order, and a route is found by its name, byte by byte, and its
-//! kind together.
+//! Each of them is a [`Law`] that is called itself, so what it answers is the law's item. The
+//! promise to the layer above: the routes are these four, in this order, and a route is found by
+//! its name, byte by byte, and its kind together.
 //!
 //! It leaves out how a request carries a name, and what a request for no route is answered.
 #![tactic(auto)]
