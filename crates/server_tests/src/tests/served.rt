@@ -116,11 +116,21 @@ const ROWS: &[Row] = &[
     // No first frame for the lifetime.
     Row {
         plan: Plan {
-            later: 90_000,
+            moments: &[0, 90_000],
             ..PLAIN
         },
         served: Served::NoFirst(90_000),
         ..REFUSED
+    },
+    // Nothing after a SETUP for its lifetime: after the call began, the table was purged and the
+    // session was opened, all at 0.
+    Row {
+        plan: Plan {
+            moments: &[0, 0, 0, 90_000],
+            ..PLAIN
+        },
+        served: Served::Dead(0),
+        ..OPENED
     },
     // A SETUP that is cut off.
     Row {

@@ -39,8 +39,8 @@ pub struct Shared {
 pub struct Plan {
     /// Below 3.
     pub slot: u32,
-    /// What the clock gives from its second call on, in milliseconds. First it gives 0.
-    pub later: u64,
+    /// What the clock gives, in milliseconds; the last one again and again.
+    pub moments: &'static [u64],
     /// Whether the thread of the link answers jobs.
     pub works: bool,
     /// How many requests are granted, and 0 for no grant.
@@ -50,7 +50,7 @@ pub struct Plan {
 /// At the first slot, with a clock that stands still.
 pub const PLAIN: Plan = Plan {
     slot: 0,
-    later: 0,
+    moments: &[0],
     works: false,
     grant: 0,
 };
@@ -179,8 +179,9 @@ pub fn link<R: Abort>(rt: &R, alloc: Global, bytes: &[u8], after: After, fails: 
     MemLink::new(alloc, blob(rt, alloc, bytes), after, MOST, fails)
 }
 
-fn clock<R: Abort>(rt: &R, alloc: Global, later: u64) -> MemClock {
-    let moments = Vec::from_slice(alloc, &[0, later]).expect(rt, "there is memory");
+fn clock<R: Abort>(rt: &R, alloc: Global, moments: &[u64]) -> MemClock {
+    let moments = Vec::from_slice(alloc, moments).expect(rt, "there is memory");
+    assert!(rt; !moments.is_empty());
     MemClock::new(moments)
 }
 
@@ -209,7 +210,7 @@ pub fn serve<R: Abort + Wait, T: Tape>(
     requires new { IsNew (shown_of link.old) }
     ensures of { AreOf shared.now.settings connections.now callers.new }
 {
-    let clock = clock(rt, alloc, plan.later);
+    let clock = clock(rt, alloc, plan.moments);
     let mut jobs = work_of(alloc, plan.works);
     let grant = Amount::of(plan.grant);
     let served = serve_connection(
