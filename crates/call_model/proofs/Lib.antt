@@ -1,4 +1,5 @@
 pub mod Takes
+pub mod Fnf
 pub mod Ordering
 pub mod Links
 pub mod Ending

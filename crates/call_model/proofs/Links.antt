@@ -1,8 +1,9 @@
 -- What holds of links that were put back goes on, and is joined with what holds of the next one.
 use Rattle.std.proofs.lemmas.Bool.Decides.{nat_tests}
 use Rattle.std.specs.List.{AllByRecursion}
-use Rattle.std.proofs.Common.{◌≡◌, ◌==◌, ◌&&◌, ◌||◌, ◌⊎◌, ◌∙◌, ◌+◌, ◌<◌, ◌≤◌, ◌-◌, ◌^◌, ℕ, Bool, true, false, List, [], ◌∷◌, ◌++◌, length, refl, sym, ap, subst, arith}
+use Rattle.std.proofs.Common.{◌≡◌, ◌==◌, ◌&&◌, ◌||◌, ◌⊎◌, inl, inr, ◌∙◌, ◌+◌, ◌<◌, ◌≤◌, ◌-◌, ◌^◌, ℕ, Bool, true, false, nat_lt, List, [], ◌∷◌, ◌++◌, length, refl, sym, ap, subst, arith}
 use Rattle.rs_wire.specs.declared.settings.Settings.{Settings}
+use Rattle.outside.specs.Causes.{Rose}
 use Rattle.outside.specs.Links.{Shown}
 use Rattle.tape.specs.declared.event.Event.{Event}
 use Rattle.tape.specs.declared.event.Event.TheVariants as event
@@ -11,12 +12,12 @@ use Rattle.session_model.specs.Life.{openings}
 use Rattle.session_model.specs.Frames.{was_opened}
 use Rattle.session_model.specs.Legal.{Legal}
 use Rattle.link_model.specs.Carrying.{Carried, is_of}
-use Rattle.link_model.specs.Leaving.{Left}
+use Rattle.link_model.specs.Leaving.{IsBroken, Left}
 use Rattle.link_laws.proofs.StaysGood.{carried_on}
 use Rattle.link_laws.proofs.Leaving.{left_by_one}
 use Rattle.call_model.specs.Order.{is_tick, moves_only}
-use Rattle.call_model.specs.Timing.{IsTimely, moved, ticks_on}
-use Rattle.call_model.specs.Leaving.{AllButLastLeft, AreCarried, AreLeft, AreTimely, broken_in, is_broken, is_endless, lulls_in, one_if}
+use Rattle.call_model.specs.Timing.{HasFewTicks, IsAtTop, IsTimely, moved, ticks_on}
+use Rattle.call_model.specs.Leaving.{AllButLastLeft, AreCarried, AreLeft, AreTimely, HaveLulled, HaveTried, IsEndless, NoTryLeft, broken_in, is_broken, lulls_in, one_if}
 use Rattle.call_model.specs.Ran.{OfLast}
 
 -- ---- one entry
@@ -45,7 +46,7 @@ unfolding openings
 openings_on past x = omega arith
 
 pub timely_on : (past : List Entry) (x : Entry) (link : Shown) (c : ℕ) → c < openings past → IsTimely past link c → IsTimely (x ∷ past) link c
-timely_on past x link c lt timely given taken = subst (λ n. (n ≤ moved link + 2) ⊎ ((link.counts.lulls ≡ 2 ^ 64 - 1) ⊎ (link.counts.stalls ≡ 2 ^ 64 - 1))) (sym (ticks_later past x c lt)) (timely given taken)
+timely_on past x link c lt timely given taken = subst (λ n. (n ≤ moved link + 2) ⊎ IsAtTop link) (sym (ticks_later past x c lt)) (timely given taken)
 
 -- ---- all links before that of opening conn, which alone moves bytes
 
@@ -129,14 +130,84 @@ pub broken_more : (links : List Shown) (link : Shown) → broken_in (links ++ li
 broken_more [] link = omega arith
 broken_more (l ∷ links) link = let more = broken_more links link in omega (arith, more)
 
-either_or : (a b c : Bool) → (a || (b || c)) ≡ ((a || b) || c)
-either_or true b c = refl
-either_or false b c = refl
+endless_on : (links : List Shown) (s t : Shown) → s.counts.lulls ≤ t.counts.lulls → IsEndless (links ++ s ∷ []) → IsEndless (links ++ t ∷ [])
+endless_on [] s t le (inl top) = inl (omega (arith, le, top))
+endless_on [] s t le (inr none) = absurd none
+endless_on (l ∷ links) s t le (inl top) = inl top
+endless_on (l ∷ links) s t le (inr more) = inr (endless_on links s t le more)
 
-pub endless_more : (links : List Shown) (link : Shown) → is_endless (links ++ link ∷ []) ≡ (is_endless links || (link.counts.lulls == 2 ^ 64 - 1))
-endless_more [] link = either (link.counts.lulls == 2 ^ 64 - 1)
+endless_next : (links : List Shown) (link : Shown) → IsEndless links → IsEndless (links ++ link ∷ [])
+endless_next [] link none = absurd none
+endless_next (l ∷ links) link (inl top) = inl top
+endless_next (l ∷ links) link (inr more) = inr (endless_next links link more)
+
+endless_last : (links : List Shown) (link : Shown) → 2 ^ 64 - 1 ≤ link.counts.lulls → IsEndless (links ++ link ∷ [])
+endless_last [] link top = inl top
+endless_last (l ∷ links) link top = inr (endless_last links link top)
+
+-- the last link goes on
+pub lulled_on : (n : ℕ) (links : List Shown) (s t : Shown) → s.counts.lulls ≤ t.counts.lulls → HaveLulled n (links ++ s ∷ []) → HaveLulled n (links ++ t ∷ [])
+lulled_on n links s t le (inl few) = let a = lulls_more links s in let b = lulls_more links t in inl (omega (arith, few, le, a, b))
+lulled_on n links s t le (inr top) = inr (endless_on links s t le top)
+
+-- and lulls once more
+pub lulled_once : (m n : ℕ) (links : List Shown) (s t : Shown) → n ≤ m + 1 → s.counts.lulls ≤ t.counts.lulls → Rose s.counts.lulls t.counts.lulls → HaveLulled m (links ++ s ∷ []) → HaveLulled n (links ++ t ∷ [])
+lulled_once m n links s t one le rose (inr top) = inr (endless_on links s t le top)
+lulled_once m n links s t one le (inr top) (inl few) = inr (endless_last links t (omega (arith, top)))
+lulled_once m n links s t one le (inl lt) (inl few) = let a = lulls_more links s in let b = lulls_more links t in inl (omega (arith, few, lt, one, a, b))
+
+-- a link more
+pub lulled_next : (n : ℕ) (links : List Shown) (link : Shown) → HaveLulled n links → HaveLulled n (links ++ link ∷ [])
+lulled_next n links link (inl few) = let a = lulls_more links link in inl (omega (arith, few, a))
+lulled_next n links link (inr top) = inr (endless_next links link top)
+
+pub lulled_less : (m n : ℕ) (links : List Shown) → n ≤ m → HaveLulled m links → HaveLulled n links
+lulled_less m n links le (inl few) = inl (omega (arith, few, le))
+lulled_less m n links le (inr top) = inr top
+
+broken_one : (link : Shown) → IsBroken link → one_if (is_broken link) ≡ 1
+broken_one link (inl some) = let is : nat_lt 0 link.counts.faults ≡ true = grind (arith, nat_tests) in rw is refl
+broken_one link (inr some) = let is : nat_lt 0 link.counts.ends ≡ true = grind (arith, nat_tests) in rw is (either (nat_lt 0 link.counts.faults))
   where
-    either : (b : Bool) → (b || false) ≡ (false || b)
+    either : (b : Bool) → one_if (b || true) ≡ 1
     either true = refl
     either false = refl
-endless_more (l ∷ links) link = ap (λ b. (l.counts.lulls == 2 ^ 64 - 1) || b) (endless_more links link) ∙ either_or (l.counts.lulls == 2 ^ 64 - 1) (is_endless links) (link.counts.lulls == 2 ^ 64 - 1)
+
+-- a link that broke pays for a try
+pub tried_once : (tried tried' old mid new : ℕ) (links : List Shown) (link : Shown) → IsBroken link → mid ≤ new → (mid + tried' ≤ new + tried + 1) ⊎ (2 ^ 64 - 1 ≤ new) → HaveTried tried old mid links → HaveTried tried' old new (links ++ link ∷ [])
+tried_once tried tried' old mid new links link broken le used (inr top) = inr (omega (arith, le, top))
+tried_once tried tried' old mid new links link broken le (inr top) (inl few) = inr top
+tried_once tried tried' old mid new links link broken le (inl used) (inl few) = let more = broken_more links link in let one = broken_one link broken in inl (omega (arith, used, few, more, one))
+
+-- and where as many were made as there may be, none is left after it
+pub tried_out : (tried tried' tries old mid new : ℕ) (links : List Shown) (link : Shown) → IsBroken link → tries ≤ tried' → mid ≤ new → (mid + tried' ≤ new + tried + 0) ⊎ (2 ^ 64 - 1 ≤ new) → HaveTried tried old mid links → NoTryLeft tries old new (links ++ link ∷ [])
+tried_out tried tried' tries old mid new links link broken most le used (inr top) = inr (omega (arith, le, top))
+tried_out tried tried' tries old mid new links link broken most le (inr top) (inl few) = inr top
+tried_out tried tried' tries old mid new links link broken most le (inl used) (inl few) = let more = broken_more links link in let one = broken_one link broken in inl (omega (arith, used, few, more, one, most))
+
+-- ---- ticks
+
+-- a connection that was not opened has none
+pub ticks_none : (past : List Entry) (c : ℕ) → openings past < c → ticks_on past c ≡ 0
+unfolding ticks_on
+ticks_none [] c lt = refl
+ticks_none (x ∷ past) c lt =
+    let on = openings_on past x in
+    let before = ticks_none past c (omega (arith, on, lt)) in
+    let other : (openings past == c) ≡ false = grind (arith, nat_tests) in
+    rw (other, never (is_tick x.event)) (omega (arith, before))
+
+pub few_later : (few more : ℕ) (past : List Entry) (link : Shown) (c : ℕ) → few ≤ more → HasFewTicks few past link c → HasFewTicks more past link c
+few_later few more past link c le h given taken = by (h given taken)
+  where
+    by : (ticks_on past c ≤ moved link + few) ⊎ IsAtTop link → (ticks_on past c ≤ moved link + more) ⊎ IsAtTop link
+    by (inl is) = inl (omega (arith, is, le))
+    by (inr top) = inr top
+
+-- entries with so many ticks on connection c
+pub few_on : (few n : ℕ) (past new : List Entry) (link : Shown) (c : ℕ) → ticks_on new c ≤ ticks_on past c + n → HasFewTicks few past link c → HasFewTicks (few + n) new link c
+few_on few n past new link c le h given taken = by (h given taken)
+  where
+    by : (ticks_on past c ≤ moved link + few) ⊎ IsAtTop link → (ticks_on new c ≤ moved link + (few + n)) ⊎ IsAtTop link
+    by (inl is) = inl (omega (arith, is, le))
+    by (inr top) = inr top

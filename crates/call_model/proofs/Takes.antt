@@ -46,7 +46,7 @@ unfolding taken
 said_same None by step = refl
 said_same (Some t) by step = refl
 
-here_or_not : (P : ℕ → Type 0) (q s : ℕ) (same : Bool) → (q == s) ≡ same → (q ≡ s → P q) → (same ≡ false → P q) → P q
+pub here_or_not : (P : ℕ → Type 0) (q s : ℕ) (same : Bool) → (q == s) ≡ same → (q ≡ s → P q) → (same ≡ false → P q) → P q
 here_or_not P q s true is here there = here (eqb-true q s is)
 here_or_not P q s false is here there = there refl
 

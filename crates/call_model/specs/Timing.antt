@@ -30,7 +30,14 @@ length_shown (Some bytes) = length bytes
 abbrev pub moved : Shown → ℕ
 moved link = link.counts.lulls + link.counts.stalls + length_shown link.given + length_shown link.taken
 
--- two Ticks at most more than that, of a link that shows its bytes and whose counts are not at their end
+-- a count of the link's lulls or of its stalls stands where a u64 ends
+abbrev pub IsAtTop : Shown → Type 0
+IsAtTop link = (2 ^ 64 - 1 ≤ link.counts.lulls) ⊎ (2 ^ 64 - 1 ≤ link.counts.stalls)
+
+-- so many Ticks at most more than that, of a link that shows its bytes and whose counts are not at their end
+abbrev pub HasFewTicks : ℕ → List Entry → Shown → ℕ → Type 0
+HasFewTicks few past link c = is_some link.given ≡ true → is_some link.taken ≡ true → (ticks_on past c ≤ moved link + few) ⊎ IsAtTop link
+
+-- two at most
 abbrev pub IsTimely : List Entry → Shown → ℕ → Type 0
-IsTimely past link c = is_some link.given ≡ true → is_some link.taken ≡ true
-    → (ticks_on past c ≤ moved link + 2) ⊎ ((link.counts.lulls ≡ 2 ^ 64 - 1) ⊎ (link.counts.stalls ≡ 2 ^ 64 - 1))
+IsTimely past link c = HasFewTicks 2 past link c

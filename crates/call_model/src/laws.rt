@@ -1,11 +1,11 @@
 //! Laws of calls. Entries stand newest first.
 
-ghost use Rattle.std.specs.Prelude.{◌≡◌, ◌<◌, ◌≤◌, ◌+◌, ◌++◌, ◌∷◌, [], ℕ, Option, length, List, None, false, true};
+ghost use Rattle.std.specs.Prelude.{◌≡◌, ◌<◌, ◌≤◌, ◌+◌, ◌++◌, ◌∷◌, [], ℕ, Option, length, List, None, Some, false, true};
 ghost use Rattle.rs_wire.specs.declared.settings.Settings.{Settings};
 ghost use Rattle.rs_wire.specs.declared.call.Call.TheVariants as call;
 ghost use Rattle.tape.specs.declared.entry.Entry.{Entry};
 ghost use Rattle.tape.specs.declared.event.Event.TheVariants as event;
-ghost use Rattle.stream_model.specs.Turns.{Turn, taken};
+ghost use Rattle.stream_model.specs.Turns.{Turn, is_fnf, taken};
 ghost use Rattle.session_model.specs.Answers.{answer_to};
 ghost use Rattle.session_model.specs.Lists.{IsPrefix};
 ghost use Rattle.session_laws.specs.Streams.{IsLawful, IsStream};
@@ -72,7 +72,8 @@ pub fn calls_go_on()
 {}
 
 /// What was taken of a stream is what its words say; it is a prefix of what was delivered on it,
-/// and all of it where a Take gets nothing.
+/// and all of it where a Take gets nothing, or where the call is a fire-and-forget, which delivers
+/// nothing.
 pub fn takes_are_delivered()
     ensures taken { (g : Settings) (past : List Entry) (s : ℕ) (t : Turn) →
         IsStream g past s t → got_on past s ≡ taken t.words }
@@ -80,5 +81,8 @@ pub fn takes_are_delivered()
         IsPrefix (got_on past s) (delivered_on g past s) }
     ensures all { (g : Settings) (past : List Entry) (s : ℕ) → IsLawful g past →
         GetsNothing (answer_to g past (event.Asked (call.Take s))) →
+        got_on past s ≡ delivered_on g past s }
+    ensures fnf { (g : Settings) (w : Asking) (past : List Entry) (s : ℕ) → IsLawful g past →
+        InOrder w past → is_fnf w.kind ≡ true → started past ≡ Some s →
         got_on past s ≡ delivered_on g past s }
 {}

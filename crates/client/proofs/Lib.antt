@@ -1,6 +1,9 @@
 pub mod Alone
 pub mod Opening
+pub mod Dialing
+pub mod Waits
 pub mod OverTurns
+pub mod OverCounts
 pub mod OverTakes
 pub mod OverEnds
 pub mod OverSteps

@@ -12,7 +12,7 @@ use Rattle.link_model.proofs.Fresh.{is_carried}
 use Rattle.pump.specs.declared.turned.Turned.{Turned}
 use Rattle.pump.specs.declared.turned.Turned.TheVariants as turned
 use Rattle.pump.specs.Turns.{is_early}
-use Rattle.call_model.specs.Leaving.{AreCarried, AreLeft, GotBack}
+use Rattle.call_model.specs.Leaving.{AreCarried, AreLeft, AreTimely, GotBack}
 use Rattle.call_model.specs.Order.{Asking}
 use Rattle.call_model.specs.Present.{IsServed}
 use Rattle.call_model.specs.Ran.{HasPlace, cause_line}
@@ -21,6 +21,7 @@ use Rattle.call_model.proofs.Present.{served_drawn}
 use Rattle.session_laws.specs.Streams.{IsLawful}
 use Rattle.client.specs.Calling.{EndsBy, GoesFrom, GoesOn, HasEndedBy, IsUnderWay, StopsFrom, is_finished}
 use Rattle.client.specs.Clients.{refused_for}
+use Rattle.client.specs.Counting.{HasUsedUp, IsCounted}
 use Rattle.client.specs.Turning.{HasStepped}
 use Rattle.client.specs.Takes.{HasPrinted}
 use Rattle.client.specs.declared.called.Called.{Called}
@@ -58,13 +59,13 @@ got_none None = refl
 got_none (Some links) = ap Some (sym (append-nil links))
 
 -- over the same link, with this call
-pub goes_here : (w : Asking) (moments : Option (List ℕ)) (g : Settings) (past new : List Entry) (t : Shown) (first conn : ℕ) (shown : Option Shown) (k k1 : Calling) (r : Turned) (out out' : List ℕ) (links : List Shown) (back : Option (List Shown))
-    → IsLawful g new → IsUnderWay w moments first g past conn shown k links → HasStepped w moments g past new t conn k1.pump k1.stream k1.fresh k.full r false out out' → k1.request ≡ k.request → k1.pump.conn ≡ conn → k1.full ≡ k.full → is_early r ≡ false
-    → GoesFrom w moments first g past new conn (Some t) k1 links back back out out'
-goes_here w moments g past new t first conn shown k k1 r out out' links back lawful u h request at full late = record {
+pub goes_here : (w : Asking) (moments : Option (List ℕ)) (base faults faults' : ℕ) (g : Settings) (past new : List Entry) (t : Shown) (first conn : ℕ) (shown : Option Shown) (k k1 : Calling) (r : Turned) (out out' : List ℕ) (links : List Shown) (back : Option (List Shown))
+    → IsLawful g new → IsUnderWay w moments base faults first g past conn shown k links → HasStepped w moments g past new t conn k1.pump k1.stream k1.fresh k.full r false out out' → k1.request ≡ k.request → k1.pump.conn ≡ conn → k1.full ≡ k.full → is_early r ≡ false → IsCounted base faults' first g new conn t k1 links
+    → GoesFrom w moments base faults' first g past new conn (Some t) k1 links back back out out'
+goes_here w moments base faults faults' g past new t first conn shown k k1 r out out' links back lawful u h request at full late counted = record {
   more = [];
   got = got_none back;
-  under_way = subst (IsUnderWay w moments first g new conn (Some t) k1) (sym (append-nil links)) (record {
+  under_way = subst (IsUnderWay w moments base faults' first g new conn (Some t) k1) (sym (append-nil links)) (record {
     request = request ∙ u.request;
     link = t;
     has = refl;
@@ -82,6 +83,7 @@ goes_here w moments g past new t first conn shown k k1 r out out' links back law
     number = u.number;
     carried = λ place. are_firsts new first links t (stepped_carried w moments g past new u.link t first conn k.pump k1.pump k1.stream k1.fresh k.full r false out out' links u.some u.number u.ready.served u.carried h place);
     left = stepped_left w moments g past new u.link t first conn k.pump k1.pump k1.stream k1.fresh k.full r false out out' links u.some u.number lawful u.ready.served u.left h;
+    counted = counted;
   });
   prints = h.prints;
 }
@@ -91,16 +93,16 @@ goes_here w moments g past new t first conn shown k k1 r out out' links back law
     are_firsts past c (l ∷ links) last h = (h.0, are_firsts past (c + 1) links last h.1)
 
 -- what is taken is dropped from now on
-pub full_here : (w : Asking) (moments : Option (List ℕ)) (g : Settings) (past new : List Entry) (t : Shown) (first conn : ℕ) (shown : Option Shown) (k k1 : Calling) (out out' : List ℕ) (links : List Shown) (back : Option (List Shown))
-    → IsLawful g new → IsUnderWay w moments first g past conn shown k links → HasStepped w moments g past new t conn k1.pump k1.stream k1.fresh k.full turned.TapeFull false out out' → k1.request ≡ k.request → k1.pump.conn ≡ conn → k1.full ≡ true
-    → GoesFrom w moments first g past new conn (Some t) k1 links back back out out'
-full_here w moments g past new t first conn shown k k1 out out' links back lawful u h request at full =
+pub full_here : (w : Asking) (moments : Option (List ℕ)) (base faults faults' : ℕ) (g : Settings) (past new : List Entry) (t : Shown) (first conn : ℕ) (shown : Option Shown) (k k1 : Calling) (out out' : List ℕ) (links : List Shown) (back : Option (List Shown))
+    → IsLawful g new → IsUnderWay w moments base faults first g past conn shown k links → HasStepped w moments g past new t conn k1.pump k1.stream k1.fresh k.full turned.TapeFull false out out' → k1.request ≡ k.request → k1.pump.conn ≡ conn → k1.full ≡ true → IsCounted base faults' first g new conn t k1 links
+    → GoesFrom w moments base faults' first g past new conn (Some t) k1 links back back out out'
+full_here w moments base faults faults' g past new t first conn shown k k1 out out' links back lawful u h request at full counted =
     let most : 2 ^ 63 ≤ length new = h.says refl in
     let off : HasPlace new → ⊥ = λ place. omega (arith, most, place) in
     record {
       more = [];
       got = got_none back;
-      under_way = subst (IsUnderWay w moments first g new conn (Some t) k1) (sym (append-nil links)) (record {
+      under_way = subst (IsUnderWay w moments base faults' first g new conn (Some t) k1) (sym (append-nil links)) (record {
         request = request ∙ u.request;
         link = t;
         has = refl;
@@ -124,35 +126,41 @@ full_here w moments g past new t first conn shown k k1 out out' links back lawfu
         number = u.number;
         carried = λ place. absurd (off place);
         left = λ place. absurd (off place);
+        counted = counted;
       });
       prints = h.prints;
     }
 
 -- ---- the call has come to something here
 
-pub stops_here : (r' : Called) (w : Asking) (moments : Option (List ℕ)) (lulls : ℕ) (g : Settings) (past new : List Entry) (t : Shown) (first conn : ℕ) (shown : Option Shown) (k : Calling) (d : Between) (stream : Option ℕ) (fresh : ℕ) (r : Turned) (ended : Bool) (out out' : List ℕ) (links : List Shown) (back : Option (List Shown))
-    → IsLawful g new → IsUnderWay w moments first g past conn shown k links → HasStepped w moments g past new t conn d stream fresh k.full r ended out out' → ended ≡ is_finished r' → EndsBy r' w.kind lulls g new t conn
-    → StopsFrom r' w moments lulls first g past new (Some t) links back back out out'
-stops_here r' w moments lulls g past new t first conn shown k d stream fresh r ended out out' links back lawful u h same why = record {
+pub stops_here : (r' : Called) (w : Asking) (moments : Option (List ℕ)) (lulls tries base faults faults' : ℕ) (g : Settings) (past new : List Entry) (t : Shown) (first conn : ℕ) (shown : Option Shown) (k : Calling) (d : Between) (stream : Option ℕ) (fresh : ℕ) (r : Turned) (ended : Bool) (out out' : List ℕ) (links : List Shown) (back : Option (List Shown))
+    → IsLawful g new → IsUnderWay w moments base faults first g past conn shown k links → HasStepped w moments g past new t conn d stream fresh k.full r ended out out' → ended ≡ is_finished r' → EndsBy r' w.kind lulls g new t conn
+    → AreTimely new first (links ++ t ∷ []) → HasUsedUp r' tries base faults' (links ++ t ∷ [])
+    → StopsFrom r' w moments lulls tries base faults' first g past new (Some t) links back back out out'
+stops_here r' w moments lulls tries base faults faults' g past new t first conn shown k d stream fresh r ended out out' links back lawful u h same why timely used = record {
   more = [];
   last = t;
   got = inl (refl, got_none back);
   number = conn;
-  ended = subst (λ ls. HasEndedBy r' w moments lulls first conn g past new ls t out out') (sym (append-nil links)) (record {
+  ended = subst (λ ls. HasEndedBy r' w moments lulls tries base faults' first conn g past new ls t out out') (sym (append-nil links)) (record {
     order = h.stands.order;
     timed = h.stands.timed;
     number = u.number;
+    opened = h.served.joined.last;
     carried = stepped_carried w moments g past new u.link t first conn k.pump d stream fresh k.full r ended out out' links u.some u.number u.ready.served u.carried h;
     left = stepped_left w moments g past new u.link t first conn k.pump d stream fresh k.full r ended out out' links u.some u.number lawful u.ready.served u.left h;
     prints = subst (λ e. HasPrinted w.kind e past new out out') same h.prints;
     why = why;
+    timely = timely;
+    used_up = used;
   });
 }
 
-pub finished_here : (w : Asking) (moments : Option (List ℕ)) (lulls : ℕ) (g : Settings) (past new : List Entry) (t : Shown) (first conn : ℕ) (shown : Option Shown) (k : Calling) (d : Between) (stream : Option ℕ) (fresh : ℕ) (r : Turned) (out out' : List ℕ) (links : List Shown) (back : Option (List Shown))
-    → IsLawful g new → IsUnderWay w moments first g past conn shown k links → HasStepped w moments g past new t conn d stream fresh k.full r true out out' → StopsFrom called.Finished w moments lulls first g past new (Some t) links back back out out'
-finished_here w moments lulls g past new t first conn shown k d stream fresh r out out' links back lawful u h =
-    stops_here called.Finished w moments lulls g past new t first conn shown k d stream fresh r true out out' links back lawful u h refl h.ends
+pub finished_here : (w : Asking) (moments : Option (List ℕ)) (lulls tries base faults faults' : ℕ) (g : Settings) (past new : List Entry) (t : Shown) (first conn : ℕ) (shown : Option Shown) (k : Calling) (d : Between) (stream : Option ℕ) (fresh : ℕ) (r : Turned) (out out' : List ℕ) (links : List Shown) (back : Option (List Shown))
+    → IsLawful g new → IsUnderWay w moments base faults first g past conn shown k links → HasStepped w moments g past new t conn d stream fresh k.full r true out out' → AreTimely new first (links ++ t ∷ [])
+    → StopsFrom called.Finished w moments lulls tries base faults' first g past new (Some t) links back back out out'
+finished_here w moments lulls tries base faults faults' g past new t first conn shown k d stream fresh r out out' links back lawful u h timely =
+    stops_here called.Finished w moments lulls tries base faults faults' g past new t first conn shown k d stream fresh r true out out' links back lawful u h refl h.ends timely tt
 
 -- the end has not come
 pub still_goes : (w : Asking) (moments : Option (List ℕ)) (g : Settings) (past new : List Entry) (t : Shown) (conn : ℕ) (d : Between) (stream : Option ℕ) (fresh : ℕ) (full : Bool) (r : Turned) (out out' : List ℕ) → HasStepped w moments g past new t conn d stream fresh full r false out out' → GoesOn w.kind g new t conn

@@ -1,5 +1,5 @@
 -- The first step of a call whose caller is alone: its request, right after the first opening.
-use Rattle.std.proofs.Common.{◌≡◌, ◌<◌, ◌⊎◌, ◌||◌, inl, inr, ◌∙◌, ℕ, Bool, true, false, true≢false, cond, List, [], ◌∷◌, Option, Some, None, Ok, refl, sym, ap, subst, arith, ltb}
+use Rattle.std.proofs.Common.{◌≡◌, ◌<◌, ◌+◌, ◌^◌, ◌⊎◌, ◌||◌, inl, inr, ◌∙◌, ℕ, Bool, true, false, true≢false, cond, List, [], ◌∷◌, Option, Some, None, Ok, refl, sym, ap, subst, arith, ltb}
 use Rattle.rs_wire.specs.declared.settings.Settings.{Settings}
 use Rattle.rs_wire.specs.declared.words.Kind.{Kind}
 use Rattle.rs_wire.specs.declared.words.Kind.TheVariants as kind
@@ -30,7 +30,11 @@ use Rattle.session_laws.specs.Streams.{IsLawful}
 use Rattle.conn_shared.specs.Members.{Knowledge}
 use Rattle.link_model.specs.Carrying.{Between}
 use Rattle.link_model.specs.Leaving.{displaced}
-use Rattle.call_model.specs.Order.{Asking, InOrder, MayAsk, MayFollow, next_call, request_of}
+use Rattle.call_model.specs.Leaving.{HaveLulled, HaveTried}
+use Rattle.call_model.specs.Order.{Asking, InOrder, MayAsk, MayFollow, is_tick, next_call, request_of}
+use Rattle.call_model.specs.Timing.{ticks_on}
+use Rattle.call_model.proofs.Links.{ticks_none}
+use Rattle.pump.specs.Turns.{IsEmptied}
 use Rattle.call_model.specs.Present.{IsServed}
 use Rattle.call_model.specs.Ran.{HasPlace}
 use Rattle.call_model.specs.Saying.{delivered_of, delivered_on, got_in, got_on, said, started, started_in}
@@ -42,6 +46,7 @@ use Rattle.client.specs.Clients.{HasAsked}
 use Rattle.client.specs.Takes.{IsTakenIn}
 use Rattle.client.specs.declared.calling.Calling.{Calling}
 use Rattle.client.proofs.Alone.{Adds, IsSame, own_call, own_lawful}
+use Rattle.client.proofs.OverCounts.{adds_no_tick, no_tick, none_long, none_whole}
 use Rattle.client.proofs.OverSteps.{HasPaid, Waits, asked_so, asks_served, asks_still}
 
 -- ---- before the first opening
@@ -75,6 +80,13 @@ order_of w x past h = h.0
 opens_some : (x : Entry) (past : List Entry) → x.event ≡ event.Open None false → 0 < openings (x ∷ past)
 unfolding openings
 opens_some x past is = rw is (omega arith)
+
+-- no tick stands after the first opening
+begun_ticks : (past : List Entry) (x : Entry) (c : ℕ) → x.event ≡ event.Open None false → openings (x ∷ past) ≡ c → ticks_on (x ∷ past) c ≡ 0
+unfolding openings
+begun_ticks past x c is last =
+    let one : openings (x ∷ past) ≡ openings past + 1 = rw is (omega arith) in
+    no_tick past x c (ap is_tick is) ∙ ticks_none past c (omega (arith, one, last))
 
 -- ---- a stream that was just started
 
@@ -142,9 +154,9 @@ next_now : (w : Asking) (x : Entry) (past : List Entry) (c : ℕ) → x.answer �
 next_now w x past c is closed = rw (is, closed) refl
 
 pub starts : (w : Asking) (moments : Option (List ℕ)) (was now : Knowledge) (conn : ℕ) (present : Option Shown) (k : Calling) (most : ℕ) → IsSame was now → HasAsked was (request_of w) (Ok tt) None k.stream now.front
-    → k.request ≡ request_of w → k.pump ≡ record { conn = conn; left = []; rest = []; max_in = most; bad = false } → k.fresh ≡ 0 → k.full ≡ false → 0 < w.count → IsOwn now
-    → IsOwn was × (CanBegin w moments was.front conn present → IsUnderWay w moments conn was.of.settings now.front conn present k [] × (said w.kind false now.front ≡ said w.kind false was.front))
-starts w moments was now conn present k most same asked request pump zero full some own = (h.0, by)
+    → k.request ≡ request_of w → k.pump ≡ record { conn = conn; left = []; rest = []; max_in = most; bad = false } → k.fresh ≡ 0 → k.full ≡ false → k.met ≡ 0 → k.tried ≡ 0 → most < 2 ^ 24 → 0 < w.count → IsOwn now
+    → IsOwn was × ((base : ℕ) → CanBegin w moments was.front conn present → IsUnderWay w moments base base conn was.of.settings now.front conn present k [] × (said w.kind false now.front ≡ said w.kind false was.front))
+starts w moments was now conn present k most same asked request pump zero full none_met none_tried short some own = (h.0, by)
   where
     g : Settings
     g = was.of.settings
@@ -158,8 +170,8 @@ starts w moments was now conn present k most same asked request pump zero full s
     adds : Adds was (event.Asked (request_of w)) asked.came.answer now.front
     adds = (own_call g was now (event.Asked (request_of w)) asked.came.answer refl same asked.came.called own).1
 
-    by : CanBegin w moments was.front conn present → IsUnderWay w moments conn g now.front conn present k [] × (said w.kind false now.front ≡ said w.kind false was.front)
-    by can =
+    by : (base : ℕ) → CanBegin w moments was.front conn present → IsUnderWay w moments base base conn g now.front conn present k [] × (said w.kind false now.front ≡ said w.kind false was.front)
+    by base can =
         let b = can.begins in
         let link = can.link in
         let order = can.order in
@@ -176,7 +188,8 @@ starts w moments was now conn present k most same asked request pump zero full s
         (served_opened g b.before b.entry link conn most legal_x b.event b.answered can.new_link))) in
         let still : displaced was.front conn ≡ false = subst (λ (l : List Entry). displaced l conn ≡ false) (sym b.is) (still_opened g b.before b.entry conn legal_x b.event b.answered) in
         let last : openings was.front ≡ conn = served.joined.last in
-        let above : 0 < conn = some_opening was.front b last in (
+        let above : 0 < conn = some_opening was.front b last in
+        let no_ticks : ticks_on now.front conn ≡ 0 = adds_no_tick was (event.Asked (request_of w)) asked.came.answer now.front conn refl adds ∙ (ap (λ (l : List Entry). ticks_on l conn) b.is ∙ begun_ticks b.before b.entry conn b.event (sym (ap openings b.is) ∙ last)) in (
           record {
             request = request;
             link = link;
@@ -195,6 +208,14 @@ starts w moments was now conn present k most same asked request pump zero full s
             number = omega arith;
             carried = λ place. tt;
             left = λ place. tt;
+            counted = record {
+              tried = subst (λ n. HaveTried n base base []) (sym none_tried) (inl (omega arith));
+              met = subst (λ n. HaveLulled n (link ∷ [])) (sym none_met) (inl (omega arith));
+              timely = tt;
+              ticks = λ given taken. inl (let zero = no_ticks in omega (arith, zero));
+              sure = λ off. inl (subst IsEmptied (sym pump) (inr (none_whole most, none_long most)));
+              short = subst (λ (z : Between). z.max_in < 2 ^ 24) (sym pump) short;
+            };
           },
           p.same w.kind,
         )

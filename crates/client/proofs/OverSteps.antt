@@ -49,8 +49,10 @@ use Rattle.client.specs.Alone.{IsOwn}
 use Rattle.client.specs.Answered.{asked_by}
 use Rattle.client.specs.Clients.{AsksSo, HasAsked, IsNoted, stream_after}
 use Rattle.client.specs.declared.calls.Asked.{Asked}
+use Rattle.client.specs.Counting.{HasCounted}
 use Rattle.client.specs.Takes.{AddsRefused, AsksMore, EndsNow, EndsSo, IsTakenIn, TakesFor, is_call, is_refused}
 use Rattle.client.specs.Turning.{Drops, DropsFor, HasStepped, HasTurned, IsReady, SaysOf, TurnsSo}
+use Rattle.client.proofs.OverCounts.{counted_calls, counted_so}
 use Rattle.client.proofs.Alone.{Adds, IsSame, own_before, own_call, own_lawful}
 use Rattle.client.proofs.OverTakes.{asks_adds, asks_none, same_both, settings_of}
 use Rattle.client.proofs.OverTurns.{all_both, has_turned, rose_some}
@@ -386,7 +388,7 @@ pub has_stepped : (w : Asking) (moments : Option (List ℕ)) (kind : Kind) (coun
     → was.of.settings.side ≡ Client → IsSame was k1 → IsSame k1 k2 → IsSame k2 now → b.conn ≡ c → b.max_in ≡ was.of.settings.max_in → w.kind ≡ kind → w.count ≡ count
     → TurnsSo full moments was k1 s t b d r → AsksSo r (request_of w) k1 stream stream' k2.front
     → (IsOwn now → IsOwn k2 × ((link : Shown) → HasDrawnAll k2.of.settings k2.front link c d.left → TakesFor ended kind count k2.of.settings link c stream' k2.front now.front fresh fresh' out out'))
-    → IsOwn now → IsOwn was × (IsReady w moments was.of.settings was.front s c b stream fresh full → HasStepped w moments was.of.settings was.front now.front t c d stream' fresh' full r ended out out')
+    → IsOwn now → IsOwn was × (IsReady w moments was.of.settings was.front s c b stream fresh full → HasStepped w moments was.of.settings was.front now.front t c d stream' fresh' full r ended out out' × (b.max_in < 2 ^ 24 → HasCounted was.of.settings was.front now.front s t c b d full r))
 has_stepped w moments kind count was k1 k2 now s t c b d stream stream' fresh fresh' full r ended out out' client same1 same2 same3 at limit is_kind is_count turns asks takes own =
     let taken = takes own in
     let asked = asks_so w moments was.of.settings was.front k1 k2 t b.conn d stream stream' fresh full r same2 asks taken.0 in
@@ -405,7 +407,7 @@ has_stepped w moments kind count was k1 k2 now s t c b d stream stream' fresh fr
 
     by : IsOwn k2 → IsOwn k1 → ((link : Shown) → HasDrawnAll k2.of.settings k2.front link c d.left → TakesFor ended kind count k2.of.settings link c stream' k2.front now.front fresh fresh' out out')
         → (HasTurned w moments g was.front k1.front t b.conn d stream fresh full r → HasPaid w moments k1.front k2.front stream stream' fresh × (r ≡ turned.Lull → k2.front ≡ k1.front))
-        → HasTurned w moments g was.front k1.front t b.conn d stream fresh full r → (HasPlace was.front → IsTakenIn kind g was.front) → HasStepped w moments g was.front now.front t c d stream' fresh' full r ended out out'
+        → HasTurned w moments g was.front k1.front t b.conn d stream fresh full r → (HasPlace was.front → IsTakenIn kind g was.front) → HasStepped w moments g was.front now.front t c d stream' fresh' full r ended out out' × (b.max_in < 2 ^ 24 → HasCounted g was.front now.front s t c b d full r)
     by own2 own1 takes asks turned whole =
         let a = asks turned in
         let p = a.0 in
@@ -416,29 +418,31 @@ has_stepped w moments kind count was k1 k2 now s t c b d stream stream' fresh fr
         let k : TakesFor ended kind count g t c stream' k2.front now.front fresh fresh' out out' = subst (λ (z : Settings). TakesFor ended kind count z t c stream' k2.front now.front fresh fresh' out out') st (takes t (subst (λ (z : Settings). HasDrawnAll z k2.front t c d.left) (sym st) drawn2)) in
         let knows = p.stands.knows in
         let both = asks_both k1.front k2.front now.front p.asks k.asks in
-        let on1 : k1.front ≡ turned.more ++ was.front = turned.on in
-        record {
-          more = both.more ++ turned.more;
-          on = both.on ∙ (ap (λ (l : List Entry). both.more ++ l) on1 ∙ sym (append_assoc both.more turned.more was.front));
-          only = all_both (λ x. moves_only c x.event ≡ true) both.more turned.more (asks_only c k1.front now.front both) (subst (λ n. AllByRecursion (λ x. moves_only n x.event ≡ true) turned.more) at turned.only);
-          stands = k.stands w moments is_kind is_count p.stands;
-          served = asks_served g k2.front now.front t c d full k.asks served2;
-          still = λ late place. asks_still g k1.front now.front c lawful.legal both (subst (λ n. displaced k1.front n ≡ false) at (turned.still late (place_before k1.front now.front both place)));
-          paid = λ place none. ap owes_request (k.none none) ∙ p.paid (place_before k2.front now.front k.asks place) none;
-          says = λ goes. says_on g k1.front now.front t c d full r lawful.legal (subst (λ n. IsServed g k1.front t n d full) at turned.served) both
-              (λ lull place.
-              let one = a.1 lull in
-              let before : HasPlace was.front = before_more was.front k1.front turned.more on1 place in
-              let in_whole : IsTakenIn kind g k2.front = subst (IsTakenIn kind g) (sym one) (turned.takes lull kind (whole before)) in
-              subst (λ (l : List Entry). AddsRefused l now.front) one (k.idle goes knows in_whole))
-              (subst (λ n. SaysOf g k1.front t n r) at turned.says);
-          prints = (let q = k.prints knows in record {
-            more = q.more;
-            printed = q.printed;
-            says = subst (λ (z : Kind). said z ended now.front ≡ said z false was.front ++ q.more) (sym is_kind) (q.says ∙ ap (λ (l : List ℕ). l ++ q.more) (p.same kind ∙ turned.same kind));
-          });
-          ends = subst (λ (z : Kind). EndsNow ended z g now.front t c) (sym is_kind) (ends_now ended p.unended (k.ends knows));
-        }
+        let on1 : k1.front ≡ turned.more ++ was.front = turned.on in (
+          record {
+            more = both.more ++ turned.more;
+            on = both.on ∙ (ap (λ (l : List Entry). both.more ++ l) on1 ∙ sym (append_assoc both.more turned.more was.front));
+            only = all_both (λ x. moves_only c x.event ≡ true) both.more turned.more (asks_only c k1.front now.front both) (subst (λ n. AllByRecursion (λ x. moves_only n x.event ≡ true) turned.more) at turned.only);
+            stands = k.stands w moments is_kind is_count p.stands;
+            served = asks_served g k2.front now.front t c d full k.asks served2;
+            still = λ late place. asks_still g k1.front now.front c lawful.legal both (subst (λ n. displaced k1.front n ≡ false) at (turned.still late (place_before k1.front now.front both place)));
+            paid = λ place none. ap owes_request (k.none none) ∙ p.paid (place_before k2.front now.front k.asks place) none;
+            says = λ goes. says_on g k1.front now.front t c d full r lawful.legal (subst (λ n. IsServed g k1.front t n d full) at turned.served) both
+                (λ lull place.
+                let one = a.1 lull in
+                let before : HasPlace was.front = before_more was.front k1.front turned.more on1 place in
+                let in_whole : IsTakenIn kind g k2.front = subst (IsTakenIn kind g) (sym one) (turned.takes lull kind (whole before)) in
+                subst (λ (l : List Entry). AddsRefused l now.front) one (k.idle goes knows in_whole))
+                (subst (λ n. SaysOf g k1.front t n r) at turned.says);
+            prints = (let q = k.prints knows in record {
+              more = q.more;
+              printed = q.printed;
+              says = subst (λ (z : Kind). said z ended now.front ≡ said z false was.front ++ q.more) (sym is_kind) (q.says ∙ ap (λ (l : List ℕ). l ++ q.more) (p.same kind ∙ turned.same kind));
+            });
+            ends = subst (λ (z : Kind). EndsNow ended z g now.front t c) (sym is_kind) (ends_now ended p.unended (k.ends knows));
+          },
+          λ short. counted_calls g was.front k1.front now.front s t c b d full r both (subst (λ n. HasCounted g was.front k1.front s t n b d full r) at (counted_so moments was k1 s t b d full r same1 short own1 turns)),
+        )
       where
         before_more : (past new more : List Entry) → new ≡ more ++ past → HasPlace new → HasPlace past
         before_more past new more on place = let sum = ap length on ∙ length-append more past in omega (arith, place, sum)
@@ -469,13 +473,15 @@ pub stepped_by : (w : Asking) (moments : Option (List ℕ)) (kind : Kind) (count
     → conn2 ≡ c → left2 ≡ d.left → stream1 ≡ stream → fresh2 ≡ fresh → out2 ≡ out → d3 ≡ d → stream3 ≡ stream2
     → TurnsSo full moments was k1 s t b d r → AsksSo r (request_of w) k1 stream1 stream2 k2.front
     → (IsOwn now → IsOwn k2 × ((link : Shown) → HasDrawnAll k2.of.settings k2.front link conn2 left2 → TakesFor ended kind count k2.of.settings link conn2 stream2 k2.front now.front fresh2 fresh' out2 out'))
-    → IsOwn now → IsOwn was × (IsReady w moments was.of.settings was.front s c b stream fresh full → HasStepped w moments was.of.settings was.front now.front t c d3 stream3 fresh' full r ended out out')
+    → IsOwn now → IsOwn was × (IsReady w moments was.of.settings was.front s c b stream fresh full → HasStepped w moments was.of.settings was.front now.front t c d3 stream3 fresh' full r ended out out' × (b.max_in < 2 ^ 24 → HasCounted was.of.settings was.front now.front s t c b d3 full r))
 stepped_by w moments kind count was k1 k2 now s t c conn2 b d d3 left2 stream stream1 stream2 stream3 fresh fresh2 fresh' full r ended out out2 out' client same1 same2 same3 at limit is_kind is_count e_conn e_left e_stream e_fresh e_out e_pump e_stream3 turns asks takes own =
     let h = has_stepped w moments kind count was k1 k2 now s t c b d stream stream2 fresh fresh' full r ended out out' client same1 same2 same3 at limit is_kind is_count turns
     (subst (λ (o : Option ℕ). AsksSo r (request_of w) k1 o stream2 k2.front) e_stream asks)
     (takes_as ended kind count k2 now conn2 c left2 d.left stream2 stream2 fresh2 fresh fresh' out2 out out' e_conn e_left refl e_fresh e_out takes) own in (
       h.0,
-      λ ready.
-          subst (λ (z : Between). HasStepped w moments was.of.settings was.front now.front t c z stream3 fresh' full r ended out out') (sym e_pump)
-          (subst (λ (o : Option ℕ). HasStepped w moments was.of.settings was.front now.front t c d o fresh' full r ended out out') (sym e_stream3) (h.1 ready)),
+      λ ready. (let both = h.1 ready in (
+        subst (λ (z : Between). HasStepped w moments was.of.settings was.front now.front t c z stream3 fresh' full r ended out out') (sym e_pump)
+            (subst (λ (o : Option ℕ). HasStepped w moments was.of.settings was.front now.front t c d o fresh' full r ended out out') (sym e_stream3) both.0),
+        λ short. subst (λ (z : Between). HasCounted was.of.settings was.front now.front s t c b z full r) (sym e_pump) (both.1 short),
+      )),
     )

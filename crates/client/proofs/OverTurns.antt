@@ -57,6 +57,10 @@ arrives : (c : ℕ) (names : List ℕ) (number : ℕ) (more : List Entry) → Ar
 arrives c names number [] all own = tt
 arrives c names number (x ∷ more) all own = ((own.0 all.0).1, arrives c names number more all.1 own.1)
 
+-- of a caller that is alone
+pub come_alone : (was now : Knowledge) (c : ℕ) (begun : List Entry) → IsSame was now → IsOwn now → (goes : GoesOn (Arrives c) (record was { front = begun; note = None }) now.front) → AllByRecursion (λ (x : Entry). Arrives c x.event) goes.more
+come_alone was now c begun same own goes = arrives c was.names was.number goes.more (all_rest (λ (x : Entry). 0 < times x.who was.names) goes.more begun (subst (AreNamed was.names) goes.on (own_named was now same own))).0 goes.own
+
 comes_by : (c : ℕ) (e : Event) → Arrives c e → comes e ≡ true
 comes_by c (event.Came conn f) is = refl
 comes_by c (event.Bad conn rule) is = refl
@@ -444,7 +448,7 @@ has_turned w moments was now s t b d stream fresh r client same limit own p = (t
     own_begun = own_before bk now same (arrivals.more, arrivals.on) own
 
     come : AllByRecursion (λ (x : Entry). Arrives c x.event) arrivals.more
-    come = arrives c was.names was.number arrivals.more (all_rest (λ (x : Entry). 0 < times x.who was.names) arrivals.more begun (subst (AreNamed was.names) arrivals.on (own_named was now same own))).0 arrivals.own
+    come = come_alone was now c begun same own arrivals
 
     draws_to : (P : Type 0) → IsOwn tk × (At w moments g was.front turn.begins.ticked c stream fresh P → At w moments g was.front begun c stream fresh P) × (p.turned.left ≡ [] → drawn begun c ≡ drawn turn.begins.ticked c)
     draws_to P = drawn_to w moments was turn.begins.ticked begun c (goes_on_after turn.begins.answer && is_empty b.left) turn.begins.drew b.left p.turned.left stream fresh P own_begun turn.begins.draw

@@ -1,5 +1,5 @@
 -- What becomes of a call whose link has failed or ended. Entries stand newest first.
-use Rattle.std.specs.Prelude.{◌≡◌, ◌⊎◌, ℕ, true, false, List, [], Option, Some, None}
+use Rattle.std.specs.Prelude.{◌≡◌, ◌≤◌, ◌+◌, ◌⊎◌, ℕ, true, false, List, [], Option, Some, None}
 use Rattle.outside.specs.Causes.{IsMoment}
 use Rattle.outside.specs.Links.{IsNew, Shown}
 use Rattle.tape.specs.declared.entry.Entry.{Entry}
@@ -8,6 +8,7 @@ use Rattle.conn_shared.specs.Members.{Follows, Knowledge}
 use Rattle.link_model.specs.Carrying.{Between}
 use Rattle.client.specs.Answered.{TicksAt}
 use Rattle.client.specs.Clients.{ClientSeen, OpensAgain, PartsFrom, on, refused_for, PutsBack}
+use Rattle.client.specs.Counting.{HasTried, tries_of}
 use Rattle.pump.specs.declared.turned.Turned.{Turned}
 use Rattle.pump.specs.declared.turned.Turned.TheVariants as turned
 use Rattle.client.specs.declared.calling.Calling.{Calling}
@@ -71,19 +72,20 @@ StopsElsewhere was now back back' called.OutOfMemory = Unit {0}
 StopsElsewhere was now back back' _ = ⊥
 
 -- the call goes on over another link, or it can't
-abbrev pub LeavesSo : Option (List ℕ) → ClientSeen → ClientSeen → Calling → Calling → Option (List Shown) → Option (List Shown) → Option Called → Type 0
-LeavesSo moments was now k k' back back' None = GoesElsewhere moments was now k'.pump back back' × (k' ≡ record k { pump = k'.pump; tried = k'.tried })
-LeavesSo moments was now k k' back back' (Some r) = StopsElsewhere was now back back' r
+abbrev pub LeavesSo : Option (List ℕ) → ℕ → ClientSeen → ClientSeen → Calling → Calling → Option (List Shown) → Option (List Shown) → ℕ → ℕ → Option Called → Type 0
+LeavesSo moments tries was now k k' back back' faults faults' None = GoesElsewhere moments was now k'.pump back back' × (k' ≡ record k { pump = k'.pump; tried = k'.tried }) × HasTried 1 k.tried k'.tried faults faults'
+LeavesSo moments tries was now k k' back back' faults faults' (Some r) = StopsElsewhere was now back back' r × (r ≡ called.Net → HasTried 0 k.tried k'.tried faults faults' × (tries_of was.of.settings tries ≤ k'.tried))
 
 -- What follows from a turn that did not end the call: nothing; a lull more, which may be the last; another link; or what the call came to.
-abbrev pub FollowsSo : Turned → Option (List ℕ) → ℕ → ClientSeen → ClientSeen → Calling → Calling → Option (List Shown) → Option (List Shown) → Option Called → Type 0
-FollowsSo (turned.Moved given taken) moments lulls was now k k' back back' result = (result ≡ None) × (now ≡ was) × (k' ≡ k) × (back' ≡ back)
-FollowsSo (turned.Busy q) moments lulls was now k k' back back' result = (result ≡ None) × (now ≡ was) × (k' ≡ k) × (back' ≡ back)
-FollowsSo turned.Lull moments lulls was now k k' back back' result = ((result ≡ None) ⊎ (result ≡ Some (called.Idle lulls))) × (now ≡ was) × (k' ≡ record k { met = k'.met }) × (back' ≡ back)
-FollowsSo turned.End moments lulls was now k k' back back' result = LeavesSo moments was now k k' back back' result
-FollowsSo turned.LinkFault moments lulls was now k k' back back' result = LeavesSo moments was now k k' back back' result
-FollowsSo (turned.Over why) moments lulls was now k k' back back' result = (result ≡ Some (refused_for why)) × (now ≡ was) × (back' ≡ back)
-FollowsSo (turned.Dead last) moments lulls was now k k' back back' result = (result ≡ Some (called.Dead last)) × (now ≡ was) × (back' ≡ back)
-FollowsSo turned.TapeFull moments lulls was now k k' back back' result = (result ≡ None) × (now ≡ was) × (k' ≡ record k { full = true }) × (back' ≡ back)
-FollowsSo (turned.Displaced n) moments lulls was now k k' back back' result = (result ≡ Some called.OutOfMemory) × (now ≡ was)
-FollowsSo turned.OutOfMemory moments lulls was now k k' back back' result = (result ≡ Some called.OutOfMemory) × (now ≡ was)
+abbrev pub FollowsSo : Turned → Option (List ℕ) → ℕ → ℕ → ClientSeen → ClientSeen → Calling → Calling → Option (List Shown) → Option (List Shown) → ℕ → ℕ → Option Called → Type 0
+FollowsSo (turned.Moved given taken) moments lulls tries was now k k' back back' faults faults' result = (result ≡ None) × (now ≡ was) × (k' ≡ k) × (back' ≡ back) × (faults' ≡ faults)
+FollowsSo (turned.Busy q) moments lulls tries was now k k' back back' faults faults' result = (result ≡ None) × (now ≡ was) × (k' ≡ k) × (back' ≡ back) × (faults' ≡ faults)
+FollowsSo turned.Lull moments lulls tries was now k k' back back' faults faults' result =
+    ((result ≡ None) ⊎ ((result ≡ Some (called.Idle lulls)) × (lulls ≤ k'.met))) × (now ≡ was) × (k' ≡ record k { met = k'.met }) × (back' ≡ back) × (faults' ≡ faults) × (k'.met ≤ k.met + 1)
+FollowsSo turned.End moments lulls tries was now k k' back back' faults faults' result = LeavesSo moments tries was now k k' back back' faults faults' result
+FollowsSo turned.LinkFault moments lulls tries was now k k' back back' faults faults' result = LeavesSo moments tries was now k k' back back' faults faults' result
+FollowsSo (turned.Over why) moments lulls tries was now k k' back back' faults faults' result = (result ≡ Some (refused_for why)) × (now ≡ was) × (back' ≡ back)
+FollowsSo (turned.Dead last) moments lulls tries was now k k' back back' faults faults' result = (result ≡ Some (called.Dead last)) × (now ≡ was) × (back' ≡ back)
+FollowsSo turned.TapeFull moments lulls tries was now k k' back back' faults faults' result = (result ≡ None) × (now ≡ was) × (k' ≡ record k { full = true }) × (back' ≡ back) × (faults' ≡ faults)
+FollowsSo (turned.Displaced n) moments lulls tries was now k k' back back' faults faults' result = (result ≡ Some called.OutOfMemory) × (now ≡ was)
+FollowsSo turned.OutOfMemory moments lulls tries was now k k' back back' faults faults' result = (result ≡ Some called.OutOfMemory) × (now ≡ was)

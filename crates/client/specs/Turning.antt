@@ -12,6 +12,7 @@ use Rattle.link_model.specs.Carrying.{Between}
 use Rattle.link_model.specs.Leaving.{Heard, IsAllGiven, IsBroken, Left, displaced}
 use Rattle.pump.specs.declared.turned.Turned.{Turned}
 use Rattle.pump.specs.declared.turned.Turned.TheVariants as turned
+use Rattle.pump.specs.Moves.{HasGrown}
 use Rattle.pump.specs.Turns.{IsKept, IsReadOut, IsTurned, RulesOut, TurnedFor, is_early}
 use Rattle.call_model.specs.Order.{Asking, moves_only}
 use Rattle.call_model.specs.Present.{IsServed}
@@ -42,6 +43,7 @@ DropsFor s t _ = ⊥
 -- bytes were taken and dropped, or none came
 pub record Drops (s t : Shown) (r : Turned) : Type 0 where
   pub given : t.given ≡ s.given
+  pub grown : HasGrown s.taken t.taken
   pub counted : NoneFell s.counts t.counts
   pub cause : DropsFor s t r
 

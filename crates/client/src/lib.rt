@@ -6,14 +6,14 @@
 //! appended at once, so a program that makes the steps itself writes each line when it is known.
 //!
 //! The promise to the layer above, where nobody else calls (`specs/Alone.antt`): the entries keep the
-//! order of a call and each tick has a moment of the clock; every link is carried, and each that was
-//! put back was left for a reason; what is printed is what the stream delivered, no more and no less;
-//! and each way in which a call ends has its cause (`specs/Calling.antt`). What the words mean is said
-//! in `call_model` and `link_model`.
+//! order of a call and each tick has a moment of the clock; every link is carried, its ticks are few,
+//! and each that was put back was left for a reason; what is printed is what the stream delivered, no
+//! more and no less; and each way in which a call ends has its cause (`specs/Calling.antt`): the links
+//! of an idle call have so many lulls in sum, and no try is left where a call ends with `Net`
+//! (`specs/Counting.antt`). Whoever else calls, the net is asked for links to the client's address and
+//! for nothing else. What the words mean is said in `call_model` and `link_model`.
 //!
-//! Left out: words, statuses and writing, which are the program's; that a call ever ends. Run, but not
-//! proved: that the links of an idle call have so many lulls in sum, that all tries were used where a
-//! call ends with `Net`, and that the ticks of a link are few.
+//! Left out: words, statuses and writing, which are the program's; that a call ever ends.
 #![tactic(auto)]
 
 mod again;

@@ -1,12 +1,13 @@
 //! One step of a call: a turn of its pump, its request, and what waits.
 
-ghost use Rattle.std.specs.Prelude.{◌≡◌, IfOk, IsSome, OnOk, Some};
+ghost use Rattle.std.specs.Prelude.{◌≡◌, ◌<◌, ◌^◌, IfOk, IsSome, OnOk, Some};
 ghost use Rattle.rs_wire.specs.Calls.{CanBeAsked};
 ghost use Rattle.rs_wire.specs.declared.words.Side.TheVariants.{Client as Calls};
 ghost use Rattle.outside.specs.Links.{Shown};
 ghost use Rattle.call_model.specs.Order.{Asking, request_of};
 ghost use Rattle.client.specs.Alone.{IsOwn};
 ghost use Rattle.client.specs.Clients.{AsksSo, OnlyCalls};
+ghost use Rattle.client.specs.Counting.{HasCounted};
 ghost use Rattle.client.specs.Turning.{HasStepped, IsReady};
 
 use crate::calling::Calling;
@@ -83,7 +84,10 @@ impl<N: Net, T: Tape> Client<N, T> {
             (self.new.link ≡ Some t) × HasStepped w (K.moments clock.now)
             self.old.caller.of.settings self.old.caller.front self.new.caller.front t
             self.old.conn calling.new.pump calling.new.stream calling.new.fresh
-            calling.old.full r.turned r.ended out.old.items out.new.items)) }
+            calling.old.full r.turned r.ended out.old.items out.new.items ×
+            (calling.old.pump.max_in < 2 ^ 24 → HasCounted self.old.caller.of.settings
+            self.old.caller.front self.new.caller.front s t self.old.conn
+            calling.old.pump calling.new.pump calling.old.full r.turned))) }
     {
         self.is_joined();
         let turned = self.turn(rt, clock, calling);

@@ -23,4 +23,4 @@ returns-clause-stepped g c w s request kind count link at own =
     c.args.calling.now.fresh c.ask_where_due.new.calling.fresh c.take_all.new.calling.fresh c.args.calling.now.full c.turn-turned.result c.in_ok-ended.ended c.args.out.now.items c.args.out.now.items c.take_all.new.out.items
     (search rules) (search rules) (search rules) (search rules) at (search rules) kind count (search rules) (search rules) (search rules) (search rules) refl (search rules) (search rules)
     turns.2 asks c.in_ok-ended.ensures.taken own in
-    (h.0, λ ready. (turns.0, has ∙ turns.1, h.1 ready))
+    (h.0, λ ready. (let both = h.1 ready in (turns.0, has ∙ turns.1, both.0, both.1)))
