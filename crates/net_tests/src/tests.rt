@@ -1,0 +1,7 @@
+//! The net and the clock of the host.
+
+mod addresses;
+mod crossing;
+mod handshakes;
+mod links;
+mod times;
