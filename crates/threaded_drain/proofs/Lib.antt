@@ -1,0 +1,4 @@
+pub mod Good
+pub mod Short
+pub mod Drained
+pub mod Going

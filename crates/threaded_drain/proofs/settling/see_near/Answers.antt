@@ -1,0 +1,21 @@
+use Rattle.rtrb.specs.Ring.{received, sent}
+use Rattle.pump.proofs.Adding.{goes_both, goes_follows, on_both}
+use Rattle.carriers.proofs.Moving.{on_noted}
+use Rattle.threaded_client.specs.Carrying.{IsAny}
+use Rattle.threaded_drain.proofs.Going.{near_both, near_looks}
+use Rattle.threaded_drain.proofs.settling.see_near.Goals as goal
+
+pub returns-clause-same : goal.returns-clause-same
+returns-clause-same g c = on_both c.args.near.now.caller c.heard.new.self.caller c.look-looked.new.caller c.heard.ensures.same (on_noted c.heard.new.self.caller c.look-looked.new.caller c.look-looked.ensures.same)
+
+pub returns-clause-goes : goal.returns-clause-goes
+returns-clause-goes g c =
+    goes_both IsAny c.args.near.now.caller c.heard.new.self.caller c.look-looked.new.caller.front c.heard.ensures.same c.in_ok-heard.ensures.goes
+    (goes_follows IsAny c.heard.new.self.caller c.look-looked.new.caller.front c.look-looked.ensures.follows)
+
+pub returns-clause-kept : goal.returns-clause-kept
+returns-clause-kept g c =
+    let near = c.args.near.now in
+    let mid = c.heard.new.self in
+    near_both near.caller mid.caller c.look-looked.new.caller near.pump mid.pump mid.pump (sent near.out) (sent mid.out) (sent mid.out) (received near.from) (received mid.from) (received mid.from) c.in_ok-heard.ensures.kept
+    (near_looks mid.caller c.look-looked.new.caller mid.pump (sent mid.out) (received mid.from) (on_noted mid.caller c.look-looked.new.caller c.look-looked.ensures.same) c.look-looked.ensures.follows)
