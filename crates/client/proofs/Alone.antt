@@ -26,7 +26,7 @@ all_rest P [] ys h = (tt, h)
 all_rest P (x ∷ xs) ys h = let rest = all_rest P xs ys h.1 in ((h.0, rest.0), rest.1)
 
 -- an entry counts among those of its own number
-counted : (x : Entry) (more : List Entry) → 0 < calls who_of x.who (x ∷ more)
+pub counted : (x : Entry) (more : List Entry) → 0 < calls who_of x.who (x ∷ more)
 counted x more = grind (arith, nat_tests)
 
 none_else : (names : List ℕ) (others : List Entry) → IsOthers who_of names others → AreNamed names others → others ≡ []

@@ -12,3 +12,4 @@ pub mod OverRuns
 pub mod OverFollows
 pub mod OverStarts
 pub mod OverCalls
+pub mod Whole

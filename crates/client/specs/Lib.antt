@@ -6,3 +6,4 @@ pub mod Counting
 pub mod Turning
 pub mod Calling
 pub mod Elsewhere
+pub mod Whole

@@ -37,5 +37,5 @@ pub use called::Called;
 pub use calling::Calling;
 pub use client::Client;
 pub use fault::BeginFault;
-pub use laws::callers_are_alone;
+pub use laws::{callers_are_alone, calls_are_whole, closed_callers_are_alone};
 pub use plan::CallPlan;
