@@ -1,5 +1,5 @@
 -- A fire-and-forget delivers nothing, so all of it is taken.
-use Rattle.std.proofs.Common.{◌≡◌, ◌==◌, ◌&&◌, ◌∙◌, ℕ, Bool, true, false, true≢false, if◌then◌else◌, ltb, cond, List, [], ◌∷◌, ◌++◌, Option, Some, None, refl, ap, subst, sym}
+use Rattle.std.proofs.Common.{◌≡◌, ◌==◌, ◌&&◌, ◌∙◌, ℕ, Bool, true, false, true≢false, if◌then◌else◌, List, [], ◌∷◌, ◌++◌, Option, Some, None, refl, ap, subst, sym}
 use Rattle.rs_wire.specs.declared.words.Kind.{Kind}
 use Rattle.rs_wire.specs.declared.words.Kind.TheVariants as kinds
 use Rattle.rs_wire.specs.declared.words.Role.{Role}
@@ -9,7 +9,6 @@ use Rattle.rs_wire.specs.declared.message.Message.{Message}
 use Rattle.rs_wire.specs.declared.delivery.Delivery.{Delivery}
 use Rattle.rs_wire.specs.declared.delivery.Delivery.TheVariants as delivery
 use Rattle.rs_wire.specs.declared.settings.Settings.{Settings}
-use Rattle.rs_wire.specs.declared.call.Call.{Call}
 use Rattle.rs_wire.specs.declared.call.Call.TheVariants as call
 use Rattle.tape.specs.declared.event.Event.{Event}
 use Rattle.tape.specs.declared.event.Event.TheVariants as event
@@ -18,8 +17,8 @@ use Rattle.tape.specs.declared.answer.Answer.TheVariants as answer
 use Rattle.tape.specs.declared.entry.Entry.{Entry}
 use Rattle.stream_model.specs.Marks.{Opening, Mark, Opens, Passed, Sent, Got, Pushed, Took, TookJob}
 use Rattle.stream_model.specs.Arriving.{ours}
-use Rattle.stream_model.specs.Turns.{Turn, Word, Said, Taken, brings, delivered, delivered_first, ends, inbound, is_channel, is_fnf, is_role, opening_ends, other, over, taken, waiting}
-use Rattle.stream_model.specs.Streams.{goes_on, is_admitted, live as live_streams, turn}
+use Rattle.stream_model.specs.Turns.{Turn, Word, Said, Taken, delivered, ends, inbound, is_channel, is_fnf, is_role, opening_ends, other, over, taken, waiting}
+use Rattle.stream_model.specs.Streams.{goes_on, turn}
 use Rattle.stream_model.specs.Fair.{Fair as FairMarks, FairWords, Fits}
 use Rattle.stream_model.proofs.Ids.{fresh, others_stay, same_id, turn_got, turn_job, turn_opened, turn_passed, turn_pushed, turn_sent, turn_took}
 use Rattle.stream_model.proofs.Streams.{fair_words}
@@ -31,10 +30,9 @@ use Rattle.session_model.specs.Lists.{first_of}
 use Rattle.session_model.specs.Means.{Means}
 use Rattle.session_model.proofs.Fairness.{legal_fair}
 use Rattle.session_model.proofs.Meaning.{last_means}
-use Rattle.session_laws.specs.Streams.{IsLawful, stream}
+use Rattle.session_laws.specs.Streams.{IsLawful}
 use Rattle.call_model.specs.Saying.{delivered_of, delivered_on, got_on, started, started_in}
 use Rattle.call_model.specs.Order.{Asking, InOrder, MayAsk, MayFollow, request_of}
-use Rattle.call_model.specs.Ran.{IsTakenWhole}
 use Rattle.call_model.proofs.Takes.{here_or_not, taken_of, takes_are}
 
 -- ---- the words of a fire-and-forget

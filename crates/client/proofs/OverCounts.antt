@@ -1,6 +1,5 @@
 -- What a step of a call counts, where its caller is alone.
 use Rattle.std.specs.List.{AllByRecursion}
-use Rattle.std.specs.Io.KnownBytes.{append_known}
 use Rattle.std.proofs.lemmas.Bool.Decides.{nat_tests}
 use Rattle.std.proofs.lemmas.List.{length-append}
 use Rattle.std.proofs.Common.{◌≡◌, ◌<◌, ◌≤◌, ◌+◌, ◌-◌, ◌^◌, ◌==◌, ◌&&◌, ◌⊎◌, ◌∙◌, inl, inr, ℕ, Bool, true, false, true≢false, if◌then◌else◌, List, [], ◌∷◌, ◌++◌, length, Option, Some, None, is_some, refl, sym, ap, subst, arith, append-nil}
@@ -9,7 +8,6 @@ use Rattle.rs_frame.specs.Framed.{framed_all}
 use Rattle.rs_chunk.specs.Stream.{IsTooLong, IsWhole}
 use Rattle.outside.specs.Causes.{Rose}
 use Rattle.outside.specs.Links.{NoneFell, Shown}
-use Rattle.tape.specs.Answers.{leaves}
 use Rattle.tape.specs.Told.{entry_of}
 use Rattle.tape.specs.declared.event.Event.{Event}
 use Rattle.tape.specs.declared.event.Event.TheVariants as event
@@ -28,10 +26,10 @@ use Rattle.pump.specs.declared.turned.Turned.TheVariants as turned
 use Rattle.pump.specs.Moves.{HasGrown}
 use Rattle.pump.specs.Turns.{Arrives, DrawsWhere, HadOnlyFrames, HasMoved, IsEmptied, IsReadOut, TurnedFor, goes_on_after, is_early, is_empty, is_last}
 use Rattle.pump.proofs.Drawing.{idle_by}
-use Rattle.call_model.specs.Order.{Asking, is_tick}
+use Rattle.call_model.specs.Order.{is_tick}
 use Rattle.call_model.specs.Leaving.{AreTimely, HaveLulled, HaveTried, one_if}
 use Rattle.call_model.specs.Timing.{HasFewTicks, IsAtTop, length_shown, moved, ticks_on}
-use Rattle.call_model.proofs.Links.{are_timely_more, few_later, few_on, lulled_on, lulled_once, timely_and_one}
+use Rattle.call_model.proofs.Links.{are_timely_more, few_later, lulled_on, lulled_once, timely_and_one}
 use Rattle.client.specs.Alone.{IsOwn}
 use Rattle.client.specs.Counting.{HasCounted, HasQueued, IsCounted, IsSureToMove}
 use Rattle.client.specs.Takes.{AsksMore, is_call}

@@ -1,7 +1,7 @@
 -- Bytes that wait in the queue once a frame found no place there.
 use Rattle.std.proofs.lemmas.Bool.Decides.{nat_tests}
-use Rattle.std.proofs.lemmas.List.{length-append, length-take}
-use Rattle.std.proofs.Common.{◌≡◌, ◌<◌, ◌≤◌, ◌+◌, ◌-◌, ◌^◌, ◌∙◌, ℕ, Bool, true, false, true≢false, nat_lt, if◌then◌else◌, List, [], ◌∷◌, ◌++◌, length, take, drop, Option, Some, None, refl, ap, subst, arith}
+use Rattle.std.proofs.lemmas.List.{length-take}
+use Rattle.std.proofs.Common.{◌≡◌, ◌<◌, ◌≤◌, ◌+◌, ◌^◌, ◌∙◌, ℕ, Bool, true, false, true≢false, nat_lt, if◌then◌else◌, List, length, take, drop, Option, Some, None, refl, ap, subst, arith}
 use Rattle.rs_wire.specs.Settings.{out_limit_of}
 use Rattle.rs_wire.specs.declared.fault.Cause.{Cause}
 use Rattle.rs_wire.specs.declared.fault.Gone.{Gone}
@@ -9,7 +9,6 @@ use Rattle.rs_wire.specs.declared.fault.Rule.{Rule}
 use Rattle.rs_wire.specs.declared.settings.Settings.{Settings}
 use Rattle.rs_frame.specs.declared.frame.Frame.{Frame}
 use Rattle.rs_frame.specs.declared.frame.Frame.TheVariants as frame
-use Rattle.rs_frame.specs.Framed.{framed_all}
 use Rattle.rs_frame.specs.Spelling.{Spells, length_of}
 use Rattle.rs_frame.proofs.Whole.{one_length}
 use Rattle.rs_chunk.specs.Stream.{IsWhole, first_frame, first_length}
@@ -19,12 +18,11 @@ use Rattle.tape.specs.declared.answer.Answer.{Answer}
 use Rattle.tape.specs.declared.answer.Answer.TheVariants as answer
 use Rattle.tape.specs.declared.entry.Entry.{Entry}
 use Rattle.session_model.specs.Answers.{Facts, answer_to, facts, handled_unless, handled_unless_gone, ok_gone, on_live, peer_error, rule_now, to_known, unless_busy, unless_closed, unless_error}
-use Rattle.session_model.specs.Frames.{drawn, due, owes, queued}
+use Rattle.session_model.specs.Frames.{queued}
 use Rattle.session_model.specs.Life.{is_live, live}
 use Rattle.session_model.specs.declared.numbers.TheConstants.{ANSWER_ROOM}
-use Rattle.link_model.specs.Carrying.{Between, is_of}
+use Rattle.link_model.specs.Carrying.{Between}
 use Rattle.link_model.specs.Reading.{IsInFront}
-use Rattle.link_model.proofs.Same.{drawn_same, due_more}
 use Rattle.pump.specs.Turns.{IsBusy}
 
 -- ---- nothing else is answered so

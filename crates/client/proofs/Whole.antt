@@ -2,7 +2,7 @@
 use Rattle.std.proofs.lemmas.Bool.{cases_lt}
 use Rattle.std.proofs.lemmas.Bool.Decides.{nat_tests}
 use Rattle.std.proofs.lemmas.List.{length-append}
-use Rattle.std.proofs.Common.{◌≡◌, ◌<◌, ◌≤◌, ◌+◌, ◌⊎◌, ◌∙◌, inl, inr, ℕ, List, [], ◌∷◌, ◌++◌, length, Option, Some, None, IsSome, refl, sym, ap, subst, arith}
+use Rattle.std.proofs.Common.{◌≡◌, ◌<◌, ◌≤◌, ◌+◌, ◌⊎◌, ◌∙◌, inl, inr, ℕ, List, [], ◌∷◌, ◌++◌, length, Option, Some, None, refl, sym, ap, subst, arith}
 use Rattle.std.specs.Option.{option_map}
 use Rattle.rs_wire.specs.declared.settings.Settings.{Settings}
 use Rattle.outside.specs.Links.{Shown, and_then_one}
@@ -13,13 +13,13 @@ use Rattle.conn_shared.specs.Lines.{who_of}
 use Rattle.conn_shared.specs.Members.{Knowledge}
 use Rattle.link_model.specs.Carrying.{IsAlone}
 use Rattle.link_model.specs.Leaving.{Left}
-use Rattle.call_model.specs.Leaving.{AreLinks, GotBack, LastLeft}
+use Rattle.call_model.specs.Leaving.{GotBack, LastLeft}
 use Rattle.call_model.specs.Order.{Asking}
 use Rattle.call_model.specs.Ran.{HasPlace, IsCall, IsStill, OfLast}
 use Rattle.call_model.specs.Saying.{HasEnded, HasNotEnded}
 use Rattle.call_model.proofs.Links.{all_but_one, last_is}
 use Rattle.client.specs.Alone.{AreNamed, IsOwn}
-use Rattle.client.specs.Calling.{EndsBy, GoesOn, HasEndedBy, IsLast, StopsFrom}
+use Rattle.client.specs.Calling.{EndsBy, GoesOn, IsLast, StopsFrom}
 use Rattle.client.specs.Clients.{and_back, PutsBack}
 use Rattle.client.specs.Counting.{HasUsedUp}
 use Rattle.client.specs.Whole.{CameTo, IsWholeCall}
