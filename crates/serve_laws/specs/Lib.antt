@@ -1,0 +1,4 @@
+pub mod Tapes
+pub mod Links
+pub mod Serving
+pub mod Knowing
