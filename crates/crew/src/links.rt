@@ -20,7 +20,7 @@ fn serve_apart<S: Sync, N: Send, P: Place<N, S> + Send, R: Threads + Wait + Sync
     requires first { (p : P) × P.arrived shared.now p first.old }
     requires rest { AllByRecursion (P.vacant shared.now) rest.old }
     ensures first { (p : P) → P.arrived shared.now p first.old → P.served shared.now p first.new }
-    ensures rest { AreServed P.accepted (P.served shared.now) (P.missed shared.now)
+    ensures rest { AreServed (P.accepted shared.now) (P.served shared.now) (P.missed shared.now)
         net.old net.new rest.old rest.new }
 {
     if rest.is_empty() {
@@ -30,7 +30,7 @@ fn serve_apart<S: Sync, N: Send, P: Place<N, S> + Send, R: Threads + Wait + Sync
     let mut others = ||
         requires { IsSync R.row × IsSync S.row × IsSend N.row × IsSend P.row
             × AllByRecursion (P.vacant shared.now) rest.now }
-        ensures { AreServed P.accepted (P.served shared.entry.now) (P.missed shared.entry.now)
+        ensures { AreServed (P.accepted shared.entry.now) (P.served shared.entry.now) (P.missed shared.entry.now)
             net.entry.now net.exit.now rest.entry.now rest.exit.now }
     { serve_each(rt, shared, net, rest) };
     let mut mine = ||
@@ -52,7 +52,7 @@ pub fn serve_each<S: Sync, N: Send, P: Place<N, S> + Send, R: Threads + Wait + S
     places: &mut [P],
 )
     requires { AllByRecursion (P.vacant shared.now) places.old }
-    ensures { AreServed P.accepted (P.served shared.now) (P.missed shared.now)
+    ensures { AreServed (P.accepted shared.now) (P.served shared.now) (P.missed shared.now)
         net.old net.new places.old places.new }
 {
     let Some((first, rest)) = places.split_first_mut() else {

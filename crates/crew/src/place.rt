@@ -19,19 +19,19 @@ pub trait Place<N, S> {
     ghost missed: { S → N → N → Self → Self → Type 0 };
 
     // How a net is left by so many waits, of which each gave a link.
-    ghost accepted: { ℕ → N → N → Type 0 };
+    ghost accepted: { S → ℕ → N → N → Type 0 };
 
-    ghost accepted_none: { (n : N) → accepted 0 n n };
+    ghost accepted_none: { (s : S) (n : N) → accepted s 0 n n };
 
-    ghost accepted_more: { (j k : ℕ) (a b c : N) → accepted j a b → accepted k b c
-        → accepted (j + k) a c };
+    ghost accepted_more: { (s : S) (j k : ℕ) (a b c : N) → accepted s j a b → accepted s k b c
+        → accepted s (j + k) a c };
 
     /// Waits for the next link of the net, once. False where none came: then this is the last wait,
     /// and the place keeps why.
     fn accept(&mut self, net: &mut N, shared: &S) -> bool
         requires { vacant shared.now self.old }
         ensures arrived { result ≡ true → arrived shared.now self.old self.new }
-        ensures accepted { result ≡ true → accepted 1 net.old net.new }
+        ensures accepted { result ≡ true → accepted shared.now 1 net.old net.new }
         ensures missed { result ≡ false → missed shared.now net.old net.new self.old self.new };
 
     /// Serves the link that came, to its end.

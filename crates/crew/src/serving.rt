@@ -26,12 +26,12 @@ pub fn serve_with_workers<
 >(rt: &R, shared: &S, net: &mut N, places: &mut [P], last: &mut F, workers: &mut [W])
     requires places { AllByRecursion (P.vacant shared.now) places.old }
     // However the links leave the places, the last task may be done over them.
-    requires last { HoldsAfter P.accepted (P.served shared.now) (P.missed shared.now)
+    requires last { HoldsAfter (P.accepted shared.now) (P.served shared.now) (P.missed shared.now)
         net.old places.old (F.ready shared.now last.old) }
     requires workers { AllByRecursion (W.ready shared.now) workers.old }
     // The places are as the links left them, and then as the last task did.
     ensures places { (left : List P)
-        × AreServed P.accepted (P.served shared.now) (P.missed shared.now)
+        × AreServed (P.accepted shared.now) (P.served shared.now) (P.missed shared.now)
         net.old net.new places.old left
         × F.done shared.now last.old left last.new places.new }
     ensures workers { Pairwise (W.done shared.now) workers.old workers.new }
@@ -44,10 +44,10 @@ pub fn serve_with_workers<
     let mut here = ||
         requires { IsSync R.row × IsSync S.row × IsSend N.row × IsSend P.row
             × AllByRecursion (P.vacant shared.now) places.now
-            × HoldsAfter P.accepted (P.served shared.now) (P.missed shared.now)
+            × HoldsAfter (P.accepted shared.now) (P.served shared.now) (P.missed shared.now)
             net.now places.now (F.ready shared.now last.now) }
         ensures { (left : List P)
-            × AreServed P.accepted (P.served shared.entry.now) (P.missed shared.entry.now)
+            × AreServed (P.accepted shared.entry.now) (P.served shared.entry.now) (P.missed shared.entry.now)
             net.entry.now net.exit.now places.entry.now left
             × F.done shared.entry.now last.entry.now left last.exit.now places.exit.now }
     {

@@ -77,11 +77,11 @@ impl Place<Links, Meeting> for Seat {
 
     ghost missed = { λ meeting n m p q. q ≡ seats.Missed };
 
-    ghost accepted = { λ k n m. Unit {0} };
+    ghost accepted = { λ meeting k n m. Unit {0} };
 
-    ghost accepted_none = { λ n. tt };
+    ghost accepted_none = { λ meeting n. tt };
 
-    ghost accepted_more = { λ j k a b c first rest. tt };
+    ghost accepted_more = { λ meeting j k a b c first rest. tt };
 
     fn accept(&mut self, net: &mut Links, _shared: &Meeting) -> bool {
         net.asked = net.asked.saturating_add(1);
