@@ -17,7 +17,9 @@ use Rattle.link_model.proofs.Bytes.{if_some}
 use Rattle.link_laws.specs.Unopened.{Earns, IsTurnedAway, bad_first, turned_away_by}
 use Rattle.handlers.specs.Listed.{Listed}
 use Rattle.workers.specs.declared.job.OpenJob.{OpenJob}
+use Rattle.workers.specs.Serving.{AreRouted}
 use Rattle.server.specs.Attended.{IsFirstOf}
+use Rattle.server.specs.Attending.{AreRoutedIn}
 use Rattle.server.specs.First.{FirstFor}
 use Rattle.server.specs.declared.first.First.{First}
 use Rattle.server.specs.declared.first.First.TheVariants as firsts
@@ -61,6 +63,11 @@ out_so g moments helps grant slot routes olds news work link s is back added =
 -- no memory before an opening was tried
 pub nothing_so : (g : Settings) (moments : Option (List ℕ)) (helps : Bool) (grant : Option ℕ) (slot : ℕ) (routes : List Listed) (olds news : List Knowledge) (work : Option (List OpenJob)) (link : Shown) → news ≡ olds → ServedSo g moments helps grant slot routes olds news work work link (served.OutOfMemory, None)
 nothing_so g moments helps grant slot routes olds news work link same = out_so g moments helps grant slot routes olds news work link served.OutOfMemory refl (subst (AreBack olds) (sym same) (back_same olds)) (inl same)
+
+-- the routes of no jobs are found
+pub idle_routed : (routes : List Listed) (jobs : Option (List OpenJob)) → IfSome jobs (λ work. work ≡ []) → AreRoutedIn routes jobs
+idle_routed routes None idle = tt
+idle_routed routes (Some work) idle = subst (AreRouted routes) (sym idle) tt
 
 -- ---- no first frame
 

@@ -233,6 +233,7 @@ opened_so g moments helps grant slot at c routes olds mids news was now link fir
         first = first;
         mid = mids;
         opens = s.opens;
+        same = s.back;
         old = mid;
         new = new;
         was = s.serves.there;

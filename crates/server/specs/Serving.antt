@@ -71,6 +71,7 @@ pub record Opened (g : Settings) (moments : Option (List ℕ)) (helps : Bool) (g
   -- the callers as the opening left them
   pub mid : List Knowledge
   pub opens : OpensAt g moments slot at olds mid first (answer.Opened c)
+  pub same : AreBack olds mid
   pub old : Knowledge
   pub new : Knowledge
   pub was : slice_get mid at ≡ Some old

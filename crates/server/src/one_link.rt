@@ -96,6 +96,7 @@ fn run<R: Wait, L: Link, K: Clock, T: Tape, F: Handler>(
     ensures taken { HasGrown (L.shown link.old).taken (L.shown link.new).taken }
     ensures work { KeepsWork caller.old.names routes.now caller.old.front caller.new.front jobs.old
         jobs.new }
+    ensures routed { AreRoutedIn routes.now jobs.new }
     ensures counted { NoneFell (L.shown link.old).counts (L.shown link.new).counts }
 {
     if let Some(turned) = grant_lease(rt, connection, caller, grant) {
@@ -198,6 +199,7 @@ pub(crate) fn serve_opened<R: Wait, L: Link, K: Clock, T: Tape, F: Handler>(
     ensures taken { HasGrown (L.shown link.old).taken (L.shown link.new).taken }
     ensures work { KeepsWork caller.old.names routes.now caller.old.front caller.new.front jobs.old
         jobs.new }
+    ensures routed { AreRoutedIn routes.now jobs.new }
     ensures counted { NoneFell (L.shown link.old).counts (L.shown link.new).counts }
 {
     let turned = run(

@@ -57,6 +57,7 @@ fn serve_at<R: Wait, L: Link, K: Clock, T: Tape, F: Handler>(
     ensures back { AreBack callers.old callers.new }
     ensures serves { ServesAt settings.now (K.moments clock.now) (is_some jobs.old) grant
         routes.now jobs.old jobs.new at conn callers.old callers.new (L.shown link.new) result }
+    ensures routed { AreRoutedIn routes.now jobs.new }
     ensures taken { HasGrown (L.shown link.old).taken (L.shown link.new).taken }
     ensures counted { NoneFell (L.shown link.old).counts (L.shown link.new).counts }
 {
@@ -123,6 +124,7 @@ fn serve_first<R: Wait, L: Link, K: Clock, T: Tape, F: Handler>(
     requires first { IsFirstOf frame reader.bytes reader.max_in (L.shown link.old) }
     ensures serves { ServedSo settings.now (K.moments clock.now) (is_some jobs.old) grant slot routes.now
         callers.old callers.new jobs.old jobs.new (L.shown link.new) result }
+    ensures routed { AreRoutedIn routes.now jobs.new }
     ensures counted { NoneFell (L.shown link.old).counts (L.shown link.new).counts }
 {
     let Ok(wish) = wish_of(alloc, &frame) else {
@@ -217,6 +219,8 @@ pub fn serve_connection<R: Wait, L: Link, K: Clock, T: Tape, F: Handler>(
     ensures cause { ServedFor settings.now (K.moments clock.now) slot callers.old callers.new
         (L.shown link.new) result }
     ensures work { KeepsServing routes.now callers.old callers.new jobs.old jobs.new result }
+    // The routes of the jobs left are those that are found for them.
+    ensures routed { AreRoutedIn routes.now jobs.new }
     ensures counted { NoneFell (L.shown link.old).counts (L.shown link.new).counts }
 {
     let most = settings.settings().max_in;

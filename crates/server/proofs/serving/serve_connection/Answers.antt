@@ -2,7 +2,7 @@ use Rattle.std.proofs.Common.{rules, ◌≡◌, is_some, ap, subst}
 use Rattle.pump.proofs.Outcomes.{none_fell_both}
 use Rattle.rs_wire.specs.declared.settings.Settings.{Settings}
 use Rattle.server.specs.First.{FirstFor}
-use Rattle.server.proofs.Joined.{unbegun_so}
+use Rattle.server.proofs.Joined.{idle_routed, unbegun_so}
 use Rattle.server.proofs.serving.serve_connection.Goals as goal
 
 pub serve_first-requires-clause-first : goal.serve_first-requires-clause-first
@@ -27,6 +27,7 @@ returns-in-Frame g c =
       unopened = s.unopened;
       cause = s.cause;
       work = s.work;
+      routed = c.serve_first.ensures.routed;
       counted = none_fell_both (g.L.Link.shown c.args.link.now).counts (g.L.Link.shown c.take_first.new.link).counts (g.L.Link.shown c.serve_first.new.link).counts c.take_first.ensures.counted c.serve_first.ensures.counted;
     }
 
@@ -52,5 +53,6 @@ returns-in_default g c =
       unopened = s.unopened;
       cause = s.cause;
       work = s.work;
+      routed = idle_routed c.args.routes.now c.args.jobs.now c.requires.idle;
       counted = none_fell_both (g.L.Link.shown c.args.link.now).counts old.counts link.counts c.take_first.ensures.counted c.unbegun.ensures.counted;
     }

@@ -9,7 +9,7 @@ use Rattle.server.specs.declared.served.Served.{Served}
 use Rattle.server.specs.Attended.{IsFirstOf}
 use Rattle.server.specs.Opening.{OpensAt, wish_of}
 use Rattle.server.specs.Serving.{ServedSo, is_resume, may_resume}
-use Rattle.server.proofs.Joined.{nothing_so, refused_as}
+use Rattle.server.proofs.Joined.{idle_routed, nothing_so, refused_as}
 use Rattle.server.proofs.Opened.{begins_at, opened_as, opened_at}
 use Rattle.server.proofs.Places.{of_back}
 use Rattle.server.proofs.serving.serve_first.Goals as goal
@@ -25,10 +25,6 @@ returns-in_default-open-clause-serves g c = nothing_so c.args.settings.now (g.K.
 
 pub serve_at-turned-requires-clause-of : goal.serve_at-turned-requires-clause-of
 serve_at-turned-requires-clause-of g c = of_back c.args.settings.now c.args.connections.now c.args.callers.now c.open.new.callers c.requires.of c.open.ensures.back
-
-idle_routed : (routes : List Listed) (jobs : Option (List OpenJob)) → IfSome jobs (λ work. work ≡ []) → AreRoutedIn routes jobs
-idle_routed routes None idle = tt
-idle_routed routes (Some work) idle = subst (AreRouted routes) (sym idle) tt
 
 pub serve_at-turned-requires-clause-routed : goal.serve_at-turned-requires-clause-routed
 serve_at-turned-requires-clause-routed g c = idle_routed c.args.routes.now c.args.jobs.now c.requires.idle
@@ -79,3 +75,12 @@ returns-in_default-answer-clause-serves g c =
     let begins : IsFirstOf c.args.frame c.args.reader.bytes st.max_in (g.L.Link.shown c.args.link.now) = subst (λ n. IsFirstOf c.args.frame c.args.reader.bytes n (g.L.Link.shown c.args.link.now)) c.requires.limit c.requires.first in
     refused_as st moments (is_some c.args.jobs.now) c.args.grant c.args.slot at c.args.routes.now olds news c.args.jobs.now (g.L.Link.shown c.args.link.now) (g.L.Link.shown c.refused.new.link) c.args.frame c.args.reader.bytes met c.refused.result c.is_resume-resuming.result
     asks c.open.ensures.back begins c.in-Ok-open.ensures.opens (λ n opened. c.in_default-answer.not-Opened n opened) c.refused.ensures.taken c.refused.ensures.says c.refused.ensures.gives c.refused.ensures.nothing
+
+pub returns-in_default-clause-routed : goal.returns-in_default-clause-routed
+returns-in_default-clause-routed g c = idle_routed c.args.routes.now c.args.jobs.now c.requires.idle
+
+pub returns-in_default-open-clause-routed : goal.returns-in_default-open-clause-routed
+returns-in_default-open-clause-routed g c = idle_routed c.args.routes.now c.args.jobs.now c.requires.idle
+
+pub returns-in_default-answer-clause-routed : goal.returns-in_default-answer-clause-routed
+returns-in_default-answer-clause-routed g c = idle_routed c.args.routes.now c.args.jobs.now c.requires.idle
