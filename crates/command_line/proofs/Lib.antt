@@ -2,3 +2,5 @@ mod OneWord
 mod LongWords
 mod Closed
 mod Asking
+mod First
+mod OneCall

@@ -1,5 +1,6 @@
 //! Why words ask for nothing.
 
+use rs_wire::OutOfMemory;
 use std::alloc::{AllocError, AllocFailed};
 use thiserror::Error;
 
@@ -32,6 +33,17 @@ impl<T: Drop> From<AllocFailed<T>> for WordsFault {
     ghost from_gives = { λ _ f. f ≡ fault.OutOfMemory };
 
     fn from(_error: AllocFailed<T>) -> WordsFault {
+        WordsFault::OutOfMemory
+    }
+}
+
+impl From<OutOfMemory> for WordsFault {
+    ghost use Rattle.std.specs.Prelude.{◌≡◌};
+    ghost use Rattle.command_line.specs.declared.fault.WordsFault.TheVariants as fault;
+
+    ghost from_gives = { λ _ f. f ≡ fault.OutOfMemory };
+
+    fn from(_error: OutOfMemory) -> WordsFault {
         WordsFault::OutOfMemory
     }
 }

@@ -1,7 +1,9 @@
 //! Laws of the words.
 
 ghost use Rattle.std.specs.Prelude.{◌≡◌, ◌↔◌, ◌∷◌, [], ℕ, List, codes, false, true};
+ghost use Rattle.command_line.specs.Calls.{AsksCall};
 ghost use Rattle.command_line.specs.Words.{AreJust, Asks};
+ghost use Rattle.command_line.specs.declared.call_task.CallTask.{CallTask};
 ghost use Rattle.command_line.specs.declared.task.Task.{Task};
 ghost use Rattle.command_line.specs.declared.task.Task.TheVariants.{Cable, Frames};
 
@@ -9,6 +11,11 @@ ghost use Rattle.command_line.specs.declared.task.Task.TheVariants.{Cable, Frame
 pub fn words_laws()
     // Words ask for at most one task.
     ensures one { (words : List (List ℕ)) (a b : Task) → Asks words a → Asks words b → a ≡ b }
+    // And for no task where they ask for a call, and for one call alone.
+    ensures apart { (words : List (List ℕ)) (task : Task) (t : CallTask) →
+        Asks words task → AsksCall words t → ⊥ }
+    ensures one_call { (words : List (List ℕ)) (a b : CallTask) →
+        AsksCall words a → AsksCall words b → a ≡ b }
     // Each task's words, written out.
     ensures cable { (words : List (List ℕ)) → Asks words Cable ↔
         AreJust words (codes "cable" ∷ []) }

@@ -10,7 +10,10 @@
 //! every faulty command line has the same answer.
 #![tactic(auto)]
 
+mod arguments;
 mod cable;
+mod call;
+mod call_task;
 mod fault;
 mod frames;
 mod laws;
@@ -18,6 +21,7 @@ mod parse;
 mod task;
 mod texts;
 
+pub use call_task::CallTask;
 pub use fault::WordsFault;
 pub use laws::words_laws;
-pub use task::{Task, read_words};
+pub use task::{Asked, Task, read_words};

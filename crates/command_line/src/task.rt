@@ -1,18 +1,22 @@
 //! What the words ask for.
 
-ghost use Rattle.std.specs.Prelude.{◌≡◌, IfOk, Err, map};
+ghost use Rattle.std.specs.Prelude.{◌≡◌, Err, IfNone, IfOk, IfSome, Some, map, slice_get};
 ghost use Rattle.std.specs.List.{All};
 ghost use Rattle.std.specs.Str.{IsUtf8};
-ghost use Rattle.command_line.specs.Words.{Asks};
+ghost use Rattle.command_line.specs.Asked.{AsksFor, name_word};
+ghost use Rattle.command_line.specs.declared.task.Asked.{Asked};
+ghost use Rattle.command_line.specs.declared.task.Name.{Name};
 
 use crate::cable::cable;
+use crate::call::call;
+use crate::call_task::CallTask;
 use crate::fault::WordsFault;
 use crate::frames::frames;
 use crate::texts::texts;
 use rs_wire::Blob;
 use std::alloc::Global;
 
-/// What the words ask for.
+/// A task that reads the input.
 #[derive(Clone, Copy, Debug, PartialEq, Eq)]
 pub enum Task {
     /// `cable`: a script is played between a client and a server.
@@ -24,31 +28,65 @@ pub enum Task {
     },
 }
 
-// The first word is the command.
-fn read_texts<'a>(alloc: Global, words: &'a [&'a str]) -> Result<Task, WordsFault>
-    requires { All IsUtf8 (map (λ w. w.now) words.now) }
-    ensures asked { IfOk result (Asks (map (λ w. w.now) words.entry.now)) }
-    ensures usage { result ≡ Err WordsFault.Usage → (task : Task) →
-        ¬ (Asks (map (λ w. w.now) words.entry.now) task) }
+/// What the words ask for.
+#[derive(Debug, Drop, PartialEq, Eq)]
+pub enum Asked {
+    /// A task that reads the input.
+    Task(Task),
+    /// `call`: one call of a server.
+    Call(CallTask),
+}
+
+// The commands, by their names.
+#[derive(Clone, Copy, Debug, PartialEq, Eq)]
+enum Name {
+    Cable,
+    Frames,
+    Call,
+}
+
+// The command that the first word names.
+fn named<'a>(words: &'a [&'a str]) -> Option<Name>
+    ensures is { IfSome result (λ n. slice_get (map (λ w. w.now) words.now) 0 ≡ Some (name_word n)) }
+    ensures none { IfNone result ((n : Name) →
+        ¬ (slice_get (map (λ w. w.now) words.now) 0 ≡ Some (name_word n))) }
 {
     match words.first() {
-        Some(&"cable") => {
-            cable(alloc, words)?;
-            Ok(Task::Cable)
-        }
-        Some(&"frames") => {
-            let back = frames(alloc, words)?;
-            Ok(Task::Frames { back })
-        }
-        _ => Err(WordsFault::Usage),
+        Some(&"cable") => Some(Name::Cable),
+        Some(&"frames") => Some(Name::Frames),
+        Some(&"call") => Some(Name::Call),
+        _ => None,
     }
 }
 
-/// Reads the words after the program's name. [`WordsFault::Usage`] comes only where they ask for no
-/// task, and a task only where they ask for it.
-pub fn read_words(alloc: Global, words: &[Blob]) -> Result<Task, WordsFault>
-    ensures asked { IfOk result (Asks words.now) }
-    ensures usage { result ≡ Err WordsFault.Usage → (task : Task) → ¬ (Asks words.now task) }
+fn read_texts<'a>(alloc: Global, words: &'a [&'a str]) -> Result<Asked, WordsFault>
+    requires { All IsUtf8 (map (λ w. w.now) words.now) }
+    ensures asked { IfOk result (AsksFor (map (λ w. w.now) words.entry.now)) }
+    ensures usage { result ≡ Err WordsFault.Usage → (asked : Asked) →
+        ¬ (AsksFor (map (λ w. w.now) words.entry.now) asked) }
+{
+    match named(words) {
+        Some(Name::Cable) => {
+            cable(alloc, words)?;
+            Ok(Asked::Task(Task::Cable))
+        }
+        Some(Name::Frames) => {
+            let back = frames(alloc, words)?;
+            Ok(Asked::Task(Task::Frames { back }))
+        }
+        Some(Name::Call) => {
+            let task = call(alloc, words)?;
+            Ok(Asked::Call(task))
+        }
+        None => Err(WordsFault::Usage),
+    }
+}
+
+/// Reads the words after the program's name. [`WordsFault::Usage`] comes only where they ask for
+/// nothing, and a task or a call only where they ask for it.
+pub fn read_words(alloc: Global, words: &[Blob]) -> Result<Asked, WordsFault>
+    ensures asked { IfOk result (AsksFor words.now) }
+    ensures usage { result ≡ Err WordsFault.Usage → (asked : Asked) → ¬ (AsksFor words.now asked) }
 {
     let texts = texts(alloc, words)?;
     read_texts(alloc, texts.as_slice())

@@ -1,14 +1,16 @@
-//! The program `rsocket`: [`rsocket_run::start`] over standard input and output.
+//! The program `rsocket`: [`rsocket_run::start`] over standard input and output, and the net and the
+//! clock of the host.
 #![tactic(auto)]
 
+use host_net::{HostClock, HostNet};
 use outside::{StdSink, StdSource};
 use rsocket_run::start;
 use std::process::ExitCode;
-use tape::KeptShelf;
 
 fn main(rt: HostRuntime) -> ExitCode {
     let mut input = StdSource::new(rt.stdin());
     let mut output = StdSink::new(rt.stdout());
-    let mut shelf = KeptShelf::new(rt.alloc());
-    ExitCode::from(start(&rt, rt.alloc(), &mut input, &mut output, &mut shelf))
+    let mut net = HostNet::new(rt.alloc(), &rt);
+    let clock = HostClock::new(&rt);
+    ExitCode::from(start(&rt, rt.alloc(), &mut input, &mut output, &mut net, &clock))
 }

@@ -10,7 +10,7 @@ use Rattle.rsocket_run.specs.declared.stop.Stop.{Stop}
 use Rattle.rsocket_run.specs.declared.stop.Stop.TheVariants as stops
 use Rattle.rsocket_run.specs.Run.{IsDone, IsDue, IsRightInput, TellsBadFrame, TellsWrongLine, bad_frame_line, read_fault_line, wrong_line}
 use Rattle.rsocket_run.specs.Stops.{IsTold, StoppedBy, TellsStop, faults_after_work}
-use Rattle.rsocket_run.specs.Streams.{CutOff, CutsOffSome, WritesSome}
+use Rattle.rsocket_output.specs.Written.{CutOff, CutsOffSome, WritesSome}
 use Rattle.rsocket_run.proofs.Right.{no_bad_frame, no_wrong_line}
 
 cut : (known : ℕ) (text : List ℕ) (old new : ByteStream) (status : ℕ) → known ≢ 5 → IsTold known text old new status → status ≡ 5 → CutOff text old new

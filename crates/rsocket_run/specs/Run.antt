@@ -16,9 +16,14 @@ use Rattle.capture.specs.declared.lines.BadFrame.TheVariants as bads
 use Rattle.rs_frame.specs.Rules.{number_of_rule}
 use Rattle.std.specs.Option.{unwrap_or}
 use Rattle.command_line.specs.Words.{Asks}
+use Rattle.command_line.specs.Asked.{AsksFor}
+use Rattle.command_line.specs.Calls.{AsksCall}
+use Rattle.command_line.specs.declared.call_task.CallTask.{CallTask}
+use Rattle.command_line.specs.declared.task.Asked.{Asked}
 use Rattle.command_line.specs.declared.task.Task.{Task}
 use Rattle.command_line.specs.declared.task.Task.TheVariants as tasks
 use Rattle.rsocket_run.specs.declared.tasks.TheConstants.{READ_FOR_CAPTURE, READ_FOR_SCRIPT}
+use Rattle.rsocket_call.specs.Ended.{IsCallStatus}
 use Rattle.rsocket_run.specs.Streams.{IsReadTo}
 
 -- ---- the last lines
@@ -39,9 +44,6 @@ bad_frame_line place bad = codes "rsocket: frame at " ++ (decimal place ++ (code
 
 abbrev pub read_fault_line : List ℕ
 read_fault_line = codes "rsocket: read fault" ++ 10 ∷ []
-
-abbrev pub memory_line : List ℕ
-memory_line = codes "rsocket: out of memory" ++ 10 ∷ []
 
 -- ---- the work that is done
 
@@ -141,7 +143,11 @@ most_of (tasks.Frames back) = READ_FOR_CAPTURE
 
 -- the words ask for nothing
 abbrev pub AskNothing : List (List ℕ) → Type 0
-AskNothing words = (task : Task) → ¬ (Asks words task)
+AskNothing words = (asked : Asked) → ¬ (AsksFor words asked)
+
+-- this holds of the call that the words ask for
+abbrev pub OfCall : List (List ℕ) → (CallTask → Type 0) → Type 0
+OfCall words P = (t : CallTask) → AsksCall words t → P t
 
 -- this holds of the task that the words ask for, and of the text of the input, where it is told
 abbrev pub OfTask : List (List ℕ) → ByteStream → (Task → List ℕ → Type 0) → Type 0
@@ -163,5 +169,9 @@ IsShelfAfter words input left fresh shelf shelf' status =
 
 -- ---- the status
 
+-- of a task, of a call, and of words that ask for nothing
+abbrev pub IsTaskStatus : ℕ → Type 0
+IsTaskStatus status = (status ≡ 0) ⊎ ((status ≡ 3) ⊎ ((status ≡ 4) ⊎ ((status ≡ 5) ⊎ ((status ≡ 6) ⊎ (status ≡ 11)))))
+
 abbrev pub IsStatus : ℕ → Type 0
-IsStatus status = (status ≡ 0) ⊎ ((status ≡ 2) ⊎ ((status ≡ 3) ⊎ ((status ≡ 4) ⊎ ((status ≡ 5) ⊎ ((status ≡ 6) ⊎ (status ≡ 11))))))
+IsStatus status = IsTaskStatus status ⊎ (IsCallStatus status ⊎ (status ≡ 2))

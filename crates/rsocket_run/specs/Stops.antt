@@ -8,8 +8,6 @@ use Rattle.capture.specs.declared.lines.CaptureFault.{CaptureFault}
 use Rattle.capture.specs.declared.lines.CaptureFault.TheVariants as captures
 use Rattle.capture.specs.declared.back.LineFault.{LineFault}
 use Rattle.capture.specs.declared.back.LineFault.TheVariants as texts
-use Rattle.command_line.specs.declared.fault.WordsFault.{WordsFault}
-use Rattle.command_line.specs.declared.fault.WordsFault.TheVariants as words
 use Rattle.rsocket_run.specs.declared.stop.Stop.{Stop}
 use Rattle.rsocket_run.specs.declared.stop.Stop.TheVariants as stops
 use Rattle.rsocket_run.specs.declared.input.Unread.{Unread}
@@ -18,8 +16,9 @@ use Rattle.command_line.specs.declared.task.Task.{Task}
 use Rattle.tape.specs.declared.entry.Entry.{Entry}
 use Rattle.command_line.specs.Words.{Asks}
 use Rattle.command_line.specs.declared.task.Task.TheVariants as tasks
-use Rattle.rsocket_run.specs.Run.{GotEnds, HasBadFrame, HasWrongLine, bad_frame_line, memory_line, read_fault_line, usage_line, wrong_line}
-use Rattle.rsocket_run.specs.Streams.{CutOff, Writes, WritesLine}
+use Rattle.rsocket_run.specs.Run.{GotEnds, HasBadFrame, HasWrongLine, bad_frame_line, read_fault_line, usage_line, wrong_line}
+use Rattle.rsocket_output.specs.Written.{memory_line}
+use Rattle.rsocket_output.specs.Written.{CutOff, Writes, WritesLine}
 
 -- what a stop tells of the input, and the text that the run has by then
 abbrev pub StoppedBy : Task → List ℕ → Option (List ℕ) → Stop → List ℕ → Type 0
@@ -75,10 +74,6 @@ IsShelfAfterWork words input left fresh shelf shelf' result =
     (shelf' ≡ shelf) ⊎ (Asks words tasks.Cable × GotEnds input left fresh shelf shelf' × IfErr result (λ stop. stop ≡ stops.OutOfMemory))
 
 -- the faults of each part as a stop of the run
-abbrev pub of_words : WordsFault → Stop
-of_words words.Usage = stops.Usage
-of_words words.OutOfMemory = stops.OutOfMemory
-
 abbrev pub of_input : Unread → Stop
 of_input unread.Fault = stops.ReadFault
 of_input unread.OutOfMemory = stops.OutOfMemory

@@ -1,8 +1,7 @@
--- What is read of the input, and what is written to the output.
+-- What is read of the input.
 use Rattle.std.specs.Prelude.{◌≡◌, ◌≢◌, ℕ, ◌≤◌, ◌⊎◌, List, [], ◌++◌, length, Option, Some}
-use Rattle.std.specs.Io.KnownBytes.{append_known, prepend_known}
+use Rattle.std.specs.Io.KnownBytes.{prepend_known}
 use Rattle.outside.specs.Causes.{one_more}
-use Rattle.outside.specs.Streams.{ByteStream}
 
 -- these bytes of the text were read: all, or as many as that
 pub record IsReadTo (most : ℕ) (text bytes : List ℕ) (left : Option (List ℕ)) : Type 0 where
@@ -17,35 +16,6 @@ pub record HasRead (most : ℕ) (old new : Option (List ℕ)) : Type 0 where
   pub read : old ≡ prepend_known bytes new
   pub within : length bytes ≤ most
 
--- all of the text was written, and no write failed
-pub record Writes (text : List ℕ) (old new : ByteStream) : Type 0 where
-  pub told : new.told ≡ append_known old.told text
-  pub faults : new.faults ≡ old.faults
-
--- a prefix of the text was written, and then a write failed, the last one
-pub record CutOff (text : List ℕ) (old new : ByteStream) : Type 0 where
-  pub written : List ℕ
-  pub rest : List ℕ
-  pub text_is : text ≡ written ++ rest
-  pub told : new.told ≡ append_known old.told written
-  pub faults : new.faults ≡ one_more old.faults
-
--- the line was written, or where a write failed a prefix of it
-abbrev pub WritesLine : List ℕ → ByteStream → ByteStream → Type 0
-WritesLine line old new = Writes line old new ⊎ CutOff line old new
-
--- such a text was written
-abbrev pub WritesSome : (List ℕ → Type 0) → ByteStream → ByteStream → Type 0
-WritesSome IsOutput old new = (text : List ℕ) × IsOutput text × Writes text old new
-
--- a prefix of such a text was written, and then a write failed
-abbrev pub CutsOffSome : (List ℕ → Type 0) → ByteStream → ByteStream → Type 0
-CutsOffSome IsOutput old new = (text : List ℕ) × IsOutput text × CutOff text old new
-
 -- the failed reads of a run with this status: none, or on 4 and 5 one
 abbrev pub FailedReads : ℕ → ℕ → ℕ → Type 0
 FailedReads old new status = ((new ≡ old) × (status ≢ 4)) ⊎ ((new ≡ one_more old) × ((status ≡ 4) ⊎ (status ≡ 5)))
-
--- the failed writes of a run with this status: none, or on 2, 5 and 6 one
-abbrev pub FailedWrites : ℕ → ℕ → ℕ → Type 0
-FailedWrites old new status = ((new ≡ old) × (status ≢ 5)) ⊎ ((new ≡ one_more old) × ((status ≡ 2) ⊎ ((status ≡ 5) ⊎ (status ≡ 6))))

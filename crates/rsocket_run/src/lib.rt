@@ -1,12 +1,12 @@
-//! The program `rsocket` as one function, over any words, input, output and shelf of tapes.
+//! The program `rsocket` as one function, over any words, input, output, net, clock and shelf of
+//! tapes.
 //!
 //! [`run`] carries the program's promise, status by status; [`start`] runs it on the words of the
-//! command line. A program is then a `main` that hands in standard input and output, and ends with
-//! the status.
+//! command line. A program is then a `main` that hands in standard input and output and the net and
+//! the clock of the host, and ends with the status.
 #![tactic(auto)]
 
 mod input;
-mod output;
 mod program;
 mod stop;
 mod tasks;

@@ -1,13 +1,12 @@
 //! Why a run stops before its work is done.
 
 ghost use Rattle.std.specs.Prelude.{◌≡◌};
-ghost use Rattle.rsocket_run.specs.Stops.{of_capture, of_input, of_script, of_text, of_words};
+ghost use Rattle.rsocket_run.specs.Stops.{of_capture, of_input, of_script, of_text};
 ghost use Rattle.rsocket_run.specs.declared.stop.Stop.TheVariants as stops;
 
 use crate::input::Unread;
 use cable_script::ScriptFault;
 use capture::{BadFrame, CaptureFault, LineFault};
-use command_line::WordsFault;
 use rs_wire::OutOfMemory;
 
 /// Why a run stops, in the order of the statuses.
@@ -32,17 +31,6 @@ impl From<OutOfMemory> for Stop {
 
     fn from(_error: OutOfMemory) -> Stop {
         Stop::OutOfMemory
-    }
-}
-
-impl From<WordsFault> for Stop {
-    ghost from_gives = { λ fault s. s ≡ of_words fault };
-
-    fn from(fault: WordsFault) -> Stop {
-        match fault {
-            WordsFault::Usage => Stop::Usage,
-            WordsFault::OutOfMemory => Stop::OutOfMemory,
-        }
     }
 }
 

@@ -1,47 +1,17 @@
 //! How the end of a run is told.
 
-ghost use Rattle.std.specs.Prelude.{◌≡◌, ◌⊎◌, ◌++◌, OnOk, decimal};
-ghost use Rattle.rsocket_run.specs.Run.{bad_frame_line, memory_line, number_of_bad, wrong_line};
-ghost use Rattle.rsocket_run.specs.Stops.{IsTold, TellsStop};
-ghost use Rattle.rsocket_run.specs.Streams.{CutOff, Writes, WritesLine};
+ghost use Rattle.std.specs.Prelude.{◌≡◌, ◌⊎◌, ◌++◌, OnOk};
+ghost use Rattle.rsocket_output.specs.Written.{CutOff, Writes};
+ghost use Rattle.rsocket_run.specs.Run.{bad_frame_line, number_of_bad, wrong_line};
+ghost use Rattle.rsocket_run.specs.Stops.{TellsStop};
 
-use crate::output::write_all;
 use crate::stop::Stop;
 use capture::BadFrame;
 use outside::Sink;
 use plain_text::write_number;
 use rs_frame::rule_number;
 use rs_wire::OutOfMemory;
-
-/// The status of a run whose output could not be written.
-const WRITE_FAULT: u8 = 5;
-
-// Writes the last of a run that ends with this status, which is 5 where it can't be written.
-fn say<O: Sink>(output: &mut O, text: &[u8], status: u8) -> u8
-    ensures { ((result ≡ status) × Writes text.now (O.shown output.old) (O.shown output.new)) ⊎
-        ((result ≡ 5) × CutOff text.now (O.shown output.old) (O.shown output.new)) }
-{
-    match write_all(output, text) {
-        Ok(()) => status,
-        Err(_) => WRITE_FAULT,
-    }
-}
-
-// Writes the last line of a run that ends with this status also where it can't be written.
-fn insist<O: Sink>(output: &mut O, line: &[u8], status: u8) -> u8
-    ensures status { result ≡ status }
-    ensures line { WritesLine line.now (O.shown output.old) (O.shown output.new) }
-{
-    let _ = write_all(output, line);
-    status
-}
-
-fn tell_out_of_memory<O: Sink>(output: &mut O) -> u8
-    ensures status { result ≡ 6 }
-    ensures line { WritesLine memory_line (O.shown output.old) (O.shown output.new) }
-{
-    insist(output, b"rsocket: out of memory\n", 6)
-}
+use rsocket_output::{insist, say, tell_out_of_memory};
 
 fn put_wrong_line(text: &mut Vec<u8>, number: u32) -> Result<(), OutOfMemory>
     ensures { OnOk result (text.new.items ≡ text.old.items ++ wrong_line number) }

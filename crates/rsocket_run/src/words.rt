@@ -1,17 +1,19 @@
 //! The words of the command line, as the system gives them.
 
 ghost use Rattle.std.specs.Prelude.{◌≡◌};
-ghost use Rattle.rsocket_run.specs.Run.{IsStatus, memory_line, read_fault_line, usage_line};
-ghost use Rattle.rsocket_run.specs.Streams.{FailedReads, FailedWrites, Writes, WritesLine};
+ghost use Rattle.rsocket_call.specs.Ended.{EndsInMemory};
+ghost use Rattle.rsocket_run.specs.Run.{IsStatus, read_fault_line, usage_line};
+ghost use Rattle.rsocket_output.specs.Written.{FailedWrites, Writes, WritesLine};
+ghost use Rattle.rsocket_run.specs.Streams.{FailedReads};
 
 use crate::program::run;
-use crate::stop::Stop;
-use crate::tell::tell_stop;
-use outside::{Sink, Source};
+use outside::{Clock, Net, Sink, Source};
 use rs_wire::{Blob, OutOfMemory};
+use rsocket_output::tell_out_of_memory;
 use std::alloc::Global;
 use std::env::{Env, FillError};
-use tape::Shelf;
+use std::sync::Wait;
+use tape::{BlankShelf, KeptShelf};
 
 /// How many bytes a word is given room for at first.
 const FIRST_ROOM: usize = 256;
@@ -47,14 +49,25 @@ pub fn words<R: Env>(rt: &R, alloc: Global) -> Result<Vec<Blob>, OutOfMemory> {
     Ok(words)
 }
 
+/// Whether the words ask for the cable, whose report needs tapes that show their entries.
+fn is_cable(words: &[Blob]) -> bool {
+    match words.first() {
+        Some(word) => word.as_slice() == b"cable".as_slice(),
+        None => false,
+    }
+}
+
 /// Runs the program on the words of the command line, as [`run`] does, which says more of each
-/// status. No contract knows the words that the system gives.
-pub fn start<R: Env, I: Source, O: Sink, H: Shelf>(
+/// status. `cable` has tapes that are kept; other commands have tapes that show nothing and take no
+/// memory. No contract knows the words that the system gives.
+pub fn start<E: Env, R: Wait, I: Source, O: Sink, N: Net, K: Clock>(
+    env: &E,
     rt: &R,
     alloc: Global,
     input: &mut I,
     output: &mut O,
-    shelf: &mut H,
+    net: &mut N,
+    clock: &K,
 ) -> u8
     ensures status { IsStatus result }
     ensures failed_reads { FailedReads
@@ -65,12 +78,16 @@ pub fn start<R: Env, I: Source, O: Sink, H: Shelf>(
         WritesLine usage_line (O.shown output.old) (O.shown output.new) }
     ensures fault_line { result ≡ 4 →
         Writes read_fault_line (O.shown output.old) (O.shown output.new) }
-    ensures memory_line { result ≡ 6 →
-        WritesLine memory_line (O.shown output.old) (O.shown output.new) }
-    ensures lent { H.lent shelf.new ≡ H.lent shelf.old }
+    ensures memory { result ≡ 6 → EndsInMemory (O.shown output.old) (O.shown output.new) }
 {
-    match words(rt, alloc) {
-        Ok(words) => run(alloc, &words, input, output, shelf),
-        Err(OutOfMemory) => tell_stop(output, &mut Vec::new(alloc), Stop::OutOfMemory),
+    let Ok(words) = words(env, alloc) else {
+        return tell_out_of_memory(output);
+    };
+    if is_cable(&words) {
+        let mut shelf = KeptShelf::new(alloc);
+        run(rt, alloc, &words, input, output, net, clock, &mut shelf)
+    } else {
+        let mut shelf = BlankShelf::new(alloc);
+        run(rt, alloc, &words, input, output, net, clock, &mut shelf)
     }
 }

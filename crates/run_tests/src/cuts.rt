@@ -2,6 +2,7 @@
 
 use crate::ended::{CABLE, ran, writes};
 use std::alloc::Global;
+use std::sync::Wait;
 use std::test::Fail;
 
 /// The report where the SETUP was lost, which has 77 bytes with its length: the server knows
@@ -59,18 +60,18 @@ fn report_of_cut(crossed: u32) -> &'static str {
 }
 
 /// Whether the run that is cut once so many bytes went up has its report.
-fn resumes_after(alloc: Global, crossed: u32) -> Result<bool, Fail> {
+fn resumes_after<R: Wait>(rt: &R, alloc: Global, crossed: u32) -> Result<bool, Fail> {
     let script = format!(in alloc;
         "resume tok1\nclient fnf 6869\nup {crossed}\ncut\nopen\ndrain\n"
     )?;
     let report = report_of_cut(crossed);
-    writes(alloc, CABLE, script.as_bytes(), report.as_bytes())
+    writes(rt, alloc, CABLE, script.as_bytes(), report.as_bytes())
 }
 
 #[test]
 fn a_cut_at_any_byte_on_the_way_up_loses_nothing_but_a_setup(rt: HostRuntime) -> Result<(), Fail> {
     for crossed in 1..=88 {
-        assert!(rt; resumes_after(rt.alloc(), crossed)?, "{crossed}");
+        assert!(rt; resumes_after(&rt, rt.alloc(), crossed)?, "{crossed}");
     }
     Ok(())
 }
@@ -91,13 +92,13 @@ fn what_crosses_byte_by_byte_is_the_same(rt: HostRuntime) -> Result<(), Fail> {
     put_often(&mut script, b"up 1\n", 35)?;
     put_often(&mut script, b"down 1\n", 17)?;
     put_often(&mut script, b"up 1\n", 11)?;
-    assert!(rt; writes(rt.alloc(), CABLE, &script, NO_REQUEST_CAME.as_bytes())?);
+    assert!(rt; writes(&rt, rt.alloc(), CABLE, &script, NO_REQUEST_CAME.as_bytes())?);
     Ok(())
 }
 
 /// Whether the run of a script ends with status 0, and its report begins so.
-fn begins(alloc: Global, script: &str, wanted: &str) -> Result<bool, Fail> {
-    let (status, report) = ran(alloc, CABLE, script.as_bytes())?;
+fn begins<R: Wait>(rt: &R, alloc: Global, script: &str, wanted: &str) -> Result<bool, Fail> {
+    let (status, report) = ran(rt, alloc, CABLE, script.as_bytes())?;
     Ok(status == 0 && report.starts_with(wanted.as_bytes()))
 }
 
@@ -123,7 +124,7 @@ drain
 "
         )?;
         assert!(rt;
-            begins(rt.alloc(), script.as_str(), THREE_ITEMS)?,
+            begins(&rt, rt.alloc(), script.as_str(), THREE_ITEMS)?,
             "{crossed}"
         );
     }
@@ -138,7 +139,7 @@ server made 202 301213 handled 3 25
 
 /// Whether all comes where the connection is lost twice: within the first requests, and once so
 /// many bytes of the answers came.
-fn comes_whole(alloc: Global, crossed: u32) -> Result<bool, Fail> {
+fn comes_whole<R: Wait>(rt: &R, alloc: Global, crossed: u32) -> Result<bool, Fail> {
     let script = format!(in alloc;
         "\
 resume tok1
@@ -158,15 +159,15 @@ open
 drain
 "
     )?;
-    begins(alloc, script.as_str(), ALL_KINDS)
+    begins(rt, alloc, script.as_str(), ALL_KINDS)
 }
 
 #[test]
 fn a_session_of_all_kinds_outlives_two_cuts(rt: HostRuntime) -> Result<(), Fail> {
     for place in 0..40 {
         let crossed = 1 + 7_545 * place;
-        assert!(rt; comes_whole(rt.alloc(), crossed)?, "{crossed}");
+        assert!(rt; comes_whole(&rt, rt.alloc(), crossed)?, "{crossed}");
     }
-    assert!(rt; comes_whole(rt.alloc(), 100_000)?);
+    assert!(rt; comes_whole(&rt, rt.alloc(), 100_000)?);
     Ok(())
 }

@@ -1,9 +1,10 @@
 //! Runs over memory, which the tests share.
 
-use outside::{MemSink, MemSource, Sink, Source};
+use outside::{MemClock, MemNet, MemSink, MemSource, Sink, Source};
 use rs_wire::Blob;
 use rsocket_run::run;
 use std::alloc::Global;
+use std::sync::Wait;
 use std::test::Fail;
 use tape::KeptShelf;
 
@@ -26,7 +27,8 @@ fn words(alloc: Global, all: &[&[u8]]) -> Result<Vec<Blob>, Fail> {
 }
 
 /// The status of a run on these words over such an input and output.
-pub fn status_over<I: Source, O: Sink>(
+pub fn status_over<R: Wait, I: Source, O: Sink>(
+    rt: &R,
     alloc: Global,
     all: &[&[u8]],
     input: &mut I,
@@ -34,19 +36,34 @@ pub fn status_over<I: Source, O: Sink>(
 ) -> Result<u8, Fail> {
     let words = words(alloc, all)?;
     let mut shelf = KeptShelf::new(alloc);
-    Ok(run(alloc, &words, input, output, &mut shelf))
+    let mut net = MemNet::new(alloc, Vec::new(alloc), Vec::new(alloc));
+    let clock = MemClock::new(vec![in alloc; 0; 1]?);
+    Ok(run(
+        rt, alloc, &words, input, output, &mut net, &clock, &mut shelf,
+    ))
 }
 
 /// The status of a run on these words and this input, and what it wrote.
-pub fn ran(alloc: Global, all: &[&[u8]], text: &[u8]) -> Result<(u8, Vec<u8>), Fail> {
+pub fn ran<R: Wait>(
+    rt: &R,
+    alloc: Global,
+    all: &[&[u8]],
+    text: &[u8],
+) -> Result<(u8, Vec<u8>), Fail> {
     let mut input = MemSource::new(Blob::from_slice(alloc, text)?, Vec::new(alloc));
     let mut output = MemSink::new(alloc, Vec::new(alloc));
-    let status = status_over(alloc, all, &mut input, &mut output)?;
+    let status = status_over(rt, alloc, all, &mut input, &mut output)?;
     Ok((status, Vec::from_slice(alloc, output.written())?))
 }
 
 /// Whether a run on these words and this input ends with status 0 and wrote just that.
-pub fn writes(alloc: Global, all: &[&[u8]], text: &[u8], written: &[u8]) -> Result<bool, Fail> {
-    let (status, output) = ran(alloc, all, text)?;
+pub fn writes<R: Wait>(
+    rt: &R,
+    alloc: Global,
+    all: &[&[u8]],
+    text: &[u8],
+    written: &[u8],
+) -> Result<bool, Fail> {
+    let (status, output) = ran(rt, alloc, all, text)?;
     Ok(status == 0 && output.as_slice() == written)
 }

@@ -3,6 +3,7 @@
 use crate::ended::{BACK, CABLE, FRAMES, status_over};
 use outside::{MemSink, Read, Source};
 use std::alloc::Global;
+use std::sync::Wait;
 use std::test::Fail;
 
 /// A source that never ends: nine bytes, again and again.
@@ -85,13 +86,13 @@ const ENDLESS: [Endless; 5] = [
 ];
 
 /// Whether the run ends with the status, and wrote just the lines.
-fn ends_still(alloc: Global, row: &Endless) -> Result<bool, Fail> {
+fn ends_still<R: Wait>(rt: &R, alloc: Global, row: &Endless) -> Result<bool, Fail> {
     let mut input = EndlessSource {
         pattern: row.pattern,
         given: 0,
     };
     let mut output = MemSink::new(alloc, Vec::new(alloc));
-    let status = status_over(alloc, row.words, &mut input, &mut output)?;
+    let status = status_over(rt, alloc, row.words, &mut input, &mut output)?;
     let mut rest = output.written();
     for _ in 0..row.lines {
         match rest.strip_prefix(b"CANCEL 1\n".as_slice()) {
@@ -105,7 +106,7 @@ fn ends_still(alloc: Global, row: &Endless) -> Result<bool, Fail> {
 #[test]
 fn each_endless_run_ends(rt: HostRuntime) -> Result<(), Fail> {
     for row in ENDLESS {
-        assert!(rt; ends_still(rt.alloc(), &row)?, "{}", row.shows);
+        assert!(rt; ends_still(&rt, rt.alloc(), &row)?, "{}", row.shows);
     }
     Ok(())
 }

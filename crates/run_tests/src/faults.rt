@@ -4,6 +4,7 @@ use crate::ended::{BACK, CABLE, FRAMES, status_over};
 use outside::{MemSink, MemSource, Read, Sink, Source, Wrote};
 use rs_wire::Blob;
 use std::alloc::Global;
+use std::sync::Wait;
 use std::test::Fail;
 
 const HELLO: &[u8] = b"client fnf 6869\nup 1000\n";
@@ -171,7 +172,8 @@ const FAULTS: [Fault; 12] = [
 ];
 
 /// Whether a run that reads and writes one byte a call ends with this status, and wrote just that.
-fn ends_over(
+fn ends_over<R: Wait>(
+    rt: &R,
     alloc: Global,
     words: &[&[u8]],
     text: &[u8],
@@ -183,7 +185,7 @@ fn ends_over(
     let mut input = ByteSource { source };
     let sink = MemSink::new(alloc, Vec::from_slice(alloc, fault.writes)?);
     let mut output = ByteSink { sink };
-    let status = status_over(alloc, words, &mut input, &mut output)?;
+    let status = status_over(rt, alloc, words, &mut input, &mut output)?;
     Ok(status == fault.status && written == Some(output.sink.written()))
 }
 
@@ -196,7 +198,7 @@ fn each_command_ends_so(rt: HostRuntime) -> Result<(), Fail> {
                 Written::First(count) => all.get(..count),
                 Written::Other(bytes) => Some(bytes),
             };
-            let right = ends_over(rt.alloc(), words, text, &fault, written)?;
+            let right = ends_over(&rt, rt.alloc(), words, text, &fault, written)?;
             assert!(rt; right, "{words:?}: {}", fault.shows);
         }
     }
@@ -213,6 +215,6 @@ const USAGE: Fault = Fault {
 
 #[test]
 fn usage_stays_where_it_cant_be_written(rt: HostRuntime) -> Result<(), Fail> {
-    assert!(rt; ends_over(rt.alloc(), &[], b"", &USAGE, Some(b""))?);
+    assert!(rt; ends_over(&rt, rt.alloc(), &[], b"", &USAGE, Some(b""))?);
     Ok(())
 }

@@ -3,6 +3,7 @@
 use crate::ended::{BACK, FRAMES, writes};
 use byteorder::{BigEndian, ByteOrder};
 use std::alloc::Global;
+use std::sync::Wait;
 use std::test::Fail;
 
 // Appends a frame after its length of 3 bytes.
@@ -26,11 +27,16 @@ fn put_many(bytes: &mut Vec<u8>, line: &mut Vec<u8>, count: u32) -> Result<(), F
     Ok(())
 }
 
-fn goes_and_comes(alloc: Global, frame: &[u8], line: &mut Vec<u8>) -> Result<bool, Fail> {
+fn goes_and_comes<R: Wait>(
+    rt: &R,
+    alloc: Global,
+    frame: &[u8],
+    line: &mut Vec<u8>,
+) -> Result<bool, Fail> {
     let mut bytes = Vec::new(alloc);
     put_framed(&mut bytes, frame)?;
     line.push(b'\n')?;
-    Ok(writes(alloc, FRAMES, &bytes, line)? && writes(alloc, BACK, line, &bytes)?)
+    Ok(writes(rt, alloc, FRAMES, &bytes, line)? && writes(rt, alloc, BACK, line, &bytes)?)
 }
 
 #[test]
@@ -38,7 +44,7 @@ fn the_longest_content_comes_back(rt: HostRuntime) -> Result<(), Fail> {
     let mut frame = Vec::from_slice(rt.alloc(), &[0, 0, 0, 1, 0x28, 0])?;
     let mut line = Vec::from_slice(rt.alloc(), b"PAYLOAD 1 - - ")?;
     put_many(&mut frame, &mut line, 0xff_ffff - 6)?;
-    assert!(rt; goes_and_comes(rt.alloc(), &frame, &mut line)?);
+    assert!(rt; goes_and_comes(&rt, rt.alloc(), &frame, &mut line)?);
     Ok(())
 }
 
@@ -48,7 +54,7 @@ fn the_longest_metadata_comes_back(rt: HostRuntime) -> Result<(), Fail> {
     let mut line = Vec::from_slice(rt.alloc(), b"PAYLOAD 1 - ")?;
     put_many(&mut frame, &mut line, 0xff_ffff - 9)?;
     line.extend_from_slice(b" .")?;
-    assert!(rt; goes_and_comes(rt.alloc(), &frame, &mut line)?);
+    assert!(rt; goes_and_comes(&rt, rt.alloc(), &frame, &mut line)?);
     Ok(())
 }
 
@@ -66,6 +72,6 @@ fn the_longest_names_come_back(rt: HostRuntime) -> Result<(), Fail> {
         put_many(&mut frame, &mut line, 0xff)?;
     }
     line.extend_from_slice(b" - .")?;
-    assert!(rt; goes_and_comes(rt.alloc(), &frame, &mut line)?);
+    assert!(rt; goes_and_comes(&rt, rt.alloc(), &frame, &mut line)?);
     Ok(())
 }

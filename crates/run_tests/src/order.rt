@@ -4,6 +4,7 @@ use crate::ended::{BACK, CABLE, FRAMES, status_over};
 use outside::{MemSink, MemSource, Read, Sink, Source, Wrote};
 use rs_wire::Blob;
 use std::alloc::Global;
+use std::sync::Wait;
 use std::sync::atomic::{AtomicBool, Ordering};
 use std::test::Fail;
 
@@ -65,7 +66,7 @@ struct Row {
 }
 
 /// Whether the run ends with the status, writes, and reads nothing after the first write.
-fn reads_first(alloc: Global, row: &Row) -> Result<bool, Fail> {
+fn reads_first<R: Wait>(rt: &R, alloc: Global, row: &Row) -> Result<bool, Fail> {
     let order = Order {
         wrote: AtomicBool::new(false),
         read_after_a_write: AtomicBool::new(false),
@@ -79,7 +80,7 @@ fn reads_first(alloc: Global, row: &Row) -> Result<bool, Fail> {
         sink: MemSink::new(alloc, Vec::new(alloc)),
         order: &order,
     };
-    let ended = status_over(alloc, row.words, &mut input, &mut output)?;
+    let ended = status_over(rt, alloc, row.words, &mut input, &mut output)?;
     let wrote = order.wrote.load(Ordering::SeqCst);
     let late = order.read_after_a_write.load(Ordering::SeqCst);
     Ok(ended == row.status && wrote && !late)
@@ -156,7 +157,7 @@ const ROWS: [Row; 9] = [
 #[test]
 fn all_is_read_before_anything_is_written(rt: HostRuntime) -> Result<(), Fail> {
     for row in ROWS {
-        assert!(rt; reads_first(rt.alloc(), &row)?, "{}", row.shows);
+        assert!(rt; reads_first(&rt, rt.alloc(), &row)?, "{}", row.shows);
     }
     Ok(())
 }

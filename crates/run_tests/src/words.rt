@@ -1,12 +1,12 @@
 //! The words of the command line, over a system of the tests.
 
-use outside::{MemSink, MemSource};
+use outside::{MemClock, MemNet, MemSink, MemSource};
 use rs_wire::Blob;
 use rsocket_run::start;
 use std::alloc::Global;
 use std::env::{Env, FillError};
+use std::sync::Wait;
 use std::test::Fail;
-use tape::KeptShelf;
 
 /// A system whose command line has these words, the program's name first.
 #[derive(Drop)]
@@ -41,11 +41,18 @@ impl Env for Line<'_> {
 const INPUT: &[u8] = b"CANCEL 1\n";
 
 /// Whether the program on this command line ends with this status and writes just that.
-fn starts(alloc: Global, line: &Line<'_>, status: u8, written: &[u8]) -> Result<bool, Fail> {
+fn starts<R: Wait>(
+    rt: &R,
+    alloc: Global,
+    line: &Line<'_>,
+    status: u8,
+    written: &[u8],
+) -> Result<bool, Fail> {
     let mut input = MemSource::new(Blob::from_slice(alloc, INPUT)?, Vec::new(alloc));
     let mut output = MemSink::new(alloc, Vec::new(alloc));
-    let mut shelf = KeptShelf::new(alloc);
-    let ended = start(line, alloc, &mut input, &mut output, &mut shelf);
+    let mut net = MemNet::new(alloc, Vec::new(alloc), Vec::new(alloc));
+    let clock = MemClock::new(vec![in alloc; 0; 1]?);
+    let ended = start(line, rt, alloc, &mut input, &mut output, &mut net, &clock);
     Ok(ended == status && output.written() == written)
 }
 
@@ -147,7 +154,7 @@ fn every_word_reaches_the_program(rt: HostRuntime) -> Result<(), Fail> {
             words: row.line,
             wants: 0,
         };
-        let right = starts(rt.alloc(), &line, row.status, row.written)?;
+        let right = starts(&rt, rt.alloc(), &line, row.status, row.written)?;
         assert!(rt; right, "{}", row.shows);
     }
     Ok(())
@@ -160,26 +167,26 @@ fn words_come_whole_once_there_is_room(rt: HostRuntime) -> Result<(), Fail> {
             words: &[b"rsocket", b"frames", b"--back"],
             wants,
         };
-        assert!(rt; starts(rt.alloc(), &line, 0, BYTES)?, "{wants}");
+        assert!(rt; starts(&rt, rt.alloc(), &line, 0, BYTES)?, "{wants}");
     }
     Ok(())
 }
 
 /// Whether the program ends with status 2 where this many bytes stand after a command's first.
-fn is_too_long(alloc: Global, count: usize) -> Result<bool, Fail> {
+fn is_too_long<R: Wait>(rt: &R, alloc: Global, count: usize) -> Result<bool, Fail> {
     let mut long = Vec::from_slice(alloc, b"cable")?;
     long.resize(count, b'x')?;
     let line = Line {
         words: &[b"rsocket", &long],
         wants: 0,
     };
-    starts(alloc, &line, 2, USAGE)
+    starts(rt, alloc, &line, 2, USAGE)
 }
 
 #[test]
 fn no_word_is_cut_off(rt: HostRuntime) -> Result<(), Fail> {
     for count in [255, 256, 257, 511, 512, 513, 5_000] {
-        assert!(rt; is_too_long(rt.alloc(), count)?, "{count}");
+        assert!(rt; is_too_long(&rt, rt.alloc(), count)?, "{count}");
     }
     Ok(())
 }

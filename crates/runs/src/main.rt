@@ -16,6 +16,11 @@
 //! server made 0 0 handled 0 0
 //! ```
 //!
+//! In a run of `call` the lines of the input describe its net: `link`, then maybe `ends` (it ends after
+//! its bytes, and else it lulls), `most N` (bytes of one call), `fails N` (the call that fails), and the
+//! bytes that are read of it; `dials N` (the dial that fails); `clock M M` (the moments); `given` (the
+//! bytes that the links are to be given). Such a run is played twice, also over tapes that show nothing.
+//!
 //! A line or a word that begins with `0x` is the bytes of its digits, without a line feed; `0x`
 //! alone is no byte. A line that ends with `\` goes on in the next one.
 #![tactic(auto)]
@@ -24,6 +29,7 @@ mod bytes;
 mod play;
 mod run;
 mod tally;
+mod wires;
 
 use crate::play::play_file;
 use anyhow::{Context, Result};
@@ -31,8 +37,8 @@ use std::env;
 use std::process::ExitCode;
 
 /// The files of runs.
-const FILES: [&str; 8] = [
-    "words", "script", "settings", "stream", "fragment", "moments", "resume", "frames",
+const FILES: [&str; 9] = [
+    "words", "script", "settings", "stream", "fragment", "moments", "resume", "frames", "call",
 ];
 
 fn main(rt: HostRuntime) -> Result<ExitCode> {

@@ -7,6 +7,7 @@ use std::alloc::Global;
 use std::fs;
 use std::io::Print;
 use std::rt::Files;
+use std::sync::Wait;
 
 // The run of this name. Where its text is out of form, its name is printed.
 fn read_run(rt: &impl Print, alloc: Global, name: &str, text: &str) -> Result<Run> {
@@ -20,7 +21,11 @@ fn read_run(rt: &impl Print, alloc: Global, name: &str, text: &str) -> Result<Ru
 }
 
 /// Plays the runs of a file, and answers whether none differs.
-pub fn play_file<R: Files + AllocGlobal + Print>(rt: &R, folder: &str, file: &str) -> Result<bool> {
+pub fn play_file<R: Files + AllocGlobal + Print + Wait>(
+    rt: &R,
+    folder: &str,
+    file: &str,
+) -> Result<bool> {
     let alloc = rt.alloc();
     let path = format!(in alloc; "{folder}/{file}.runs")?;
     let text = fs::read_to_string(rt, path.as_str()).context("a file of runs cannot be read")?;
@@ -28,7 +33,12 @@ pub fn play_file<R: Files + AllocGlobal + Print>(rt: &R, folder: &str, file: &st
     for part in text.split("\n== ").skip(1) {
         let name = part.lines().next().unwrap_or("");
         let run = read_run(rt, alloc, name, part)?;
-        tally.add(rt, name, &run.end, &run.play(alloc)?)?;
+        let end = run.play(rt, alloc)?;
+        tally.add(rt, name, run.is_met(&end), &end)?;
+        if run.is_call() {
+            let blank = run.play_blank(rt, alloc)?;
+            tally.add(rt, name, run.is_met(&blank), &blank)?;
+        }
     }
     Ok(tally.close(rt, file)?)
 }

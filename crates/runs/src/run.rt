@@ -1,12 +1,14 @@
 //! A run of the program, and how it ends.
 
 use crate::bytes::{of_word, put_line};
+use crate::wires::Wires;
 use anyhow::{Context, Result, ensure};
 use outside::{MemSink, MemSource};
 use rs_wire::Blob;
 use rsocket_run::run;
 use std::alloc::Global;
-use tape::KeptShelf;
+use std::sync::Wait;
+use tape::{BlankShelf, KeptShelf, Shelf};
 
 /// How a run ends.
 #[derive(Drop, PartialEq, Eq)]
@@ -15,6 +17,8 @@ pub struct End {
     pub status: u8,
     /// All bytes that it wrote.
     pub written: Vec<u8>,
+    /// All bytes that its links were given, in the order in which they were put back.
+    pub given: Vec<u8>,
 }
 
 /// What a run is given, and how it is to end.
@@ -24,6 +28,8 @@ pub struct Run {
     pub words: Vec<Blob>,
     /// The bytes on its input.
     pub input: Vec<u8>,
+    /// Its net and its clock.
+    pub wires: Wires,
     /// How it is to end.
     pub end: End,
 }
@@ -71,19 +77,68 @@ impl Run {
         Ok(Run {
             words,
             input,
-            end: End { status, written },
+            wires: Wires::read(alloc, text)?,
+            end: End {
+                status,
+                written,
+                given: Vec::new(alloc),
+            },
         })
     }
 
-    /// How the program ends on these words and this input.
-    pub fn play(&self, alloc: Global) -> Result<End> {
+    // How the program ends over tapes of this shelf.
+    fn play_on<R: Wait, H: Shelf>(&self, rt: &R, alloc: Global, shelf: &mut H) -> Result<End> {
         let mut input = MemSource::new(Blob::from_slice(alloc, &self.input)?, Vec::new(alloc));
         let mut output = MemSink::new(alloc, Vec::new(alloc));
-        let mut shelf = KeptShelf::new(alloc);
-        let status = run(alloc, &self.words, &mut input, &mut output, &mut shelf);
+        let mut net = self.wires.net(alloc)?;
+        let clock = self.wires.clock(alloc)?;
+        let status = run(
+            rt,
+            alloc,
+            &self.words,
+            &mut input,
+            &mut output,
+            &mut net,
+            &clock,
+            shelf,
+        );
+        let mut given = Vec::new(alloc);
+        for link in net.back() {
+            given.extend_from_slice(link.given())?;
+        }
         Ok(End {
             status,
             written: Vec::from_slice(alloc, output.written())?,
+            given,
         })
+    }
+
+    /// How the program ends on these words and this input, over tapes that show their entries.
+    pub fn play<R: Wait>(&self, rt: &R, alloc: Global) -> Result<End> {
+        let mut shelf = KeptShelf::new(alloc);
+        self.play_on(rt, alloc, &mut shelf)
+    }
+
+    /// How it ends over tapes that show nothing.
+    pub fn play_blank<R: Wait>(&self, rt: &R, alloc: Global) -> Result<End> {
+        let mut shelf = BlankShelf::new(alloc);
+        self.play_on(rt, alloc, &mut shelf)
+    }
+
+    /// Whether it is a call, which tapes that show nothing serve too.
+    pub fn is_call(&self) -> bool {
+        match self.words.first() {
+            Some(word) => word.as_slice() == b"call".as_slice(),
+            None => false,
+        }
+    }
+
+    /// Whether it ended so as its text says.
+    pub fn is_met(&self, end: &End) -> bool {
+        let given = match &self.wires.given {
+            Some(given) => *given == end.given,
+            None => true,
+        };
+        given && self.end.status == end.status && self.end.written == end.written
     }
 }

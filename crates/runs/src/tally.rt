@@ -29,16 +29,16 @@ impl Tally {
         Tally { runs: 0, differ: 0 }
     }
 
-    /// Counts the run of this name, which is to end so, and ended so.
+    /// Counts the run of this name, which ended so, and whether that is as its text says.
     pub fn add(
         &mut self,
         rt: &impl Print,
         name: &str,
-        wanted: &End,
+        is_met: bool,
         ended: &End,
     ) -> io::Result<()> {
         self.runs = self.runs.saturating_add(1);
-        if ended == wanted {
+        if is_met {
             return Ok(());
         }
         self.differ = self.differ.saturating_add(1);

@@ -1,7 +1,7 @@
 //! Words of the command line, and what they ask for.
 
-use command_line::{Task, WordsFault, read_words};
-use rs_wire::Blob;
+use command_line::{Asked, CallTask, Task, WordsFault, read_words};
+use rs_wire::{Amount, Blob, Kind};
 use std::alloc::Global;
 use std::test::Fail;
 
@@ -14,7 +14,7 @@ const BACK: &[u8] = b"--back";
 const END: &[u8] = b"--";
 
 // What the words ask for, or why nothing.
-fn answer(alloc: Global, words: &[&[u8]]) -> Result<Result<Task, WordsFault>, Fail> {
+fn answer(alloc: Global, words: &[&[u8]]) -> Result<Result<Asked, WordsFault>, Fail> {
     let mut blobs = Vec::new(alloc);
     for word in words {
         blobs.push(Blob::from_slice(alloc, word)?)?;
@@ -29,7 +29,7 @@ fn is_usage(alloc: Global, words: &[&[u8]]) -> Result<bool, Fail> {
 
 #[test]
 fn cable_has_no_word_after_it(rt: HostRuntime) -> Result<(), Fail> {
-    let cable = Ok(Task::Cable);
+    let cable = Ok(Asked::Task(Task::Cable));
     assert!(rt; answer(rt.alloc(), &[CABLE])? == cable);
     assert!(rt; answer(rt.alloc(), &[CABLE, END])? == cable);
     Ok(())
@@ -37,8 +37,8 @@ fn cable_has_no_word_after_it(rt: HostRuntime) -> Result<(), Fail> {
 
 #[test]
 fn frames_may_go_back(rt: HostRuntime) -> Result<(), Fail> {
-    let forth = Ok(Task::Frames { back: false });
-    let back = Ok(Task::Frames { back: true });
+    let forth = Ok(Asked::Task(Task::Frames { back: false }));
+    let back = Ok(Asked::Task(Task::Frames { back: true }));
     assert!(rt; answer(rt.alloc(), &[FRAMES])? == forth);
     assert!(rt; answer(rt.alloc(), &[FRAMES, END])? == forth);
     assert!(rt; answer(rt.alloc(), &[FRAMES, BACK])? == back);
@@ -81,6 +81,96 @@ fn a_word_too_much_is_usage(rt: HostRuntime) -> Result<(), Fail> {
         &[FRAMES, b"--version"],
         &[FRAMES, b"\xff"],
         &[CABLE, END, END],
+    ];
+    for row in rows {
+        assert!(rt; is_usage(rt.alloc(), row)?);
+    }
+    Ok(())
+}
+
+const CALL: &[u8] = b"call";
+
+const MOST: u32 = 2_147_483_647;
+
+// A call of `m` by the route `r` with no content, as the words ask for it that say no more.
+fn plain(alloc: Global, kind: Kind) -> Result<CallTask, Fail> {
+    Ok(CallTask {
+        address: Blob::from_slice(alloc, b"m")?,
+        kind,
+        route: Blob::from_slice(alloc, b"r")?,
+        content: Blob::from_slice(alloc, b"")?,
+        count: Amount::of(MOST).ok_or("an amount")?,
+        token: None,
+        lease: false,
+        lulls: 1_000,
+        tries: 0,
+        ws: false,
+    })
+}
+
+#[test]
+fn a_call_has_its_defaults(rt: HostRuntime) -> Result<(), Fail> {
+    let rows: [(&[u8], Kind); 4] = [
+        (b"fnf", Kind::Fnf),
+        (b"response", Kind::Response),
+        (b"stream", Kind::Stream),
+        (b"channel", Kind::Channel),
+    ];
+    for (word, kind) in rows {
+        let asked = Ok(Asked::Call(plain(rt.alloc(), kind)?));
+        assert!(rt; answer(rt.alloc(), &[CALL, b"m", word, b"r", b"."])? == asked);
+    }
+    Ok(())
+}
+
+#[test]
+fn a_call_has_options_before_and_after_its_operands(rt: HostRuntime) -> Result<(), Fail> {
+    let mut task = plain(rt.alloc(), Kind::Stream)?;
+    task.content = Blob::from_slice(rt.alloc(), b"hi")?;
+    task.count = Amount::of(2).ok_or("an amount")?;
+    task.token = Some(Blob::from_slice(rt.alloc(), b"tok")?);
+    task.lease = true;
+    task.lulls = 3;
+    task.tries = 16;
+    task.ws = true;
+    let words: [&[u8]; 13] = [
+        CALL,
+        b"--count",
+        b"2",
+        b"--ws",
+        b"m",
+        b"stream",
+        b"--resume=tok",
+        b"r",
+        b"--lease",
+        b"6869",
+        b"--lulls",
+        b"3",
+        b"--tries=16",
+    ];
+    assert!(rt; answer(rt.alloc(), &words)? == Ok(Asked::Call(task)));
+    Ok(())
+}
+
+#[test]
+fn a_faulty_call_is_usage(rt: HostRuntime) -> Result<(), Fail> {
+    let rows: [&[&[u8]]; 16] = [
+        &[CALL],
+        &[CALL, b"m", b"fnf", b"r"],
+        &[CALL, b"m", b"fnf", b"r", b".", b"x"],
+        &[CALL, b"m", b"push", b"r", b"."],
+        &[CALL, b"m", b"fnf", b"r", b"686"],
+        &[CALL, b"m", b"fnf", b"r", b"6A"],
+        &[CALL, b"m", b"fnf", b"r", b"hi"],
+        &[CALL, b"m", b"fnf", b"r", b".", b"--count", b"0"],
+        &[CALL, b"m", b"fnf", b"r", b".", b"--count", b"2147483648"],
+        &[CALL, b"m", b"fnf", b"r", b".", b"--count=01"],
+        &[CALL, b"m", b"fnf", b"r", b".", b"--lulls", b"0"],
+        &[CALL, b"m", b"fnf", b"r", b".", b"--tries", b"17"],
+        &[CALL, b"m", b"fnf", b"r", b".", b"--resume="],
+        &[CALL, b"m", b"fnf", b"r", b".", b"--ws", b"--ws"],
+        &[CALL, b"m", b"fnf", b"r", b".", b"--ws=true"],
+        &[CALL, b"m", b"fnf", b"r", b".", b"--text", b"x"],
     ];
     for row in rows {
         assert!(rt; is_usage(rt.alloc(), row)?);

@@ -1,6 +1,6 @@
 use Rattle.std.proofs.Common.{refl, rules}
-use Rattle.rsocket_run.proofs.Moves.{more_written, nothing_written}
-use Rattle.rsocket_run.proofs.output.write_all.Goals as goal
+use Rattle.rsocket_output.proofs.Moves.{more_written, nothing_written}
+use Rattle.rsocket_output.proofs.writing.write_all.Goals as goal
 
 pub loop-rest-init : goal.loop-rest-init
 loop-rest-init g c = record { written = nothing_written _ _; faults = refl }

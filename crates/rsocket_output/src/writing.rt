@@ -1,7 +1,7 @@
-//! Writing the output.
+//! Writing bytes.
 
 ghost use Rattle.std.specs.Prelude.{OnErr, OnOk};
-ghost use Rattle.rsocket_run.specs.Streams.{CutOff, Writes};
+ghost use Rattle.rsocket_output.specs.Written.{CutOff, Writes};
 
 use outside::{Sink, Wrote};
 use thiserror::Error;

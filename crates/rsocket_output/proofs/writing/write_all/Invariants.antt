@@ -1,6 +1,6 @@
 use Rattle.std.proofs.Common.{◌≡◌, length}
-use Rattle.rsocket_run.proofs.Moves.{Written}
-use Rattle.rsocket_run.proofs.output.write_all.Given as goal
+use Rattle.rsocket_output.proofs.Moves.{Written}
+use Rattle.rsocket_output.proofs.writing.write_all.Given as goal
 
 abbrev pub invariant-loop-rest : goal.invariant-loop-rest
 invariant-loop-rest g l = record {

@@ -1,0 +1,4 @@
+pub mod Called
+pub mod Made
+pub mod Begun
+pub mod Ended
