@@ -1,0 +1,4 @@
+pub mod Callers
+pub mod Ended
+pub mod Followed
+pub mod Crossing
