@@ -12,5 +12,13 @@ fn main(rt: HostRuntime) -> ExitCode {
     let mut output = StdSink::new(rt.stdout());
     let mut net = HostNet::new(rt.alloc(), &rt);
     let clock = HostClock::new(&rt);
-    ExitCode::from(start(&rt, rt.alloc(), &mut input, &mut output, &mut net, &clock))
+    ExitCode::from(start(
+        &rt,
+        &rt,
+        rt.alloc(),
+        &mut input,
+        &mut output,
+        &mut net,
+        &clock,
+    ))
 }
