@@ -1,6 +1,6 @@
 //! Bytes are drawn at one end, and cross.
 
-ghost use Rattle.std.specs.Prelude.{◌≡◌, ◌≤◌, ◌<◌, ◌^◌, ◌∷◌, true, false, length, IfOk, OnOk};
+ghost use Rattle.std.specs.Prelude.{◌≡◌, ◌≤◌, ◌<◌, ◌^◌, true, false, length, IfOk, OnOk};
 ghost use Rattle.session_model.specs.Life.{is_live, live};
 ghost use Rattle.session_model.specs.Frames.{queued};
 ghost use Rattle.cable.specs.Played.{at_most};

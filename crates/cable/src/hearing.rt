@@ -12,7 +12,7 @@ ghost use Rattle.session_model.specs.Answers.{answer_to};
 ghost use Rattle.session_core.specs.Seen.{IsNoDrawEvent};
 ghost use Rattle.cable.specs.Played.{adds, event_of as event_meant};
 ghost use Rattle.tape.specs.Answers.{leaves};
-ghost use Rattle.cable.specs.Hearing.{Crosses, IsCrossing, IsHearer, IsMet, IsNear, IsNoWant, IsOpenedBy, Nears, known_of};
+ghost use Rattle.cable.specs.Hearing.{Crosses, IsCrossing, IsHearer, IsMet, IsNear, IsOpenedBy, Nears, known_of};
 
 use crate::arrival::{Arrival, event_of, is_too_long, next, whole};
 use crate::bringing::tell;

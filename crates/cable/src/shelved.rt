@@ -12,8 +12,8 @@ use rs_wire::OutOfMemory;
 use std::alloc::Global;
 use tape::{Shelf, Tape};
 
-// The report of a run, unless memory ran out.
-fn report_of<T: Tape>(alloc: Global, ran: &Ran<T>) -> Result<Vec<u8>, OutOfMemory>
+/// The report of a run, unless memory ran out.
+pub fn report_of<T: Tape>(alloc: Global, ran: &Ran<T>) -> Result<Vec<u8>, OutOfMemory>
     ensures went { OnOk result (ran.now.want ≡ false) }
     ensures reported { IfOk result (λ text. text.items ≡ report_of ran.now.client ran.now.server) }
 {

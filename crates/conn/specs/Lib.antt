@@ -1,1 +1,10 @@
 pub mod Callers
+pub use Rattle.rs_wire.specs.Settings
+pub use Rattle.session_model.specs.Frames
+pub use Rattle.session_model.specs.Legal
+pub use Rattle.session_model.specs.Life
+pub use Rattle.session_core.specs.Queued
+pub use Rattle.session_core.specs.Seen
+pub use Rattle.conn_shared.specs.Calls
+pub use Rattle.conn_shared.specs.Lines
+pub use Rattle.conn_shared.specs.Members
