@@ -14,7 +14,7 @@ use Rattle.command_line.specs.declared.task.Task.TheVariants.{Cable, Frames}
 use Rattle.clap.specs.Words.{App, fault_of}
 use Rattle.command_line.specs.Words.{AreJust, Asks, Takes, cable_app, frames_app}
 use Rattle.command_line.proofs.OneWord.{IsEnd}
-use Rattle.command_line.proofs.Closed.{back_reads, cable_words, forth_reads, frames_words}
+use Rattle.command_line.proofs.Closed.{are_threads_read, back_reads, cable_words, forth_reads, frames_words, no_threads_read}
 
 -- the first word, and then the others
 named : (words rest : List Text) (first : Text) → slice_get words 0 ≡ Some first → drop 1 words ≡ rest → words ≡ first ∷ rest
@@ -22,9 +22,9 @@ named [] rest first is e = cc
 named (word ∷ words) rest first is e = cc
 
 pub one : (words : List Text) (a b : Task) → Asks words a → Asks words b → a ≡ b
-one words Cable Cable p q = refl
-one words Cable (Frames back) p q = let same : Some (codes "cable") ≡ Some (codes "frames") = sym p.named ∙ q.0.named in cc
-one words (Frames back) Cable p q = let same : Some (codes "cable") ≡ Some (codes "frames") = sym q.named ∙ p.0.named in cc
+one words (Cable a) (Cable b) p q = ap (λ threads. Cable threads) (sym p.1 ∙ q.1)
+one words (Cable threads) (Frames back) p q = let same : Some (codes "cable") ≡ Some (codes "frames") = sym p.0.named ∙ q.0.named in cc
+one words (Frames back) (Cable threads) p q = let same : Some (codes "cable") ≡ Some (codes "frames") = sym q.0.named ∙ p.0.named in cc
 one words (Frames a) (Frames b) p q = ap (λ back. Frames back) (sym p.1 ∙ q.1)
 
 -- ---- words that ask
@@ -58,11 +58,24 @@ set_by text = option_map_or (bytes_eq (codes "true")) text false
 
 -- ---- task by task
 
-pub cable_row : (words : List Text) → Asks words Cable ↔ AreJust words (codes "cable" ∷ [])
+pub cable_row : (words : List Text) → Asks words (Cable false) ↔ AreJust words (codes "cable" ∷ [])
 unfolding clap_on_literals is_utf8
 cable_row words = (
-  λ asks. just_first words (codes "cable") asks.named (cable_words words asks.taken),
-  just_asks Cable words (codes "cable" ∷ []) (takes cable_app _ refl refl refl) (takes cable_app _ refl refl refl),
+  λ asks. elim (cable_words words asks.0.taken) [
+    | inl end ↦ just_first words (codes "cable") asks.0.named end
+    | inr on ↦ absurd (true≢false (sym (ap set_by (are_threads_read (drop 1 words) on.0 on.1 on.2)) ∙ asks.1))
+  ],
+  just_asks (Cable false) words (codes "cable" ∷ []) (takes cable_app _ refl refl refl, refl) (takes cable_app _ refl refl refl, refl),
+)
+
+pub threads_row : (words : List Text) → Asks words (Cable true) ↔ AreJust words (codes "cable" ∷ codes "--threads" ∷ [])
+unfolding clap_on_literals is_utf8
+threads_row words = (
+  λ asks. elim (cable_words words asks.0.taken) [
+    | inl end ↦ absurd (true≢false (sym asks.1 ∙ ap set_by (no_threads_read (drop 1 words) end)))
+    | inr on ↦ just_second words on.0 (codes "cable") (codes "--threads") asks.0.named on.1 on.2
+  ],
+  just_asks (Cable true) words (codes "cable" ∷ codes "--threads" ∷ []) (takes cable_app _ refl refl refl, refl) (takes cable_app _ refl refl refl, refl),
 )
 
 pub frames_row : (words : List Text) → Asks words (Frames false) ↔ AreJust words (codes "frames" ∷ [])

@@ -4,3 +4,4 @@ mod Closed
 mod Asking
 mod First
 mod OneCall
+mod OneServer

@@ -1,15 +1,14 @@
 -- Words ask for one call alone.
-use Rattle.std.proofs.Common.{Bool, ◌≡◌, ◌∙◌, ℕ, List, [], ◌∷◌, Option, Some, None, sym, ap, subst, refl}
-use Rattle.std.specs.Prelude.{codes}
+use Rattle.std.proofs.Common.{Bool, ◌≡◌, ◌∙◌, ℕ, List, Option, Some, sym, ap, refl}
 use Rattle.rs_wire.specs.declared.words.Kind.{Kind}
 use Rattle.rs_wire.specs.declared.words.Kind.TheVariants as kind
 use Rattle.plain_text.specs.Words.{hex_bytes}
 use Rattle.clap.specs.Walk.{Text}
-use Rattle.clap.specs.Words.{Row, first_of, matches_of}
+use Rattle.clap.specs.Words.{Row, matches_of}
 use Rattle.command_line.specs.declared.call_task.CallTask.{CallTask}
 use Rattle.command_line.specs.Calls.{AsksCall, IsCallOf, IsContent, call_app, kind_word}
 
-some_one : {A : Type 0} (o : Option A) (a b : A) → o ≡ Some a → o ≡ Some b → a ≡ b
+pub some_one : {A : Type 0} (o : Option A) (a b : A) → o ≡ Some a → o ≡ Some b → a ≡ b
 some_one o a b p q = let same : Some a ≡ Some b = sym p ∙ q in cc
 
 kind_one : (a b : Kind) → kind_word a ≡ kind_word b → a ≡ b

@@ -1,14 +1,12 @@
 -- The words that ask for a call: the first word is `call`, and the others are those that clap takes by this command and whose values are right.
-use Rattle.std.specs.Prelude.{◌≡◌, ◌≤◌, ◌+◌, ℕ, true, false, Bool, List, [], ◌∷◌, length, Option, Some, None, IfSome, codes}
-use Rattle.std.specs.Option.{option_map_or}
-use Rattle.std.specs.Str.{bytes_eq}
+use Rattle.std.specs.Prelude.{◌≡◌, ◌≤◌, ◌+◌, ℕ, true, List, [], ◌∷◌, length, Option, Some, None, IfSome, codes}
 use Rattle.clap.specs.Words.{App, Row, Rule, first_of, matches_of, new_rule, with_rule}
 use Rattle.clap.specs.declared.builder.action.ArgAction.TheVariants.{Set}
 use Rattle.rs_wire.specs.declared.words.Kind.{Kind}
 use Rattle.rs_wire.specs.declared.words.Kind.TheVariants as kind
 use Rattle.plain_text.specs.Words.{hex_bytes, is_hex_word, number_in}
 use Rattle.command_line.specs.declared.call_task.CallTask.{CallTask}
-use Rattle.command_line.specs.Words.{Takes, bare, flag_rule}
+use Rattle.command_line.specs.Words.{Takes, bare, flag_rule, is_on}
 
 -- ---- the command
 
@@ -41,14 +39,15 @@ kind_word kind.Fnf = codes "fnf"
 kind_word kind.Stream = codes "stream"
 kind_word kind.Channel = codes "channel"
 
--- the flag was given
-abbrev pub is_on : List ℕ → List Row → Bool
-is_on name rows = option_map_or (bytes_eq (codes "true")) (first_of name rows) false
-
 -- the number that a word is the decimal text of, where it is in the range; without a word the default
 abbrev pub number_or : ℕ → ℕ → ℕ → Option (List ℕ) → Option ℕ
 number_or default low high None = Some default
 number_or default low high (Some word) = number_in low high word
+
+-- the number that a word is the decimal text of, where it is in the range; none without a word
+abbrev pub number_of : ℕ → ℕ → Option (List ℕ) → Option ℕ
+number_of low high None = None
+number_of low high (Some word) = number_in low high word
 
 -- the word is lower-case hex digits, two a byte of the content, or a dot for no bytes
 pub record IsContent (word : List ℕ) (content : List ℕ) : Type 0 where

@@ -1,3 +1,5 @@
 pub mod Words
 pub mod Calls
+pub mod Loads
+pub mod Serves
 pub mod Asked

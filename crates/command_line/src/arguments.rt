@@ -2,8 +2,8 @@
 
 ghost use Rattle.std.specs.Prelude.{◌≡◌, ◌≤◌, IfOk, Err, None, Some, false, option_map};
 ghost use Rattle.clap.specs.Words.{app_of, first_of, found_of, rows_of, rule_of, with_rule};
-ghost use Rattle.command_line.specs.Calls.{is_on, number_or, operand_rule, option_rule};
-ghost use Rattle.command_line.specs.Words.{flag_rule};
+ghost use Rattle.command_line.specs.Calls.{number_of, number_or, operand_rule, option_rule};
+ghost use Rattle.command_line.specs.Words.{flag_rule, is_on};
 
 use crate::fault::WordsFault;
 use clap::{Arg, ArgAction, ArgMatches, Command};
@@ -64,6 +64,18 @@ pub fn is_on(matches: &ArgMatches, name: &str) -> bool
     ensures { result ≡ is_on name.now (rows_of (found_of matches.now)) }
 {
     value(matches, name) == Some("true")
+}
+
+/// The number that an argument has, which is in the range.
+pub fn number(matches: &ArgMatches, name: &str, low: u64, high: u64) -> Result<u64, WordsFault>
+    ensures is { IfOk result (λ n. number_of low high
+        (first_of name.now (rows_of (found_of matches.now))) ≡ Some n) }
+    ensures range { IfOk result (λ n. (low ≤ n) × (n ≤ high)) }
+    ensures usage { result ≡ Err WordsFault.Usage → number_of low high
+        (first_of name.now (rows_of (found_of matches.now))) ≡ None }
+{
+    let word = operand_value(matches, name)?;
+    read_number(word.as_bytes(), low, high).ok_or(WordsFault::Usage)
 }
 
 /// The number that an option has, which is in the range; without the option the default.

@@ -11,17 +11,20 @@
 #![tactic(auto)]
 
 mod arguments;
-mod cable;
 mod call;
 mod call_task;
 mod fault;
-mod frames;
+mod flagged;
 mod laws;
+mod load;
 mod parse;
+mod serve;
+mod serve_task;
 mod task;
 mod texts;
 
 pub use call_task::CallTask;
 pub use fault::WordsFault;
 pub use laws::words_laws;
+pub use serve_task::ServeTask;
 pub use task::{Asked, Task, read_words};

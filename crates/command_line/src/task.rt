@@ -7,11 +7,13 @@ ghost use Rattle.command_line.specs.Asked.{AsksFor, name_word};
 ghost use Rattle.command_line.specs.declared.task.Asked.{Asked};
 ghost use Rattle.command_line.specs.declared.task.Name.{Name};
 
-use crate::cable::cable;
 use crate::call::call;
 use crate::call_task::CallTask;
 use crate::fault::WordsFault;
-use crate::frames::frames;
+use crate::flagged::flagged;
+use crate::load::load;
+use crate::serve::serve;
+use crate::serve_task::ServeTask;
 use crate::texts::texts;
 use rs_wire::Blob;
 use std::alloc::Global;
@@ -20,7 +22,10 @@ use std::alloc::Global;
 #[derive(Clone, Copy, Debug, PartialEq, Eq)]
 pub enum Task {
     /// `cable`: a script is played between a client and a server.
-    Cable,
+    Cable {
+        /// `--threads`: by threads, and else line by line.
+        threads: bool,
+    },
     /// `frames`: a capture of frames is written as lines.
     Frames {
         /// `--back`: the other way round, lines are written as a capture.
@@ -35,6 +40,13 @@ pub enum Asked {
     Task(Task),
     /// `call`: one call of a server.
     Call(CallTask),
+    /// `load`: a large run of the cable.
+    Load {
+        /// The seed of its script.
+        seed: u32,
+    },
+    /// `serve`: a server.
+    Serve(ServeTask),
 }
 
 // The commands, by their names.
@@ -43,6 +55,8 @@ enum Name {
     Cable,
     Frames,
     Call,
+    Load,
+    Serve,
 }
 
 // The command that the first word names.
@@ -55,6 +69,8 @@ fn named<'a>(words: &'a [&'a str]) -> Option<Name>
         Some(&"cable") => Some(Name::Cable),
         Some(&"frames") => Some(Name::Frames),
         Some(&"call") => Some(Name::Call),
+        Some(&"load") => Some(Name::Load),
+        Some(&"serve") => Some(Name::Serve),
         _ => None,
     }
 }
@@ -67,23 +83,31 @@ fn read_texts<'a>(alloc: Global, words: &'a [&'a str]) -> Result<Asked, WordsFau
 {
     match named(words) {
         Some(Name::Cable) => {
-            cable(alloc, words)?;
-            Ok(Asked::Task(Task::Cable))
+            let threads = flagged(alloc, "cable", "threads", words)?;
+            Ok(Asked::Task(Task::Cable { threads }))
         }
         Some(Name::Frames) => {
-            let back = frames(alloc, words)?;
+            let back = flagged(alloc, "frames", "back", words)?;
             Ok(Asked::Task(Task::Frames { back }))
         }
         Some(Name::Call) => {
             let task = call(alloc, words)?;
             Ok(Asked::Call(task))
         }
+        Some(Name::Load) => {
+            let seed = load(alloc, words)?;
+            Ok(Asked::Load { seed })
+        }
+        Some(Name::Serve) => {
+            let task = serve(alloc, words)?;
+            Ok(Asked::Serve(task))
+        }
         None => Err(WordsFault::Usage),
     }
 }
 
 /// Reads the words after the program's name. [`WordsFault::Usage`] comes only where they ask for
-/// nothing, and a task or a call only where they ask for it.
+/// nothing, and each other answer only where they ask for it.
 pub fn read_words(alloc: Global, words: &[Blob]) -> Result<Asked, WordsFault>
     ensures asked { IfOk result (AsksFor words.now) }
     ensures usage { result ≡ Err WordsFault.Usage → (asked : Asked) → ¬ (AsksFor words.now asked) }

@@ -3,3 +3,4 @@ pub mod Whole
 pub mod Reading
 pub mod Right
 pub mod Telling
+pub mod Serving

@@ -28,7 +28,7 @@ no_fault input number script s (inl long) =
 no_fault input number script s (inr wrong) = none_wrong script (lines_of input) number s.lines_are wrong.1
 
 pub no_wrong_line : (task : Task) (input : List ℕ) (left : Option (List ℕ)) (number : ℕ) → IsRightInput task input → HasWrongLine task input left number → ⊥
-no_wrong_line tasks.Cable input left number (script, s) wrong =
+no_wrong_line (tasks.Cable threads) input left number (script, s) wrong =
     let same = all_read READ_FOR_SCRIPT input wrong.read left wrong.is_read (omega (arith, s.short)) in
     no_fault input number script s (subst (λ (t : List ℕ). IsFault t (WrongLine number)) same wrong.wrong)
 no_wrong_line (tasks.Frames false) input left number right wrong = wrong
@@ -37,7 +37,7 @@ no_wrong_line (tasks.Frames true) input left number (frames, t) wrong =
     either_text input frames number wrong.before t (subst (λ (x : List ℕ). IsWrongLine x number wrong.before) same wrong.wrong)
 
 pub no_bad_frame : (task : Task) (input : List ℕ) (left : Option (List ℕ)) (place : ℕ) (bad : BadFrame) (lines : List ℕ) → IsRightInput task input → HasBadFrame task input left place bad lines → ⊥
-no_bad_frame tasks.Cable input left place bad lines right found = found
+no_bad_frame (tasks.Cable threads) input left place bad lines right found = found
 no_bad_frame (tasks.Frames false) input left place bad lines (frames, c) found =
     let same = all_read READ_FOR_CAPTURE input found.read left found.is_read (omega (arith, c.short)) in
     either input place bad frames found.before c (subst (λ (x : List ℕ). IsBadAt x place bad found.before) same found.found)

@@ -1,5 +1,5 @@
 -- What a run that stopped has written, by its status.
-use Rattle.std.proofs.Common.{◌⊎◌, ◌≡◌, ◌≢◌, ℕ, ◌^◌, ◌-◌, List, ◌++◌, Option, Err, inl, inr, ⊎_elim, refl, ap, subst, arith}
+use Rattle.std.proofs.Common.{◌⊎◌, ◌≡◌, ◌≢◌, Bool, ℕ, ◌^◌, ◌-◌, List, ◌++◌, Option, Err, inl, inr, ⊎_elim, refl, ap, subst, arith}
 use Rattle.std.proofs.lemmas.Bool.{cases_lt}
 use Rattle.std.proofs.lemmas.Grind.{common_steps}
 use Rattle.outside.specs.Causes.{Rose, one_more}
@@ -59,8 +59,15 @@ pub done_cut_off : (task : Task) (text : List ℕ) (input input' : ByteStream) (
 done_cut_off task text input input' fresh shelf shelf' given out old new status W done same (inl zero) five = let z = zero.0 in cc
 done_cut_off task text input input' fresh shelf shelf' given out old new status W done same (inr cut_off) five = (out, inl done, subst (λ (t : List ℕ). CutOff t old new) same cut_off.1)
 
+-- the same of any text that was to be written
+pub all_cut_off : (P : List ℕ → Type 0) (given out : List ℕ) (old new : ByteStream) (status : ℕ) (W : Type 0)
+    → P out → given ≡ out → ((status ≡ 0) × W) ⊎ ((status ≡ 5) × CutOff given old new) → status ≡ 5 → CutsOffSome P old new
+all_cut_off P given out old new status W due same (inl zero) five = let z = zero.0 in cc
+all_cut_off P given out old new status W due same (inr cut_off) five = (out, due, subst (λ (t : List ℕ). CutOff t old new) same cut_off.1)
+
 -- the shelf after a run whose work is done
-pub done_back : (Same Asked Got E W C : Type 0) (status : ℕ) → Same ⊎ (Asked × Got × E) → ((status ≡ 0) × W) ⊎ ((status ≡ 5) × C) → Same ⊎ (Asked × Got × ((status ≡ 0) ⊎ ((status ≡ 5) ⊎ (status ≡ 6))))
+pub done_back : (Same : Type 0) (Asked Got : Bool → Type 0) (E W C : Type 0) (status : ℕ) → Same ⊎ ((threads : Bool) × Asked threads × Got threads × E) → ((status ≡ 0) × W) ⊎ ((status ≡ 5) × C)
+    → Same ⊎ ((threads : Bool) × Asked threads × Got threads × ((status ≡ 0) ⊎ ((status ≡ 5) ⊎ (status ≡ 6))))
 done_back Same Asked Got E W C status (inl same) told = inl same
-done_back Same Asked Got E W C status (inr (asked, got, fine)) (inl zero) = inr (asked, got, inl zero.0)
-done_back Same Asked Got E W C status (inr (asked, got, fine)) (inr five) = inr (asked, got, inr (inl five.0))
+done_back Same Asked Got E W C status (inr (threads, asked, got, fine)) (inl zero) = inr (threads, asked, got, inl zero.0)
+done_back Same Asked Got E W C status (inr (threads, asked, got, fine)) (inr five) = inr (threads, asked, got, inr (inl five.0))

@@ -1,5 +1,5 @@
 -- What a run of the program promises.
-use Rattle.std.specs.Prelude.{◌≡◌, ℕ, ◌⊎◌, true, false, List, [], ◌∷◌, ◌++◌, codes, decimal, Option, Some}
+use Rattle.std.specs.Prelude.{◌≡◌, ℕ, ◌⊎◌, Bool, true, false, List, [], ◌∷◌, ◌++◌, codes, decimal, Option, Some}
 use Rattle.outside.specs.Causes.{one_more}
 use Rattle.outside.specs.Streams.{ByteStream}
 use Rattle.rs_frame.specs.declared.frame.Frame.{Frame}
@@ -8,7 +8,9 @@ use Rattle.tape.specs.declared.entry.Entry.{Entry}
 use Rattle.cable_script.specs.Scripted.{Scripted}
 use Rattle.cable_script.specs.Script.{IsScript, IsFault}
 use Rattle.cable_script.specs.declared.script.ScriptFault.TheVariants.{Line as WrongLine}
+use Rattle.cable.specs.Played.{Sides}
 use Rattle.cable.specs.Shelves.{GotTapes, Reports, sides_by}
+use Rattle.threaded_play.specs.Reports.{GotSomeTapes, ReportsByThreads}
 use Rattle.capture.specs.Captured.{IsBadAt, IsCapture, all_lines}
 use Rattle.capture.specs.Text.{IsTextOf, IsWrongLine}
 use Rattle.capture.specs.declared.lines.BadFrame.{BadFrame}
@@ -18,12 +20,16 @@ use Rattle.std.specs.Option.{unwrap_or}
 use Rattle.command_line.specs.Words.{Asks}
 use Rattle.command_line.specs.Asked.{AsksFor}
 use Rattle.command_line.specs.Calls.{AsksCall}
+use Rattle.command_line.specs.Loads.{AsksLoad}
+use Rattle.command_line.specs.Serves.{AsksServe}
+use Rattle.command_line.specs.declared.serve_task.ServeTask.{ServeTask}
 use Rattle.command_line.specs.declared.call_task.CallTask.{CallTask}
 use Rattle.command_line.specs.declared.task.Asked.{Asked}
 use Rattle.command_line.specs.declared.task.Task.{Task}
 use Rattle.command_line.specs.declared.task.Task.TheVariants as tasks
 use Rattle.rsocket_run.specs.declared.tasks.TheConstants.{READ_FOR_CAPTURE, READ_FOR_SCRIPT}
 use Rattle.rsocket_call.specs.Ended.{IsCallStatus}
+use Rattle.rsocket_serve.specs.Served.{IsServeStatus}
 use Rattle.rsocket_run.specs.Streams.{IsReadTo}
 
 -- ---- the last lines
@@ -47,12 +53,17 @@ read_fault_line = codes "rsocket: read fault" ++ 10 ∷ []
 
 -- ---- the work that is done
 
+-- this is the report of a run of the script over a shelf: line by line, or by threads
+abbrev pub ReportsBy : Bool → Scripted → Option (List Entry) → List (Option (List Entry)) → List (Option (List Entry)) → List ℕ → Type 0
+ReportsBy false script fresh shelf shelf' out = Reports script fresh shelf shelf' out
+ReportsBy true script fresh shelf shelf' out = ReportsByThreads script shelf shelf' out
+
 -- `cable`: the input was read to its end and is a script, and this is the report of a run of it
-pub record RanCable (input : List ℕ) (left : Option (List ℕ)) (fresh : Option (List Entry)) (shelf shelf' : List (Option (List Entry))) (out : List ℕ) : Type 0 where
+pub record RanCable (threads : Bool) (input : List ℕ) (left : Option (List ℕ)) (fresh : Option (List Entry)) (shelf shelf' : List (Option (List Entry))) (out : List ℕ) : Type 0 where
   pub to_its_end : left ≡ Some []
   pub script : Scripted
   pub is_script : IsScript input script
-  pub reports : Reports script fresh shelf shelf' out
+  pub reports : ReportsBy threads script fresh shelf shelf' out
 
 -- `frames`: the input was read to its end and is a capture, and these are the lines of its frames
 pub record RanFrames (input : List ℕ) (left : Option (List ℕ)) (out : List ℕ) : Type 0 where
@@ -69,11 +80,11 @@ pub record RanBack (input : List ℕ) (left : Option (List ℕ)) (out : List ℕ
   pub bytes : out ≡ framed_all frames
 
 -- `cable` over any input, also one that does not show its text: some script was played, and this is the report of a run of it
-abbrev pub PlayedSome : Option (List Entry) → List (Option (List Entry)) → List (Option (List Entry)) → List ℕ → Type 0
-PlayedSome fresh shelf shelf' out = (script : Scripted) × Reports script fresh shelf shelf' out
+abbrev pub PlayedSome : Bool → Option (List Entry) → List (Option (List Entry)) → List (Option (List Entry)) → List ℕ → Type 0
+PlayedSome threads fresh shelf shelf' out = (script : Scripted) × ReportsBy threads script fresh shelf shelf' out
 
 abbrev pub IsDone : Task → List ℕ → Option (List ℕ) → Option (List Entry) → List (Option (List Entry)) → List (Option (List Entry)) → List ℕ → Type 0
-IsDone tasks.Cable input left fresh shelf shelf' out = RanCable input left fresh shelf shelf' out
+IsDone (tasks.Cable threads) input left fresh shelf shelf' out = RanCable threads input left fresh shelf shelf' out
 IsDone (tasks.Frames false) input left fresh shelf shelf' out = RanFrames input left out
 IsDone (tasks.Frames true) input left fresh shelf shelf' out = RanBack input left out
 
@@ -93,7 +104,7 @@ pub record HasWrongText (input : List ℕ) (left : Option (List ℕ)) (number : 
   pub wrong : IsWrongLine read number before
 
 abbrev pub HasWrongLine : Task → List ℕ → Option (List ℕ) → ℕ → Type 0
-HasWrongLine tasks.Cable input left number = HasWrongScript input left number
+HasWrongLine (tasks.Cable threads) input left number = HasWrongScript input left number
 HasWrongLine (tasks.Frames false) input left number = ⊥
 HasWrongLine (tasks.Frames true) input left number = HasWrongText input left number
 
@@ -106,13 +117,13 @@ pub record HasBadCapture (input : List ℕ) (left : Option (List ℕ)) (place : 
   pub lines_are : lines ≡ all_lines before
 
 abbrev pub HasBadFrame : Task → List ℕ → Option (List ℕ) → ℕ → BadFrame → List ℕ → Type 0
-HasBadFrame tasks.Cable input left place bad lines = ⊥
+HasBadFrame (tasks.Cable threads) input left place bad lines = ⊥
 HasBadFrame (tasks.Frames false) input left place bad lines = HasBadCapture input left place bad lines
 HasBadFrame (tasks.Frames true) input left place bad lines = ⊥
 
 -- nothing is wrong with the input
 abbrev pub IsRightInput : Task → List ℕ → Type 0
-IsRightInput tasks.Cable input = (script : Scripted) × IsScript input script
+IsRightInput (tasks.Cable threads) input = (script : Scripted) × IsScript input script
 IsRightInput (tasks.Frames false) input = (frames : List Frame) × IsCapture input frames
 IsRightInput (tasks.Frames true) input = (frames : List Frame) × IsTextOf input frames
 
@@ -138,7 +149,7 @@ IsDue task text input input' fresh shelf shelf' out =
 -- ---- the task, and how much of the input it reads at most: one byte more than it may have
 
 abbrev pub most_of : Task → ℕ
-most_of tasks.Cable = READ_FOR_SCRIPT
+most_of (tasks.Cable threads) = READ_FOR_SCRIPT
 most_of (tasks.Frames back) = READ_FOR_CAPTURE
 
 -- the words ask for nothing
@@ -149,29 +160,45 @@ AskNothing words = (asked : Asked) → ¬ (AsksFor words asked)
 abbrev pub OfCall : List (List ℕ) → (CallTask → Type 0) → Type 0
 OfCall words P = (t : CallTask) → AsksCall words t → P t
 
+-- this holds of the seed of the large run that the words ask for
+abbrev pub OfLoad : List (List ℕ) → (ℕ → Type 0) → Type 0
+OfLoad words P = (seed : ℕ) → AsksLoad words seed → P seed
+
+-- this holds of the server that the words ask for
+abbrev pub OfServe : List (List ℕ) → (ServeTask → Type 0) → Type 0
+OfServe words P = (t : ServeTask) → AsksServe words t → P t
+
 -- this holds of the task that the words ask for, and of the text of the input, where it is told
 abbrev pub OfTask : List (List ℕ) → ByteStream → (Task → List ℕ → Type 0) → Type 0
 OfTask words input P = (task : Task) (text : List ℕ) → Asks words task → input.told ≡ Some text → P task text
 
 -- ---- the shelf
 
+-- a shelf got back the tapes of two ends, after a run line by line, or by threads
+abbrev pub GotBy : Bool → Sides → Option (List Entry) → List (Option (List Entry)) → List (Option (List Entry)) → Type 0
+GotBy false s fresh shelf shelf' = GotTapes s fresh shelf shelf'
+GotBy true s fresh shelf shelf' = GotSomeTapes s shelf shelf'
+
 -- a script was read, which is the whole input where that is told, and the shelf got tapes of the two ends of a run of it
-pub record GotEnds (input : ByteStream) (left : Option (List ℕ)) (fresh : Option (List Entry)) (shelf shelf' : List (Option (List Entry))) : Type 0 where
+pub record GotEnds (threads : Bool) (input : ByteStream) (left : Option (List ℕ)) (fresh : Option (List Entry)) (shelf shelf' : List (Option (List Entry))) : Type 0 where
   pub script : Scripted
   pub to_its_end : (text : List ℕ) → input.told ≡ Some text → left ≡ Some []
   pub is_script : (text : List ℕ) → input.told ≡ Some text → IsScript text script
-  pub got : GotTapes (sides_by script.settings) fresh shelf shelf'
+  pub got : GotBy threads (sides_by script.settings) fresh shelf shelf'
 
 -- the shelf after a run with this status: it got nothing; or the words ask for `cable`, and on 0, 5 and 6 it got tapes of its ends
 abbrev pub IsShelfAfter : List (List ℕ) → ByteStream → Option (List ℕ) → Option (List Entry) → List (Option (List Entry)) → List (Option (List Entry)) → ℕ → Type 0
 IsShelfAfter words input left fresh shelf shelf' status =
-    (shelf' ≡ shelf) ⊎ (Asks words tasks.Cable × GotEnds input left fresh shelf shelf' × ((status ≡ 0) ⊎ ((status ≡ 5) ⊎ (status ≡ 6))))
+    (shelf' ≡ shelf) ⊎ ((threads : Bool) × Asks words (tasks.Cable threads) × GotEnds threads input left fresh shelf shelf' × ((status ≡ 0) ⊎ ((status ≡ 5) ⊎ (status ≡ 6))))
 
 -- ---- the status
 
--- of a task, of a call, and of words that ask for nothing
+-- of a task, of a call, of a large run, of a server, and of words that ask for nothing
 abbrev pub IsTaskStatus : ℕ → Type 0
 IsTaskStatus status = (status ≡ 0) ⊎ ((status ≡ 3) ⊎ ((status ≡ 4) ⊎ ((status ≡ 5) ⊎ ((status ≡ 6) ⊎ (status ≡ 11)))))
 
+abbrev pub IsLoadStatus : ℕ → Type 0
+IsLoadStatus status = (status ≡ 0) ⊎ ((status ≡ 5) ⊎ (status ≡ 6))
+
 abbrev pub IsStatus : ℕ → Type 0
-IsStatus status = IsTaskStatus status ⊎ (IsCallStatus status ⊎ (status ≡ 2))
+IsStatus status = IsTaskStatus status ⊎ (IsCallStatus status ⊎ (IsLoadStatus status ⊎ (IsServeStatus status ⊎ (status ≡ 2))))

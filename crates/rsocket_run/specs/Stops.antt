@@ -1,5 +1,5 @@
 -- Why a run stops, its status, and the line that tells it.
-use Rattle.std.specs.Prelude.{◌≡◌, ℕ, ◌⊎◌, List, [], ◌++◌, Option, Result, Ok, Err, IfErr}
+use Rattle.std.specs.Prelude.{◌≡◌, ℕ, ◌⊎◌, Bool, List, [], ◌++◌, Option, Result, Ok, Err, IfErr}
 use Rattle.outside.specs.Causes.{one_more}
 use Rattle.outside.specs.Streams.{ByteStream}
 use Rattle.cable_script.specs.declared.script.ScriptFault.{ScriptFault}
@@ -64,14 +64,14 @@ faults_after_writing (Err fault) faults = one_more faults
 
 -- the shelf after `cable` ended so: it got nothing; or it got tapes of the ends of a run of its script, where the work was done or memory
 -- ran out in it
-abbrev pub IsShelfAfterCable : ByteStream → Option (List ℕ) → Option (List Entry) → List (Option (List Entry)) → List (Option (List Entry)) → Result Unit Stop → Type 0
-IsShelfAfterCable input left fresh shelf shelf' result =
-    (shelf' ≡ shelf) ⊎ (GotEnds input left fresh shelf shelf' × IfErr result (λ stop. stop ≡ stops.OutOfMemory))
+abbrev pub IsShelfAfterCable : Bool → ByteStream → Option (List ℕ) → Option (List Entry) → List (Option (List Entry)) → List (Option (List Entry)) → Result Unit Stop → Type 0
+IsShelfAfterCable threads input left fresh shelf shelf' result =
+    (shelf' ≡ shelf) ⊎ (GotEnds threads input left fresh shelf shelf' × IfErr result (λ stop. stop ≡ stops.OutOfMemory))
 
 -- the shelf after the work of these words ended so
 abbrev pub IsShelfAfterWork : List (List ℕ) → ByteStream → Option (List ℕ) → Option (List Entry) → List (Option (List Entry)) → List (Option (List Entry)) → Result Unit Stop → Type 0
 IsShelfAfterWork words input left fresh shelf shelf' result =
-    (shelf' ≡ shelf) ⊎ (Asks words tasks.Cable × GotEnds input left fresh shelf shelf' × IfErr result (λ stop. stop ≡ stops.OutOfMemory))
+    (shelf' ≡ shelf) ⊎ ((threads : Bool) × Asks words (tasks.Cable threads) × GotEnds threads input left fresh shelf shelf' × IfErr result (λ stop. stop ≡ stops.OutOfMemory))
 
 -- the faults of each part as a stop of the run
 abbrev pub of_input : Unread → Stop

@@ -7,6 +7,7 @@
 #![tactic(auto)]
 
 mod input;
+mod large;
 mod program;
 mod stop;
 mod tasks;

@@ -7,12 +7,14 @@ ghost use Rattle.rsocket_output.specs.Written.{FailedWrites, Writes, WritesLine}
 ghost use Rattle.rsocket_run.specs.Streams.{FailedReads};
 
 use crate::program::run;
+use handlers::{Handler, Routes};
 use outside::{Clock, Net, Sink, Source};
 use rs_wire::{Blob, OutOfMemory};
 use rsocket_output::tell_out_of_memory;
 use std::alloc::Global;
 use std::env::{Env, FillError};
 use std::sync::Wait;
+use std::thread::Threads;
 use tape::{BlankShelf, KeptShelf};
 
 /// How many bytes a word is given room for at first.
@@ -60,7 +62,15 @@ fn is_cable(words: &[Blob]) -> bool {
 /// Runs the program on the words of the command line, as [`run`] does, which says more of each
 /// status. `cable` has tapes that are kept; other commands have tapes that show nothing and take no
 /// memory. No contract knows the words that the system gives.
-pub fn start<E: Env, R: Wait, I: Source, O: Sink, N: Net, K: Clock>(
+pub fn start<
+    E: Env,
+    R: Threads + Wait + Sync,
+    I: Source,
+    O: Sink,
+    N: Net + Send,
+    K: Clock + Sync,
+    F: Handler + Sync,
+>(
     env: &E,
     rt: &R,
     alloc: Global,
@@ -68,7 +78,10 @@ pub fn start<E: Env, R: Wait, I: Source, O: Sink, N: Net, K: Clock>(
     output: &mut O,
     net: &mut N,
     clock: &K,
+    routes: &Routes<F>,
 ) -> u8
+where
+    N::Link: Drop + Send,
     ensures status { IsStatus result }
     ensures failed_reads { FailedReads
         (I.shown input.old).faults (I.shown input.new).faults result }
@@ -85,9 +98,13 @@ pub fn start<E: Env, R: Wait, I: Source, O: Sink, N: Net, K: Clock>(
     };
     if is_cable(&words) {
         let mut shelf = KeptShelf::new(alloc);
-        run(rt, alloc, &words, input, output, net, clock, &mut shelf)
+        run(
+            rt, alloc, &words, input, output, net, clock, &mut shelf, routes,
+        )
     } else {
         let mut shelf = BlankShelf::new(alloc);
-        run(rt, alloc, &words, input, output, net, clock, &mut shelf)
+        run(
+            rt, alloc, &words, input, output, net, clock, &mut shelf, routes,
+        )
     }
 }

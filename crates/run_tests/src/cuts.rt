@@ -4,6 +4,7 @@ use crate::ended::{CABLE, ran, writes};
 use std::alloc::Global;
 use std::sync::Wait;
 use std::test::Fail;
+use std::thread::Threads;
 
 /// The report where the SETUP was lost, which has 77 bytes with its length: the server knows
 /// nothing of the session.
@@ -60,7 +61,11 @@ fn report_of_cut(crossed: u32) -> &'static str {
 }
 
 /// Whether the run that is cut once so many bytes went up has its report.
-fn resumes_after<R: Wait>(rt: &R, alloc: Global, crossed: u32) -> Result<bool, Fail> {
+fn resumes_after<R: Threads + Wait + Sync>(
+    rt: &R,
+    alloc: Global,
+    crossed: u32,
+) -> Result<bool, Fail> {
     let script = format!(in alloc;
         "resume tok1\nclient fnf 6869\nup {crossed}\ncut\nopen\ndrain\n"
     )?;
@@ -97,7 +102,12 @@ fn what_crosses_byte_by_byte_is_the_same(rt: HostRuntime) -> Result<(), Fail> {
 }
 
 /// Whether the run of a script ends with status 0, and its report begins so.
-fn begins<R: Wait>(rt: &R, alloc: Global, script: &str, wanted: &str) -> Result<bool, Fail> {
+fn begins<R: Threads + Wait + Sync>(
+    rt: &R,
+    alloc: Global,
+    script: &str,
+    wanted: &str,
+) -> Result<bool, Fail> {
     let (status, report) = ran(rt, alloc, CABLE, script.as_bytes())?;
     Ok(status == 0 && report.starts_with(wanted.as_bytes()))
 }
@@ -139,7 +149,11 @@ server made 202 301213 handled 3 25
 
 /// Whether all comes where the connection is lost twice: within the first requests, and once so
 /// many bytes of the answers came.
-fn comes_whole<R: Wait>(rt: &R, alloc: Global, crossed: u32) -> Result<bool, Fail> {
+fn comes_whole<R: Threads + Wait + Sync>(
+    rt: &R,
+    alloc: Global,
+    crossed: u32,
+) -> Result<bool, Fail> {
     let script = format!(in alloc;
         "\
 resume tok1

@@ -6,6 +6,8 @@ use rsocket_run::run;
 use std::alloc::Global;
 use std::sync::Wait;
 use std::test::Fail;
+use std::thread::Threads;
+use stored_handlers::stored_routes;
 use tape::KeptShelf;
 
 /// The words that play a script.
@@ -27,7 +29,7 @@ fn words(alloc: Global, all: &[&[u8]]) -> Result<Vec<Blob>, Fail> {
 }
 
 /// The status of a run on these words over such an input and output.
-pub fn status_over<R: Wait, I: Source, O: Sink>(
+pub fn status_over<R: Threads + Wait + Sync, I: Source, O: Sink>(
     rt: &R,
     alloc: Global,
     all: &[&[u8]],
@@ -38,13 +40,14 @@ pub fn status_over<R: Wait, I: Source, O: Sink>(
     let mut shelf = KeptShelf::new(alloc);
     let mut net = MemNet::new(alloc, Vec::new(alloc), Vec::new(alloc));
     let clock = MemClock::new(vec![in alloc; 0; 1]?);
+    let routes = stored_routes(alloc)?;
     Ok(run(
-        rt, alloc, &words, input, output, &mut net, &clock, &mut shelf,
+        rt, alloc, &words, input, output, &mut net, &clock, &mut shelf, &routes,
     ))
 }
 
 /// The status of a run on these words and this input, and what it wrote.
-pub fn ran<R: Wait>(
+pub fn ran<R: Threads + Wait + Sync>(
     rt: &R,
     alloc: Global,
     all: &[&[u8]],
@@ -57,7 +60,7 @@ pub fn ran<R: Wait>(
 }
 
 /// Whether a run on these words and this input ends with status 0 and wrote just that.
-pub fn writes<R: Wait>(
+pub fn writes<R: Threads + Wait + Sync>(
     rt: &R,
     alloc: Global,
     all: &[&[u8]],

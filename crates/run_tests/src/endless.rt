@@ -5,6 +5,7 @@ use outside::{MemSink, Read, Source};
 use std::alloc::Global;
 use std::sync::Wait;
 use std::test::Fail;
+use std::thread::Threads;
 
 /// A source that never ends: nine bytes, again and again.
 #[derive(Drop)]
@@ -86,7 +87,11 @@ const ENDLESS: [Endless; 5] = [
 ];
 
 /// Whether the run ends with the status, and wrote just the lines.
-fn ends_still<R: Wait>(rt: &R, alloc: Global, row: &Endless) -> Result<bool, Fail> {
+fn ends_still<R: Threads + Wait + Sync>(
+    rt: &R,
+    alloc: Global,
+    row: &Endless,
+) -> Result<bool, Fail> {
     let mut input = EndlessSource {
         pattern: row.pattern,
         given: 0,

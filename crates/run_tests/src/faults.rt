@@ -6,6 +6,7 @@ use rs_wire::Blob;
 use std::alloc::Global;
 use std::sync::Wait;
 use std::test::Fail;
+use std::thread::Threads;
 
 const HELLO: &[u8] = b"client fnf 6869\nup 1000\n";
 
@@ -172,7 +173,7 @@ const FAULTS: [Fault; 12] = [
 ];
 
 /// Whether a run that reads and writes one byte a call ends with this status, and wrote just that.
-fn ends_over<R: Wait>(
+fn ends_over<R: Threads + Wait + Sync>(
     rt: &R,
     alloc: Global,
     words: &[&[u8]],

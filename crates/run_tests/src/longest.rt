@@ -5,6 +5,7 @@ use byteorder::{BigEndian, ByteOrder};
 use std::alloc::Global;
 use std::sync::Wait;
 use std::test::Fail;
+use std::thread::Threads;
 
 // Appends a frame after its length of 3 bytes.
 fn put_framed(out: &mut Vec<u8>, frame: &[u8]) -> Result<(), Fail> {
@@ -27,7 +28,7 @@ fn put_many(bytes: &mut Vec<u8>, line: &mut Vec<u8>, count: u32) -> Result<(), F
     Ok(())
 }
 
-fn goes_and_comes<R: Wait>(
+fn goes_and_comes<R: Threads + Wait + Sync>(
     rt: &R,
     alloc: Global,
     frame: &[u8],

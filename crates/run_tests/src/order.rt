@@ -7,6 +7,7 @@ use std::alloc::Global;
 use std::sync::Wait;
 use std::sync::atomic::{AtomicBool, Ordering};
 use std::test::Fail;
+use std::thread::Threads;
 
 /// What a source and a sink see of one another.
 #[derive(Drop)]
@@ -66,7 +67,7 @@ struct Row {
 }
 
 /// Whether the run ends with the status, writes, and reads nothing after the first write.
-fn reads_first<R: Wait>(rt: &R, alloc: Global, row: &Row) -> Result<bool, Fail> {
+fn reads_first<R: Threads + Wait + Sync>(rt: &R, alloc: Global, row: &Row) -> Result<bool, Fail> {
     let order = Order {
         wrote: AtomicBool::new(false),
         read_after_a_write: AtomicBool::new(false),

@@ -7,6 +7,8 @@ use std::alloc::Global;
 use std::env::{Env, FillError};
 use std::sync::Wait;
 use std::test::Fail;
+use std::thread::Threads;
+use stored_handlers::stored_routes;
 
 /// A system whose command line has these words, the program's name first.
 #[derive(Drop)]
@@ -41,7 +43,7 @@ impl Env for Line<'_> {
 const INPUT: &[u8] = b"CANCEL 1\n";
 
 /// Whether the program on this command line ends with this status and writes just that.
-fn starts<R: Wait>(
+fn starts<R: Threads + Wait + Sync>(
     rt: &R,
     alloc: Global,
     line: &Line<'_>,
@@ -52,7 +54,17 @@ fn starts<R: Wait>(
     let mut output = MemSink::new(alloc, Vec::new(alloc));
     let mut net = MemNet::new(alloc, Vec::new(alloc), Vec::new(alloc));
     let clock = MemClock::new(vec![in alloc; 0; 1]?);
-    let ended = start(line, rt, alloc, &mut input, &mut output, &mut net, &clock);
+    let routes = stored_routes(alloc)?;
+    let ended = start(
+        line,
+        rt,
+        alloc,
+        &mut input,
+        &mut output,
+        &mut net,
+        &clock,
+        &routes,
+    );
     Ok(ended == status && output.written() == written)
 }
 
@@ -173,7 +185,11 @@ fn words_come_whole_once_there_is_room(rt: HostRuntime) -> Result<(), Fail> {
 }
 
 /// Whether the program ends with status 2 where this many bytes stand after a command's first.
-fn is_too_long<R: Wait>(rt: &R, alloc: Global, count: usize) -> Result<bool, Fail> {
+fn is_too_long<R: Threads + Wait + Sync>(
+    rt: &R,
+    alloc: Global,
+    count: usize,
+) -> Result<bool, Fail> {
     let mut long = Vec::from_slice(alloc, b"cable")?;
     long.resize(count, b'x')?;
     let line = Line {

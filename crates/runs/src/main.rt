@@ -16,10 +16,14 @@
 //! server made 0 0 handled 0 0
 //! ```
 //!
-//! In a run of `call` the lines of the input describe its net: `link`, then maybe `ends` (it ends after
-//! its bytes, and else it lulls), `most N` (bytes of one call), `fails N` (the call that fails), and the
-//! bytes that are read of it; `dials N` (the dial that fails); `clock M M` (the moments); `given` (the
-//! bytes that the links are to be given). Such a run is played twice, also over tapes that show nothing.
+//! In a run of `call` or `serve` the lines of the input describe its net: `link`, then maybe `ends` (it
+//! ends after its bytes, and else it lulls), `most N` (bytes of one call), `fails N` (the call that
+//! fails), and the bytes that are read of it; `dials N` (the call of the net that fails); `clock M M`
+//! (the moments); `given` (the bytes that the links are to be given). Such a run is played twice, also
+//! over tapes that show nothing.
+//!
+//! A run of `cable --threads` has the two lines of counts. It is played twenty times over tapes that show
+//! nothing, and once over tapes that show their entries, whose report begins so.
 //!
 //! A line or a word that begins with `0x` is the bytes of its digits, without a line feed; `0x`
 //! alone is no byte. A line that ends with `\` goes on in the next one.
@@ -37,8 +41,9 @@ use std::env;
 use std::process::ExitCode;
 
 /// The files of runs.
-const FILES: [&str; 9] = [
+const FILES: [&str; 11] = [
     "words", "script", "settings", "stream", "fragment", "moments", "resume", "frames", "call",
+    "threads", "serve",
 ];
 
 fn main(rt: HostRuntime) -> Result<ExitCode> {

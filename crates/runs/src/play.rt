@@ -8,6 +8,7 @@ use std::fs;
 use std::io::Print;
 use std::rt::Files;
 use std::sync::Wait;
+use std::thread::Threads;
 
 // The run of this name. Where its text is out of form, its name is printed.
 fn read_run(rt: &impl Print, alloc: Global, name: &str, text: &str) -> Result<Run> {
@@ -21,7 +22,7 @@ fn read_run(rt: &impl Print, alloc: Global, name: &str, text: &str) -> Result<Ru
 }
 
 /// Plays the runs of a file, and answers whether none differs.
-pub fn play_file<R: Files + AllocGlobal + Print + Wait>(
+pub fn play_file<R: Files + AllocGlobal + Print + Threads + Wait + Sync>(
     rt: &R,
     folder: &str,
     file: &str,
@@ -35,9 +36,9 @@ pub fn play_file<R: Files + AllocGlobal + Print + Wait>(
         let run = read_run(rt, alloc, name, part)?;
         let end = run.play(rt, alloc)?;
         tally.add(rt, name, run.is_met(&end), &end)?;
-        if run.is_call() {
+        for _ in 0..run.blank_times() {
             let blank = run.play_blank(rt, alloc)?;
-            tally.add(rt, name, run.is_met(&blank), &blank)?;
+            tally.add(rt, name, run.is_met_over_blank(&blank), &blank)?;
         }
     }
     Ok(tally.close(rt, file)?)

@@ -8,7 +8,12 @@ use rs_wire::Blob;
 use rsocket_run::run;
 use std::alloc::Global;
 use std::sync::Wait;
+use std::thread::Threads;
+use stored_handlers::stored_routes;
 use tape::{BlankShelf, KeptShelf, Shelf};
+
+/// How often threads play a script over tapes that show nothing.
+const TIMES_BY_THREADS: u32 = 20;
 
 /// How a run ends.
 #[derive(Drop, PartialEq, Eq)]
@@ -87,11 +92,20 @@ impl Run {
     }
 
     // How the program ends over tapes of this shelf.
-    fn play_on<R: Wait, H: Shelf>(&self, rt: &R, alloc: Global, shelf: &mut H) -> Result<End> {
+    fn play_on<R: Threads + Wait + Sync, H: Shelf>(
+        &self,
+        rt: &R,
+        alloc: Global,
+        shelf: &mut H,
+    ) -> Result<End>
+    where
+        H::Tape: Drop + Send,
+    {
         let mut input = MemSource::new(Blob::from_slice(alloc, &self.input)?, Vec::new(alloc));
         let mut output = MemSink::new(alloc, Vec::new(alloc));
         let mut net = self.wires.net(alloc)?;
         let clock = self.wires.clock(alloc)?;
+        let routes = stored_routes(alloc)?;
         let status = run(
             rt,
             alloc,
@@ -101,6 +115,7 @@ impl Run {
             &mut net,
             &clock,
             shelf,
+            &routes,
         );
         let mut given = Vec::new(alloc);
         for link in net.back() {
@@ -114,31 +129,67 @@ impl Run {
     }
 
     /// How the program ends on these words and this input, over tapes that show their entries.
-    pub fn play<R: Wait>(&self, rt: &R, alloc: Global) -> Result<End> {
+    pub fn play<R: Threads + Wait + Sync>(&self, rt: &R, alloc: Global) -> Result<End> {
         let mut shelf = KeptShelf::new(alloc);
         self.play_on(rt, alloc, &mut shelf)
     }
 
     /// How it ends over tapes that show nothing.
-    pub fn play_blank<R: Wait>(&self, rt: &R, alloc: Global) -> Result<End> {
+    pub fn play_blank<R: Threads + Wait + Sync>(&self, rt: &R, alloc: Global) -> Result<End> {
         let mut shelf = BlankShelf::new(alloc);
         self.play_on(rt, alloc, &mut shelf)
     }
 
-    /// Whether it is a call, which tapes that show nothing serve too.
-    pub fn is_call(&self) -> bool {
+    // Whether the first word is this one.
+    fn begins_with(&self, word: &[u8]) -> bool {
         match self.words.first() {
-            Some(word) => word.as_slice() == b"call".as_slice(),
+            Some(first) => first.as_slice() == word,
             None => false,
         }
     }
 
-    /// Whether it ended so as its text says.
-    pub fn is_met(&self, end: &End) -> bool {
+    // Whether threads play it.
+    fn is_by_threads(&self) -> bool {
+        match self.words.get(1) {
+            Some(second) => self.begins_with(b"cable")
+                && second.as_slice() == b"--threads".as_slice(),
+            None => false,
+        }
+    }
+
+    /// How often it is played over tapes that show nothing.
+    pub fn blank_times(&self) -> u32 {
+        if self.is_by_threads() {
+            TIMES_BY_THREADS
+        } else if self.begins_with(b"call") || self.begins_with(b"serve") {
+            1
+        } else {
+            0
+        }
+    }
+
+    // Whether its status and what its links were given are as its text says.
+    fn has_ended_so(&self, end: &End) -> bool {
         let given = match &self.wires.given {
             Some(given) => *given == end.given,
             None => true,
         };
-        given && self.end.status == end.status && self.end.written == end.written
+        given && self.end.status == end.status
+    }
+
+    /// Whether it ended so as its text says, over tapes that show their entries. Of what threads play
+    /// the text has the counts alone.
+    pub fn is_met(&self, end: &End) -> bool {
+        let written = if self.is_by_threads() {
+            end.written.as_slice().starts_with(&self.end.written)
+        } else {
+            self.end.written == end.written
+        };
+        written && self.has_ended_so(end)
+    }
+
+    /// Whether it ended so over tapes that show nothing.
+    pub fn is_met_over_blank(&self, end: &End) -> bool {
+        self.end.written == end.written && self.has_ended_so(end)
     }
 }

@@ -1,6 +1,6 @@
 //! Words of the command line, and what they ask for.
 
-use command_line::{Asked, CallTask, Task, WordsFault, read_words};
+use command_line::{Asked, CallTask, ServeTask, Task, WordsFault, read_words};
 use rs_wire::{Amount, Blob, Kind};
 use std::alloc::Global;
 use std::test::Fail;
@@ -10,6 +10,10 @@ const CABLE: &[u8] = b"cable";
 const FRAMES: &[u8] = b"frames";
 
 const BACK: &[u8] = b"--back";
+
+const THREADS: &[u8] = b"--threads";
+
+const LOAD: &[u8] = b"load";
 
 const END: &[u8] = b"--";
 
@@ -28,10 +32,13 @@ fn is_usage(alloc: Global, words: &[&[u8]]) -> Result<bool, Fail> {
 }
 
 #[test]
-fn cable_has_no_word_after_it(rt: HostRuntime) -> Result<(), Fail> {
-    let cable = Ok(Asked::Task(Task::Cable));
-    assert!(rt; answer(rt.alloc(), &[CABLE])? == cable);
-    assert!(rt; answer(rt.alloc(), &[CABLE, END])? == cable);
+fn cable_may_be_played_by_threads(rt: HostRuntime) -> Result<(), Fail> {
+    let alone = Ok(Asked::Task(Task::Cable { threads: false }));
+    let threads = Ok(Asked::Task(Task::Cable { threads: true }));
+    assert!(rt; answer(rt.alloc(), &[CABLE])? == alone);
+    assert!(rt; answer(rt.alloc(), &[CABLE, END])? == alone);
+    assert!(rt; answer(rt.alloc(), &[CABLE, THREADS])? == threads);
+    assert!(rt; answer(rt.alloc(), &[CABLE, THREADS, END])? == threads);
     Ok(())
 }
 
@@ -65,9 +72,12 @@ fn an_unknown_command_is_usage(rt: HostRuntime) -> Result<(), Fail> {
 
 #[test]
 fn a_word_too_much_is_usage(rt: HostRuntime) -> Result<(), Fail> {
-    let rows: [&[&[u8]]; 15] = [
+    let rows: [&[&[u8]]; 18] = [
         &[CABLE, b"x"],
-        &[CABLE, b"--threads"],
+        &[CABLE, b"--back"],
+        &[CABLE, b"--threads=2"],
+        &[CABLE, THREADS, THREADS],
+        &[CABLE, END, THREADS],
         &[FRAMES, b"--back=x"],
         &[FRAMES, b"--back=true"],
         &[FRAMES, BACK, BACK],
@@ -171,6 +181,108 @@ fn a_faulty_call_is_usage(rt: HostRuntime) -> Result<(), Fail> {
         &[CALL, b"m", b"fnf", b"r", b".", b"--ws", b"--ws"],
         &[CALL, b"m", b"fnf", b"r", b".", b"--ws=true"],
         &[CALL, b"m", b"fnf", b"r", b".", b"--text", b"x"],
+    ];
+    for row in rows {
+        assert!(rt; is_usage(rt.alloc(), row)?);
+    }
+    Ok(())
+}
+
+#[test]
+fn a_load_has_its_seed(rt: HostRuntime) -> Result<(), Fail> {
+    let rows: [(&[&[u8]], u32); 4] = [
+        (&[LOAD, b"0"], 0),
+        (&[LOAD, b"4294967295"], 4_294_967_295),
+        (&[LOAD, b"7", END], 7),
+        (&[LOAD, END, b"7"], 7),
+    ];
+    for (words, seed) in rows {
+        assert!(rt; answer(rt.alloc(), words)? == Ok(Asked::Load { seed }));
+    }
+    Ok(())
+}
+
+#[test]
+fn a_faulty_load_is_usage(rt: HostRuntime) -> Result<(), Fail> {
+    let rows: [&[&[u8]]; 9] = [
+        &[LOAD],
+        &[LOAD, b"4294967296"],
+        &[LOAD, b"00"],
+        &[LOAD, b"01"],
+        &[LOAD, b"-1"],
+        &[LOAD, b"+1"],
+        &[LOAD, b""],
+        &[LOAD, b"1", b"2"],
+        &[LOAD, b"1", b"--threads"],
+    ];
+    for row in rows {
+        assert!(rt; is_usage(rt.alloc(), row)?);
+    }
+    Ok(())
+}
+
+const SERVE: &[u8] = b"serve";
+
+// A server at `m` of so many connections, as the words ask for it that say no more.
+fn plain_server(alloc: Global, connections: u32) -> Result<ServeTask, Fail> {
+    Ok(ServeTask {
+        address: Blob::from_slice(alloc, b"m")?,
+        connections,
+        workers: 1,
+        lease: None,
+        resume: false,
+        ws: false,
+    })
+}
+
+#[test]
+fn a_server_has_its_defaults(rt: HostRuntime) -> Result<(), Fail> {
+    let rows: [(&[u8], u32); 3] = [(b"1", 1), (b"7", 7), (b"64", 64)];
+    for (word, connections) in rows {
+        let asked = Ok(Asked::Serve(plain_server(rt.alloc(), connections)?));
+        assert!(rt; answer(rt.alloc(), &[SERVE, b"m", b"--connections", word])? == asked);
+    }
+    Ok(())
+}
+
+#[test]
+fn a_server_has_options_before_and_after_its_address(rt: HostRuntime) -> Result<(), Fail> {
+    let mut task = plain_server(rt.alloc(), 2)?;
+    task.workers = 16;
+    task.lease = Amount::of(MOST);
+    task.resume = true;
+    task.ws = true;
+    let words: [&[u8]; 8] = [
+        SERVE,
+        b"--workers=16",
+        b"--resume",
+        b"m",
+        b"--connections=2",
+        b"--lease",
+        b"2147483647",
+        b"--ws",
+    ];
+    assert!(rt; answer(rt.alloc(), &words)? == Ok(Asked::Serve(task)));
+    Ok(())
+}
+
+#[test]
+fn a_faulty_server_is_usage(rt: HostRuntime) -> Result<(), Fail> {
+    let rows: [&[&[u8]]; 14] = [
+        &[SERVE],
+        &[SERVE, b"m"],
+        &[SERVE, b"--connections=1"],
+        &[SERVE, b"m", b"n", b"--connections=1"],
+        &[SERVE, b"m", b"--connections=0"],
+        &[SERVE, b"m", b"--connections=65"],
+        &[SERVE, b"m", b"--connections=01"],
+        &[SERVE, b"m", b"--connections=1", b"--workers=0"],
+        &[SERVE, b"m", b"--connections=1", b"--workers=17"],
+        &[SERVE, b"m", b"--connections=1", b"--lease=0"],
+        &[SERVE, b"m", b"--connections=1", b"--lease=2147483648"],
+        &[SERVE, b"m", b"--connections=1", b"--lease"],
+        &[SERVE, b"m", b"--connections=1", b"--resume=tok"],
+        &[SERVE, b"m", b"--connections=1", b"--ws", b"--ws"],
     ];
     for row in rows {
         assert!(rt; is_usage(rt.alloc(), row)?);

@@ -1,0 +1,4 @@
+pub mod Asking
+pub mod Threads
+pub mod Ending
+pub mod Making
