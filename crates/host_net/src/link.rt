@@ -1,7 +1,6 @@
 //! A link of the host.
 
-ghost use Rattle.std.specs.Prelude.{◌≡◌, ◌<◌, length};
-ghost use Rattle.host_net.specs.Hosts.{counts_of, shown_of_host};
+ghost use Rattle.host_net.specs.Hosts.{shown_of_host};
 
 use bell::Bell;
 use outside::{Given, Link, Taken};
@@ -50,14 +49,9 @@ impl Link for HostLink {
             HostLink::Asked(end) => end.hear(rt, bell),
         }
     }
-}
 
-impl HostLink {
-    /// Says that nothing more is given: over TCP by the end of what is sent, over WebSocket by a
-    /// close. Call it when the link is given up, and then take until the link ends.
-    pub fn close(&mut self)
-        ensures { counts_of self.new ≡ counts_of self.old }
-    {
+    /// Says so over TCP by the end of what is sent, and over WebSocket by a close before it.
+    fn close(&mut self) {
         match self {
             HostLink::Tcp(end) => end.close(),
             HostLink::Served(end) => end.close(),

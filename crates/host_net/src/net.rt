@@ -8,7 +8,7 @@ ghost use Rattle.host_net.specs.Hosts.{shown_of_host};
 
 use crate::connecting::{connect, drain, longer_pause, next_socket};
 use crate::link::HostLink;
-use outside::{Net, NetFault};
+use outside::{Link, Net, NetFault};
 use rs_wire::Blob;
 use std::alloc::Global;
 use std::io::{Error, ErrorKind};

@@ -73,4 +73,10 @@ pub trait Link {
     fn hear<R: Wait>(&mut self, _rt: &R, _bell: &Arc<Bell>)
         ensures same { shown self.new ≡ shown self.old }
     {}
+
+    /// Says that nothing more is given, so that the peer does not wait for it. Call it when the link is
+    /// given up. A link in memory, whose peer waits for nothing, does nothing.
+    fn close(&mut self)
+        ensures same { shown self.new ≡ shown self.old }
+    {}
 }

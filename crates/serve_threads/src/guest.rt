@@ -6,7 +6,7 @@ use crate::shared::Shared;
 use conn::Caller;
 use crew::Place;
 use handlers::Handler;
-use outside::{Clock, Net, NetFault};
+use outside::{Clock, Link, Net, NetFault};
 use server::{Served, serve_connection};
 use std::sync::Wait;
 use tape::Tape;
@@ -84,6 +84,8 @@ where
                     shared.grant,
                     &mut self.work,
                 );
+                // The link itself is put back once all are served: the peer needn't wait for that.
+                link.close();
                 self.answer = Some(answer);
             }
         }

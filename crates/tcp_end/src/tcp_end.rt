@@ -64,23 +64,6 @@ impl TcpEnd {
         })
     }
 
-    /// Says that nothing more is given, and drops what came. Call it when the link is given up: from
-    /// a socket that is let go with bytes unread, the peer may lose what it has not read either.
-    pub fn close(&mut self)
-        ensures { self.new ≡ self.old }
-    {
-        // The peer learns of the end of the socket, too, so what fails here is of no use to anyone.
-        let stream = self.waiter.stream();
-        let _ = stream.shutdown(Shutdown::Write);
-        let mut buffer = [0; CLOSE_PIECE];
-        for _ in 0..MOST_CLOSE_READS {
-            match stream.read(&mut buffer) {
-                Ok(count) if count > 0 => {}
-                _ => return,
-            }
-        }
-    }
-
     // One read, as a take answers it.
     fn read(&mut self, buffer: &mut [u8]) -> Taken
         requires { 0 < length buffer.old }
@@ -178,5 +161,20 @@ impl Link for TcpEnd {
 
     fn hear<R: Wait>(&mut self, rt: &R, bell: &Arc<Bell>) {
         self.waiter.hear(rt, bell);
+    }
+
+    /// Says so by the end of what is sent, and drops what came: from a socket that is let go with bytes
+    /// unread, the peer may lose what it has not read either.
+    fn close(&mut self) {
+        // The peer learns of the end of the socket, too, so what fails here is of no use to anyone.
+        let stream = self.waiter.stream();
+        let _ = stream.shutdown(Shutdown::Write);
+        let mut buffer = [0; CLOSE_PIECE];
+        for _ in 0..MOST_CLOSE_READS {
+            match stream.read(&mut buffer) {
+                Ok(count) if count > 0 => {}
+                _ => return,
+            }
+        }
     }
 }

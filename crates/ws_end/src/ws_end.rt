@@ -14,6 +14,7 @@ use rs_chunk::Reader;
 use std::alloc::Global;
 use std::io::{Read, Write};
 use std::marker::Model;
+use std::net::Shutdown;
 use std::sync::{Arc, Wait};
 use tcp_end::Waiter;
 use tungstenite::{MaskKeys, WebSocket};
@@ -124,16 +125,6 @@ impl<S: Read + Write + Drop, K: MaskKeys + Drop> WsEnd<S, K> {
             tally: _,
         } = self;
         socket
-    }
-
-    /// Sends a close, as far as the stream has room, after what waits. Call it when the link is given
-    /// up, and then take until the link ends: a peer that closes, too, has had all that was sent.
-    pub fn close(&mut self)
-        ensures { self.new ≡ self.old }
-    {
-        // The peer learns of the end of the stream, too, so what fails here is of no use to anyone.
-        let _ = self.socket.close(None);
-        self.owes = true;
     }
 
     // Notes how the link ended.
@@ -279,6 +270,20 @@ impl<S: Read + Write + Drop, K: MaskKeys + Drop> Link for WsEnd<S, K> {
     fn hear<R: Wait>(&mut self, rt: &R, bell: &Arc<Bell>) {
         if let Some(waiter) = &mut self.waiter {
             waiter.hear(rt, bell);
+        }
+    }
+
+    /// Says so by a close, as far as the stream has room, after what waits, and then by the end of what
+    /// is sent, where no more waits: a peer that closes, too, has had all that was sent.
+    fn close(&mut self) {
+        // The peer learns of the end of the stream, too, so what fails here is of no use to anyone.
+        let _ = self.socket.close(None);
+        self.owes = flush(&mut self.socket) == Flushed::Waits;
+        if let Some(waiter) = &mut self.waiter {
+            waiter.set_stalled(self.owes);
+            if !self.owes {
+                let _ = waiter.stream().shutdown(Shutdown::Write);
+            }
         }
     }
 }
