@@ -1,6 +1,6 @@
 //! A pump, as its callers see it.
 
-ghost use Rattle.std.specs.Prelude.{◌≡◌, ◌<◌, ◌≤◌, ◌^◌, ◌&&◌, [], false, min, nat_lt, IfOk, OnErr, OnOk, length};
+ghost use Rattle.std.specs.Prelude.{◌≡◌, ◌<◌, ◌≤◌, ◌^◌, ◌&&◌, ◌++◌, [], false, true, min, nat_lt, IfOk, IsOk, OnErr, OnOk, length};
 ghost use Rattle.outside.specs.Links.{Shown};
 ghost use Rattle.conn_shared.specs.Members.{Knowledge};
 ghost use Rattle.pump.specs.Halves.{and_given, and_taken};
@@ -125,6 +125,12 @@ impl Pump {
             IsKept me (and_taken s piece.now) self.new) }
         ensures same { OnErr result (self.new ≡ self.old) }
         ensures rest { self.new ≡ record self.old { rest = self.new.rest } }
+
+        // They stand behind those that were handed over before; after bytes that are no frame
+        // nothing changes, and that needs no memory.
+        ensures appended { self.old.bad ≡ false →
+            OnOk result (self.new.rest ≡ self.old.rest ++ piece.now) }
+        ensures dropped { self.old.bad ≡ true → IsOk result × (self.new ≡ self.old) }
     {
         if self.inner.bad {
             return Ok(());
