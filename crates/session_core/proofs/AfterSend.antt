@@ -1,5 +1,5 @@
 -- A request or a payload that goes out in one frame, once it is applied.
-use Rattle.std.proofs.Common.{◌≡◌, ◌+◌, ◌++◌, ◌<◌, ◌^◌, ℕ, Bool, false, add-zero, List, length, Option, Some, None, option_map, refl, ap, sym, subst, ◌∙◌}
+use Rattle.std.proofs.Common.{◌≡◌, ◌+◌, ◌-◌, ◌++◌, ◌<◌, ◌≤◌, ◌^◌, ◌∷◌, [], ℕ, Bool, add-zero, List, drop, length, Option, Some, None, IfSome, refl, ap, sym, subst, ◌∙◌, arith}
 use Rattle.rs_wire.specs.declared.settings.Settings.{Settings}
 use Rattle.rs_wire.specs.declared.call.Call.{Call}
 use Rattle.rs_wire.specs.declared.call.Call.TheVariants as call
@@ -12,26 +12,30 @@ use Rattle.stream_model.specs.declared.arrival.Arrival.{Arrival}
 use Rattle.stream_model.specs.Arriving.{said}
 use Rattle.interactions.specs.Seen.{Seen, acted, known_to}
 use Rattle.reassembly.specs.Gathering.{ReassemblyView}
-use Rattle.replay_buffer.specs.Held.{Held}
+use Rattle.rs_frame.specs.Spelling.{canonical}
+use Rattle.replay_buffer.specs.Held.{Buffer, HasSpare, end_of}
 use Rattle.session_model.specs.declared.facts.Counted.{Counted}
-use Rattle.session_model.specs.Frames.{if_agreed, makes}
+use Rattle.session_model.specs.Frames.{if_agreed, makes, spoken}
 use Rattle.session_model.specs.Legal.{IsFair}
-use Rattle.session_model.specs.Life.{agrees_resumption}
+use Rattle.session_model.specs.Life.{agrees_leases, agrees_resumption}
 use Rattle.session_core.specs.declared.state.State.{State}
 use Rattle.session_core.specs.After.{IsAfter, IsApplied, more_counted}
 use Rattle.session_core.specs.Fits.{Fits, facts_of}
 use Rattle.session_core.specs.Gathering.{IsOfHeard}
 use Rattle.session_core.specs.Kept.{HoldsMore}
-use Rattle.session_core.specs.Leasing.{covers_next, used_once}
+use Rattle.session_core.specs.Leasing.{LetsStart, covers_next, lease_after}
 use Rattle.session_core.specs.Prepared.{left_in_line, with_line}
-use Rattle.session_core.specs.Sending.{IsMessageOn, LetsGo, MaySend, Sends, answer_on, own_next, spoken_after}
+use Rattle.session_core.specs.Sending.{CanKeepLast, IsLastOf, IsMessageOn, LetsGo, MaySend, Sends, answer_on, own_next, spoken_after}
 use Rattle.session_core.specs.Speaking.{Acts, CanSay, FindsRoom, speaks_on, with_room}
-use Rattle.session_core.proofs.Leases.{no_lease}
+use Rattle.session_model.proofs.Spelled.{makes_fit}
+use Rattle.session_core.specs.Sound.{IsSound}
+use Rattle.session_core.proofs.KeptLast.{can_keep, holds_last}
 use Rattle.session_core.proofs.Messages.{Goes, kept_parts, still_heard}
 use Rattle.session_core.proofs.Saying.{can_say}
-use Rattle.session_core.proofs.Standing.{after_act, holds_same, no_draw, opened_above, or_false, or_none}
+use Rattle.session_core.proofs.Standing.{after_act, no_draw, opened_above, or_false, or_none}
 use Rattle.session_core.proofs.Sums.{none_counted}
-use Rattle.session_core.proofs.SentOnce.{sent_means}
+use Rattle.session_core.proofs.SentOnce.{is_spoken, sent_answer, sent_means}
+use Rattle.session_core.proofs.Soundness.{end_below, starts_of}
 
 finds_room : (next : ℕ) (asked : Call) (on : ℕ) → IsMessageOn next asked on → FindsRoom (speaks_on (answer_on asked on) (event.Asked asked)) (Some on)
 finds_room next (call.Request kind initial message complete) on is = refl
@@ -77,18 +81,16 @@ one_more t ms n one long =
     ap (λ (k : ℕ). record { frames = t.frames + k; position = t.position + n }) (sym one)
     ∙ ap (λ (p : ℕ). record { frames = t.frames + length ms; position = t.position + p }) (sym long)
 
--- where resumption is not agreed, what is held stays
-holds_none : (agreed : Bool) (h : Held) (ms : List Frame) → agreed ≡ false → HoldsMore h (if_agreed agreed ms) 0 h
-holds_none agreed h ms forgets = subst (λ (b : Bool). HoldsMore h (if_agreed b ms) 0 h) (sym forgets) (holds_same false h)
-
 -- what it leaves
-sent_applied : (g : Settings) (old : State) (asked : Call) (on n : ℕ) (parts : ReassemblyView) → IsMessageOn (own_next old.streams) asked on → old.lease ≡ None → agrees_resumption g old.setup ≡ false
-    → IsOfHeard (known_to old.streams) old.parts
+sent_applied : (g : Settings) (old : State) (asked : Call) (on n : ℕ) (parts : ReassemblyView) (replay : Buffer) (lease : Option Terms) → IsMessageOn (own_next old.streams) asked on → IsOfHeard (known_to old.streams) old.parts
     → length (makes g (covers_next g old) (known_to old.streams) (answer_on asked on) (event.Asked asked)) ≡ 1
     → pos (makes g (covers_next g old) (known_to old.streams) (answer_on asked on) (event.Asked asked)) ≡ n
+    → HoldsMore old.replay.held (if_agreed (agrees_resumption g old.setup) (makes g (covers_next g old) (known_to old.streams) (answer_on asked on) (event.Asked asked))) 0 replay.held
+    → replay.held.hold ≡ old.replay.held.hold
+    → ((id now : ℕ) → lease ≡ lease_after (agrees_leases g old.setup) now (answer_on asked id) (event.Asked asked) old.lease)
     → LetsGo (known_to (acted old.streams asked)) on old.parts parts
-    → IsApplied g old (event.Asked asked) (answer_on asked on) (spoken_after old asked n parts)
-sent_applied g old (call.Request kind initial message complete) on n parts is unleased forgets heard one long go =
+    → IsApplied g old (event.Asked asked) (answer_on asked on) (spoken_after old asked n parts replay lease)
+sent_applied g old (call.Request kind initial message complete) on n parts replay lease is heard one long holds hold leased go =
     let asked = call.Request kind initial message complete in
     let goes = sent_goes old (covers_next g old) asked on parts is heard go in
     record {
@@ -100,17 +102,17 @@ sent_applied g old (call.Request kind initial message complete) on n parts is un
       closed = or_none old.closed;
       made = one_more old.made _ n one long;
       handled = none_counted old.handled;
-      held = holds_none (agrees_resumption g old.setup) old.replay.held _ forgets;
-      hold = refl;
+      held = holds;
+      hold = hold;
       marks = goes.said;
       limits = refl;
       unfinished = kept_parts _ _ _ _ _ _ _ _ _ goes;
       heard = still_heard _ _ _ _ _ _ _ _ _ goes;
       timer = refl;
-      lease = unleased ∙ sym (ap (λ (l : Option Terms). option_map used_once l) unleased);
+      lease = leased on old.timer.moment;
       granted = refl;
     }
-sent_applied g old (call.Next s message complete) on n parts is unleased forgets heard one long go =
+sent_applied g old (call.Next s message complete) on n parts replay lease is heard one long holds hold leased go =
     let asked = call.Next s message complete in
     let goes = sent_goes old (covers_next g old) asked on parts is heard go in
     record {
@@ -122,34 +124,76 @@ sent_applied g old (call.Next s message complete) on n parts is unleased forgets
       closed = or_none old.closed;
       made = one_more old.made _ n one long;
       handled = none_counted old.handled;
-      held = holds_none (agrees_resumption g old.setup) old.replay.held _ forgets;
-      hold = refl;
+      held = holds;
+      hold = hold;
       marks = goes.said;
       limits = refl;
       unfinished = kept_parts _ _ _ _ _ _ _ _ _ goes;
       heard = still_heard _ _ _ _ _ _ _ _ _ goes;
       timer = refl;
-      lease = refl;
+      lease = leased on old.timer.moment;
       granted = refl;
     }
-sent_applied g old asked on n parts is unleased forgets heard one long go = absurd is
+sent_applied g old asked on n parts replay lease is heard one long holds hold leased go = absurd is
 
 stays_lined : (asked : Call) (on n : ℕ) (queue : List ℕ) → queue ≡ left_in_line (answer_on asked on) n queue
 stays_lined (call.Request kind initial message complete) on n queue = refl
 stays_lined asked on n queue = refl
 
-pub sent_after : (g : Settings) (s : State) (past : List Entry) (mid new : State) (asked : Call) (on n : ℕ) → Fits g s past → IsMessageOn (own_next s.streams) asked on → Sends g s (answer_on asked on) asked n
-    → mid ≡ with_room (with_line g s (event.Asked asked) (answer_on asked on)) (Some on) s.parts s.replay.spare
-    → new ≡ spoken_after mid asked n new.parts → LetsGo (known_to (acted mid.streams asked)) on mid.parts new.parts
+pub sent_after : (g : Settings) (s : State) (past : List Entry) (mid new : State) (asked : Call) (on n : ℕ) (keeps leases : Bool) → Fits g s past → IsMessageOn (own_next s.streams) asked on → Sends g s asked on n
+    → keeps ≡ agrees_resumption g s.setup → leases ≡ agrees_leases g s.setup
+    → mid ≡ with_room (with_line g s (event.Asked asked) (answer_on asked on)) (Some on) s.parts mid.replay.spare
+    → IfSome (spoken (known_to s.streams) on asked) (IsLastOf mid.queue n)
+    → new ≡ spoken_after mid asked n new.parts new.replay new.lease
+    → ((f : Frame) → drop (length mid.queue - n) mid.queue ≡ canonical f → HoldsMore mid.replay.held (if_agreed keeps (f ∷ [])) 0 new.replay.held)
+    → new.replay.held.hold ≡ mid.replay.held.hold
+    → ((id now : ℕ) → new.lease ≡ lease_after leases now (answer_on asked id) (event.Asked asked) mid.lease)
+    → LetsGo (known_to (acted mid.streams asked)) on mid.parts new.parts
     → IsAfter g s (event.Asked asked) (answer_on asked on) new
-sent_after g s past mid new asked on n fits is sends lined same go =
+sent_after g s past mid new asked on n keeps leases fits is sends kept leased lined last same holds hold lease go =
     let a = answer_on asked on in
     let e = event.Asked asked in
-    let old : State = with_room (with_line g s e a) (Some on) s.parts s.replay.spare in
-    let spoke : new ≡ spoken_after old asked n new.parts = same ∙ ap (λ (k : State). spoken_after k asked n new.parts) lined in
+    let ms = makes g (covers_next g s) (known_to s.streams) a e in
+    let old : State = with_room (with_line g s e a) (Some on) s.parts mid.replay.spare in
+    let spoke : new ≡ spoken_after old asked n new.parts new.replay new.lease = same ∙ ap (λ (k : State). spoken_after k asked n new.parts new.replay new.lease) lined in
     let gone : LetsGo (known_to (acted old.streams asked)) on old.parts new.parts = subst (λ (k : State). LetsGo (known_to (acted k.streams asked)) on k.parts new.parts) lined go in
     let means = sent_means g s asked on fits.limits_are is sends.may in
-    let unleased = no_lease g s past fits.facts_are sends.may.plainly.leases in
-    let applied = sent_applied g old asked on n new.parts is unleased sends.may.plainly.forgets fits.heard sends.one sends.long gone in
-    after_act g s new e a (length s.queue) (Some on) s.parts s.replay.spare (λ i. refl) (no_draw g (facts_of s) e a means tt) refl (opened_above g (facts_of s) e a means)
+    let some = is_spoken (known_to s.streams) (own_next s.streams) asked on is in
+    let of_mid : HoldsMore mid.replay.held (if_agreed keeps ms) 0 new.replay.held = holds_last (spoken (known_to s.streams) on asked) ms mid.queue n keeps mid.replay.held new.replay.held some sends.alone last holds in
+    let of_old : HoldsMore s.replay.held (if_agreed keeps ms) 0 new.replay.held = subst (λ (k : State). HoldsMore k.replay.held (if_agreed keeps ms) 0 new.replay.held) lined of_mid in
+    let held : HoldsMore s.replay.held (if_agreed (agrees_resumption g s.setup) ms) 0 new.replay.held = subst (λ (b : Bool). HoldsMore s.replay.held (if_agreed b ms) 0 new.replay.held) kept of_old in
+    let bound : new.replay.held.hold ≡ s.replay.held.hold = hold ∙ ap (λ (k : State). k.replay.held.hold) lined in
+    let lets : (id now : ℕ) → new.lease ≡ lease_after (agrees_leases g s.setup) now (answer_on asked id) e s.lease =
+    λ id now. lease id now ∙ ap (λ (b : Bool). lease_after b now (answer_on asked id) e mid.lease) leased ∙ ap (λ (k : State). lease_after (agrees_leases g s.setup) now (answer_on asked id) e k.lease) lined in
+    let applied = sent_applied g old asked on n new.parts new.replay new.lease is fits.heard sends.one sends.long held bound lets gone in
+    after_act g s new e a (length s.queue) (Some on) s.parts mid.replay.spare (λ i. refl) (no_draw g (facts_of s) e a means tt) refl (opened_above g (facts_of s) e a means)
     (subst (IsApplied g old e a) (sym spoke) applied) (ap (λ (k : State). k.queue) spoke ∙ stays_lined asked on (length s.queue) (with_line g s e a).queue)
+
+-- the frame can be kept
+pub sent_keeps : (g : Settings) (s : State) (past : List Entry) (told : Option (List Entry)) (count : ℕ) (mid : State) (asked : Call) (on n : ℕ) → IsSound g s past told count → IsMessageOn (own_next s.streams) asked on
+    → Sends g s asked on n → mid ≡ with_room (with_line g s (event.Asked asked) (answer_on asked on)) (Some on) s.parts mid.replay.spare
+    → IfSome (spoken (known_to s.streams) on asked) (IsLastOf mid.queue n) → HasSpare mid.replay.spare n → CanKeepLast mid.replay mid.queue n
+sent_keeps g s past told count mid asked on n sound is sends lined last spare =
+    let a = answer_on asked on in
+    let e = event.Asked asked in
+    let means = sent_means g s asked on sound.fits.limits_are is sends.may in
+    let within : s.made.position + pos (makes g (covers_next g s) (known_to s.streams) a e) ≤ g.top_position = makes_fit g (facts_of s) e a means sound.made.position in
+    let end = end_below g s past sound.fits in
+    let same : end_of mid.replay.held ≡ end_of s.replay.held = ap (λ (k : State). end_of k.replay.held) lined in
+    can_keep (spoken (known_to s.streams) on asked) mid.replay mid.queue n (is_spoken (known_to s.streams) (own_next s.streams) asked on is) last spare
+    (omega (arith, within, end, same, sends.long, sound.checked.top_position))
+
+same_lets : (agreed : Bool) (asked : Call) (on id : ℕ) (lease : Option Terms) → LetsStart agreed (answer_on asked on) lease → LetsStart agreed (answer_on asked id) lease
+same_lets agreed (call.Request kind initial message complete) on id lease lets = lets
+same_lets agreed asked on id lease lets = lets
+
+-- the lease lets a request start
+pub sent_lets : (g : Settings) (s : State) (past : List Entry) (told : Option (List Entry)) (count : ℕ) (mid : State) (asked : Call) (on n : ℕ) (leases : Bool) → IsSound g s past told count → IsMessageOn (own_next s.streams) asked on
+    → Sends g s asked on n → leases ≡ agrees_leases g s.setup → mid ≡ with_room (with_line g s (event.Asked asked) (answer_on asked on)) (Some on) s.parts mid.replay.spare
+    → (id : ℕ) → LetsStart leases (answer_on asked id) mid.lease
+sent_lets g s past told count mid asked on n leases sound is sends leased lined id =
+    let answer = sent_answer g s past asked on sound.fits is sends.may in
+    let starts = starts_of g s past told count (event.Asked asked) (answer_on asked on) sound answer in
+    let same : mid.lease ≡ s.lease = ap (λ (k : State). k.lease) lined in
+    subst (λ (o : Option Terms). LetsStart leases (answer_on asked id) o) (sym same)
+    (subst (λ (b : Bool). LetsStart b (answer_on asked id) s.lease) (sym leased) (same_lets (agrees_leases g s.setup) asked on id s.lease starts))

@@ -19,6 +19,7 @@ use Rattle.stream_model.specs.declared.stream.Limits.{Limits}
 use Rattle.stream_model.specs.Known.{Known, next_id}
 use Rattle.interactions.specs.Answers.{next_within}
 use Rattle.interactions.specs.Seen.{Seen, known_to}
+use Rattle.replay_buffer.specs.Held.{Buffer, Spare}
 use Rattle.session_model.specs.Answers.{accepted, answer_to, refused_or}
 use Rattle.session_model.specs.Frames.{if_carrying, in_fragments, makes, request_frame, sent_as, spoken}
 use Rattle.session_model.specs.Legal.{IsFair, LeavesEntry}
@@ -30,7 +31,7 @@ use Rattle.session_core.specs.Leasing.{covers_next}
 use Rattle.session_core.specs.Line.{line_of}
 use Rattle.session_core.specs.Outgoing.{CanGo, frame_made}
 use Rattle.session_core.specs.Prepared.{lined_on, with_line}
-use Rattle.session_core.specs.Sending.{GoesPlainly, IsMessageOn, MaySend, Sends, answer_on, frame_on, is_last, own_next}
+use Rattle.session_core.specs.Sending.{GoesOut, IsMessageOn, MaySend, Sends, answer_on, frame_on, is_last, own_next}
 use Rattle.session_core.specs.Speaking.{with_room}
 use Rattle.session_core.proofs.Framed.{fits_alone}
 use Rattle.session_core.proofs.Soundness.{answer_of}
@@ -115,7 +116,7 @@ pub sent_made : (g : Settings) (s : State) (asked : Call) (on mtu n : ℕ) → I
     → makes g (covers_next g s) (known_to s.streams) (answer_on asked on) (event.Asked asked) ≡ option_to_list (spoken (known_to s.streams) on asked)
 sent_made g s asked on mtu n long limit alone = made_as g (covers_next g s) (known_to s.streams) asked on ∙ alone_where g (spoken (known_to s.streams) on asked) mtu n long limit alone
 
-is_spoken : (t : Known) (next : ℕ) (asked : Call) (on : ℕ) → IsMessageOn next asked on → is_some (spoken t on asked) ≡ true
+pub is_spoken : (t : Known) (next : ℕ) (asked : Call) (on : ℕ) → IsMessageOn next asked on → is_some (spoken t on asked) ≡ true
 is_spoken t next (call.Request kind initial message complete) on is = refl
 is_spoken t next (call.Next n message complete) on is = refl
 is_spoken t next asked on is = absurd is
@@ -129,11 +130,12 @@ long_where None n some long = absurd (cc)
 long_where (Some f) n some long = pos_one f ∙ sym long
 
 pub sent_sends : (g : Settings) (s : State) (asked : Call) (on n : ℕ) → IsMessageOn (own_next s.streams) asked on → MaySend g s asked → IfSome (spoken (known_to s.streams) on asked) (λ f. n ≡ length_of f)
-    → makes g (covers_next g s) (known_to s.streams) (answer_on asked on) (event.Asked asked) ≡ option_to_list (spoken (known_to s.streams) on asked) → Sends g s (answer_on asked on) asked n
+    → makes g (covers_next g s) (known_to s.streams) (answer_on asked on) (event.Asked asked) ≡ option_to_list (spoken (known_to s.streams) on asked) → Sends g s asked on n
 sent_sends g s asked on n is may long made =
     let some = is_spoken (known_to s.streams) (own_next s.streams) asked on is in
     record {
       may = may;
+      alone = made;
       one = ap length made ∙ one_where (spoken (known_to s.streams) on asked) some;
       long = ap pos made ∙ long_where (spoken (known_to s.streams) on asked) n some long;
     }
@@ -151,31 +153,32 @@ still_live : (asked : Call) (on live : ℕ) → live_after (answer_on asked on) 
 still_live (call.Request kind initial message complete) on live = refl
 still_live asked on live = refl
 
-sent_lined : (g : Settings) (s : State) (asked : Call) (on : ℕ) → IsMessageOn (own_next s.streams) asked on → GoesPlainly g s
+sent_lined : (g : Settings) (s : State) (asked : Call) (on : ℕ) → IsMessageOn (own_next s.streams) asked on → GoesOut s
     → makes g (covers_next g s) (known_to s.streams) (answer_on asked on) (event.Asked asked) ≡ option_to_list (spoken (known_to s.streams) on asked)
     → framed_all (option_to_list (spoken (known_to s.streams) on asked)) ≡ lined_on (live_after (answer_on asked on) s.live) (line_of g s (answer_on asked on) (event.Asked asked))
-sent_lined g s asked on is plainly made =
+sent_lined g s asked on is out made =
     let a = answer_on asked on in
     let e = event.Asked asked in
     let ms = makes g (covers_next g s) (known_to s.streams) a e in
     ap framed_all (sym made)
-    ∙ (ap (λ (b : Bool). framed_all (if_carrying b ms)) (sym plainly.carries)
+    ∙ (ap (λ (b : Bool). framed_all (if_carrying b ms)) (sym out.carries)
     ∙ (sym (line_alone g s (own_next s.streams) asked on is)
-    ∙ (ap (λ (b : Bool). cond {A = List ℕ} b (line_of g s a e) []) (sym plainly.connected)
+    ∙ (ap (λ (b : Bool). cond {A = List ℕ} b (line_of g s a e) []) (sym out.connected)
     ∙ ap (λ (n : ℕ). lined_on n (line_of g s a e)) (sym (still_live asked on s.live)))))
 
-pub sent_in_line : (g : Settings) (s : State) (asked : Call) (on : ℕ) (queue : List ℕ) (streams : Seen) → IsMessageOn (own_next s.streams) asked on → GoesPlainly g s
+pub sent_in_line : (g : Settings) (s : State) (asked : Call) (on : ℕ) (queue : List ℕ) (streams : Seen) (replay : Buffer) → IsMessageOn (own_next s.streams) asked on → GoesOut s
     → makes g (covers_next g s) (known_to s.streams) (answer_on asked on) (event.Asked asked) ≡ option_to_list (spoken (known_to s.streams) on asked)
-    → queue ≡ s.queue ++ framed_all (option_to_list (spoken (known_to s.streams) on asked)) → streams ≡ record s.streams { ready = Some on }
-    → record s { streams = streams; queue = queue } ≡ with_room (with_line g s (event.Asked asked) (answer_on asked on)) (Some on) s.parts s.replay.spare
-sent_in_line g s asked on queue streams is plainly made q ready =
-    ap (λ (k : Seen). record s { streams = k; queue = queue }) ready
-    ∙ ap (λ (k : List ℕ). record s { streams = record s.streams { ready = Some on }; queue = k }) (q ∙ ap (λ (bytes : List ℕ). s.queue ++ bytes) (sent_lined g s asked on is plainly made))
+    → queue ≡ s.queue ++ framed_all (option_to_list (spoken (known_to s.streams) on asked)) → streams ≡ record s.streams { ready = Some on } → replay ≡ record s.replay { spare = replay.spare }
+    → record s { streams = streams; queue = queue; replay = replay } ≡ with_room (with_line g s (event.Asked asked) (answer_on asked on)) (Some on) s.parts replay.spare
+sent_in_line g s asked on queue streams replay is out made q ready kept =
+    ap (λ (b : Buffer). record s { streams = streams; queue = queue; replay = b }) kept
+    ∙ ap (λ (k : Seen). record s { streams = k; queue = queue; replay = record s.replay { spare = replay.spare } }) ready
+    ∙ ap (λ (k : List ℕ). record s { streams = record s.streams { ready = Some on }; queue = k; replay = record s.replay { spare = replay.spare } }) (q ∙ ap (λ (bytes : List ℕ). s.queue ++ bytes) (sent_lined g s asked on is out made))
 
 -- where the tape has no room for it, the frame is taken out of line again
-pub sent_forgotten : (g : Settings) (s mid : State) (asked : Call) (a : Answer) (on before : ℕ) (queue : List ℕ) → before ≡ length s.queue
-    → mid ≡ with_room (with_line g s (event.Asked asked) a) (Some on) s.parts s.replay.spare → queue ≡ take before mid.queue
-    → record mid { queue = queue } ≡ with_room s (Some on) s.parts s.replay.spare
-sent_forgotten g s mid asked a on before queue is lined q =
-    forgotten g s (record mid { queue = queue }) (event.Asked asked) a before (Some on) s.parts s.replay.spare is
+pub sent_forgotten : (g : Settings) (s mid : State) (asked : Call) (a : Answer) (on before : ℕ) (queue : List ℕ) (spare : Spare) → before ≡ length s.queue
+    → mid ≡ with_room (with_line g s (event.Asked asked) a) (Some on) s.parts spare → queue ≡ take before mid.queue
+    → record mid { queue = queue } ≡ with_room s (Some on) s.parts spare
+sent_forgotten g s mid asked a on before queue spare is lined q =
+    forgotten g s (record mid { queue = queue }) (event.Asked asked) a before (Some on) s.parts spare is
     (ap (λ (k : List ℕ). record mid { queue = k }) q ∙ ap (λ (k : State). record k { queue = take before k.queue }) lined)

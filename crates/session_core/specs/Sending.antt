@@ -1,10 +1,11 @@
 -- Calls that go out in one frame.
-use Rattle.std.specs.Prelude.{◌≡◌, ◌||◌, ◌+◌, ◌==◌, ℕ, Bool, true, false, length, Option, Some, None}
+use Rattle.std.specs.Prelude.{◌≡◌, ◌≤◌, ◌<◌, ◌^◌, ◌||◌, ◌+◌, ◌-◌, ◌==◌, ℕ, drop, Bool, true, false, List, length, option_to_list, Option, Some, None}
 use Rattle.rs_wire.specs.declared.settings.Settings.{Settings}
 use Rattle.rs_wire.specs.declared.call.Call.{Call}
 use Rattle.rs_wire.specs.declared.call.Call.TheVariants as call
 use Rattle.rs_frame.specs.declared.frame.Frame.{Frame}
 use Rattle.rs_frame.specs.declared.frame.Frame.TheVariants as frame
+use Rattle.rs_frame.specs.Spelling.{canonical}
 use Rattle.position.specs.Boundaries.{pos}
 use Rattle.tape.specs.declared.event.Event.TheVariants as event
 use Rattle.tape.specs.declared.answer.Answer.{Answer}
@@ -12,24 +13,23 @@ use Rattle.tape.specs.declared.answer.Answer.TheVariants as answer
 use Rattle.stream_model.specs.Known.{Known, hears_on, is_open_response, next_id}
 use Rattle.interactions.specs.Seen.{Seen, acted, known_to}
 use Rattle.reassembly.specs.Gathering.{ReassemblyView, gathered_at, has_part_at}
+use Rattle.replay_buffer.specs.Held.{Buffer, HasSpare, end_of}
+use Rattle.lease.specs.declared.requester.Terms.{Terms}
 use Rattle.session_model.specs.Answers.{refused_call}
-use Rattle.session_model.specs.Frames.{makes, request_frame}
-use Rattle.session_model.specs.Life.{agrees_leases, agrees_resumption}
+use Rattle.session_model.specs.Frames.{makes, request_frame, spoken}
 use Rattle.session_core.specs.Fits.{facts_of}
 use Rattle.session_core.specs.Leasing.{covers_next}
 use Rattle.session_core.specs.Queued.{is_connected}
 use Rattle.session_core.specs.declared.state.State.{State}
 
--- frames go out at once, and none is kept; no lease counts requests
-pub record GoesPlainly (g : Settings) (s : State) : Type 0 where
+-- frames go out at once
+pub record GoesOut (s : State) : Type 0 where
   pub carries : s.carrying ≡ true
   pub connected : is_connected s.live ≡ true
-  pub forgets : agrees_resumption g s.setup ≡ false
-  pub leases : agrees_leases g s.setup ≡ false
 
--- a call is accepted where frames go so
+-- a call is accepted where frames go out at once
 pub record MaySend (g : Settings) (s : State) (asked : Call) : Type 0 where
-  pub plainly : GoesPlainly g s
+  pub out : GoesOut s
   pub accepted : refused_call g (facts_of s) asked ≡ None
 
 -- the id of the next request of this end
@@ -59,11 +59,12 @@ frame_on on last (call.Request kind initial message complete) = Some (request_fr
 frame_on on last (call.Next s message complete) = Some (frame.Payload on false last true message)
 frame_on on last _ = None
 
--- a call that is so answered makes one frame, of that length
-pub record Sends (g : Settings) (s : State) (a : Answer) (asked : Call) (n : ℕ) : Type 0 where
+-- a request or a payload on that stream makes one frame, of that length
+pub record Sends (g : Settings) (s : State) (asked : Call) (on n : ℕ) : Type 0 where
   pub may : MaySend g s asked
-  pub one : length (makes g (covers_next g s) (known_to s.streams) a (event.Asked asked)) ≡ 1
-  pub long : pos (makes g (covers_next g s) (known_to s.streams) a (event.Asked asked)) ≡ n
+  pub alone : makes g (covers_next g s) (known_to s.streams) (answer_on asked on) (event.Asked asked) ≡ option_to_list (spoken (known_to s.streams) on asked)
+  pub one : length (makes g (covers_next g s) (known_to s.streams) (answer_on asked on) (event.Asked asked)) ≡ 1
+  pub long : pos (makes g (covers_next g s) (known_to s.streams) (answer_on asked on) (event.Asked asked)) ≡ n
 
 -- of that stream nothing is kept where messages are not taken in any more, of any other all
 pub record LetsGo (t : Known) (on : ℕ) (old new : ReassemblyView) : Type 0 where
@@ -71,12 +72,29 @@ pub record LetsGo (t : Known) (on : ℕ) (old new : ReassemblyView) : Type 0 whe
   pub over : (s : ℕ) → (on == s) ≡ true → hears_on (t.kept s) ≡ false → has_part_at new s ≡ false
   pub others : (s : ℕ) → (on == s) ≡ false → has_part_at new s ≡ has_part_at old s
 
--- the state after a call that made one frame of that length, where these parts are kept
-abbrev pub spoken_after : State → Call → ℕ → ReassemblyView → State
-spoken_after s asked n parts = record s {
+-- these many last bytes of a queue are those of the frame, which has the length of one
+pub record IsLastOf (queue : List ℕ) (n : ℕ) (f : Frame) : Type 0 where
+  pub bytes : drop (length queue - n) queue ≡ canonical f
+  pub within : n ≤ length queue
+  pub shortest : 6 ≤ n
+  pub longest : n < 2 ^ 24
+
+-- the last bytes of a queue can be kept as a frame
+pub record CanKeepLast (b : Buffer) (queue : List ℕ) (n : ℕ) : Type 0 where
+  pub spare : HasSpare b.spare n
+  pub shortest : 6 ≤ n
+  pub longest : n < 2 ^ 24
+  pub top : end_of b.held + n < 2 ^ 63
+  pub within : n ≤ length queue
+
+-- the state after a call that made one frame of that length, where these parts, these frames and this lease are kept
+abbrev pub spoken_after : State → Call → ℕ → ReassemblyView → Buffer → Option Terms → State
+spoken_after s asked n parts replay lease = record s {
   made = record { frames = s.made.frames + 1; position = s.made.position + n };
   streams = acted s.streams asked;
   parts = parts;
+  replay = replay;
+  lease = lease;
 }
 
 -- a call whose copy takes memory

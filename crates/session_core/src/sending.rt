@@ -1,18 +1,24 @@
 //! Calls that go out in one frame, which is written from the call's own parts.
 
-ghost use Rattle.std.specs.Prelude.{◌≡◌, ◌≢◌, ◌≤◌, ◌+◌, ◌++◌, ◌<◌, ◌^◌, None, Some, IfOk, IfSome, OnErr, OnOk, false, true, length, option_to_list};
+ghost use Rattle.std.specs.Prelude.{◌≡◌, ◌≢◌, ◌≤◌, ◌+◌, ◌-◌, ◌++◌, ◌<◌, ◌^◌, ◌∷◌, [], ℕ, None, Some, IfOk, IfSome, OnErr, OnOk, drop, false, true, length, option_to_list};
 ghost use Rattle.rs_wire.specs.Calls.{CanBeAsked};
 ghost use Rattle.rs_wire.specs.Settings.{IsChecked};
+ghost use Rattle.rs_frame.specs.declared.frame.Frame.{Frame as Sent};
 ghost use Rattle.rs_frame.specs.Framed.{framed_all};
-ghost use Rattle.rs_frame.specs.Spelling.{IsSpellable, length_of};
+ghost use Rattle.rs_frame.specs.Spelling.{IsSpellable, canonical, length_of};
 ghost use Rattle.tape.specs.declared.event.Event.TheVariants as events;
 ghost use Rattle.interactions.specs.Seen.{acted, known_to};
+ghost use Rattle.replay_buffer.specs.Held.{HasSpare};
 ghost use Rattle.session_model.specs.Answers.{answer_to};
+ghost use Rattle.session_model.specs.Frames.{if_agreed, spoken};
 ghost use Rattle.session_model.specs.Legal.{IsFair};
+ghost use Rattle.session_model.specs.Life.{agrees_leases, agrees_resumption};
 ghost use Rattle.session_core.specs.Fits.{AreLimits, HasRoom};
+ghost use Rattle.session_core.specs.Kept.{HoldsMore};
+ghost use Rattle.session_core.specs.Leasing.{LetsStart, lease_after};
 ghost use Rattle.session_core.specs.Prepared.{with_line};
 ghost use Rattle.session_core.specs.Seen.{IsOrOutOfMemory, entries_after};
-ghost use Rattle.session_core.specs.Sending.{GoesPlainly, IsMessageOn, LetsGo, MaySend, Sends, answer_on, frame_on, is_last, own_next, spoken_after};
+ghost use Rattle.session_core.specs.Sending.{CanKeepLast, IsLastOf, IsMessageOn, LetsGo, MaySend, Sends, answer_on, frame_on, is_last, own_next, spoken_after};
 ghost use Rattle.session_core.specs.Speaking.{Acts, with_room};
 
 use crate::amounts::call_amounts_fit;
@@ -25,27 +31,38 @@ use crate::sizes::{fits, mtu};
 use crate::speak::completes;
 use crate::state::State;
 use interactions::Streams;
+use lease::Lease;
+use replay_buffer::Replay;
 use rs_wire::{Call, Checked, OutOfMemory};
 use tape::{Answer, Tape};
 
-// Whether frames go out at once, and none is kept; no lease counts requests.
-fn goes_plainly(settings: &Checked, state: &State) -> bool
-    ensures { result ≡ true → GoesPlainly settings.now state.now }
-{
-    let set = settings.settings();
-    state.carrying
-        && state.live != 0
-        && !agrees_resumption(set, &state.setup)
-        && !agrees_leases(set, &state.setup)
+// What a session agreed to that a call has to heed.
+#[derive(Clone, Copy)]
+pub(crate) struct Agreed {
+    // Frames that are made are held.
+    resumption: bool,
+    // Requests are counted by leases.
+    leases: bool,
 }
 
-// Whether the call is not refused, and can go out by this way.
+fn agreed_by(settings: &Checked, state: &State) -> Agreed
+    ensures resumption { result.resumption ≡ agrees_resumption settings.now state.now.setup }
+    ensures leases { result.leases ≡ agrees_leases settings.now state.now.setup }
+{
+    let set = settings.settings();
+    Agreed {
+        resumption: agrees_resumption(set, &state.setup),
+        leases: agrees_leases(set, &state.setup),
+    }
+}
+
+// Whether the call is not refused, and its frame goes out at once.
 fn may_send(settings: &Checked, state: &State, call: &Call) -> bool
     requires room { HasRoom state.now }
     requires limits { AreLimits settings.now state.now }
     ensures { result ≡ true → MaySend settings.now state.now call.now }
 {
-    goes_plainly(settings, state) && refused_call(settings, state, call).is_none()
+    state.carrying && state.live != 0 && refused_call(settings, state, call).is_none()
 }
 
 // The stream of a request or a payload: of a request the next of this end. `None` of any other
@@ -122,14 +139,52 @@ fn answer_on(call: &Call, on: u32) -> Answer
     }
 }
 
+// Reserves memory to keep a frame of so many bytes, where frames are kept.
+fn reserve_one(replay: &mut Replay, count: u32, keeps: bool) -> Result<(), OutOfMemory>
+    ensures same { replay.new ≡ record replay.old { spare = replay.new.spare } }
+    ensures spare { OnOk result (keeps ≡ true → HasSpare replay.new.spare count) }
+{
+    if !keeps {
+        return Ok(());
+    }
+    replay.reserve(1, count as usize)
+}
+
+// Keeps the frame of so many bytes that was put in line last, where frames are kept.
+fn keep_last(replay: &mut Replay, queue: &Queue, count: u32, keeps: bool)
+    requires { keeps ≡ true → CanKeepLast replay.old queue.now count }
+    ensures held { (f : Sent) → drop (length queue.now - count) queue.now ≡ canonical f →
+        HoldsMore replay.old.held (if_agreed keeps (f ∷ [])) 0 replay.new.held }
+    ensures hold { replay.new.held.hold ≡ replay.old.held.hold }
+{
+    if !keeps {
+        return;
+    }
+    replay.keep(queue.last(count as usize));
+}
+
+// Counts a request, where leases are agreed.
+#[tactic(auto, using(crate::proofs::Leases::started))]
+fn use_lease(lease: &mut Lease, agreed: bool, call: &Call)
+    requires { (on : ℕ) → LetsStart agreed (answer_on call.now on) lease.old }
+    ensures { (on now : ℕ) → lease.new ≡
+        lease_after agreed now (answer_on call.now on) (events.Asked call.now) lease.old }
+{
+    match call {
+        Call::Request { .. } if agreed => lease.use_one(),
+        _ => {}
+    }
+}
+
 impl State {
     // Puts the frame of a call in line where it goes out alone on this stream, and gives its
-    // length.
+    // length. Where frames are kept, memory is reserved for it.
     fn line_call(
         &mut self,
         settings: &Checked,
         call: &Call,
         on: u32,
+        keeps: bool,
     ) -> Result<Option<u32>, OutOfMemory>
         requires message { IsMessageOn (own_next self.old.streams) call.now on }
         requires checked { IsChecked settings.now }
@@ -137,13 +192,18 @@ impl State {
         requires room { HasRoom self.old }
         requires limits { AreLimits settings.now self.old }
         ensures sends { IfOk result (λ o. IfSome o (λ n.
-            Sends settings.now self.old (answer_on call.now on) call.now n)) }
+            Sends settings.now self.old call.now on n)) }
         ensures lined { IfOk result (λ o. IfSome o (λ _. self.new ≡ with_room
             (with_line settings.now self.old (events.Asked call.now) (answer_on call.now on))
-            (Some on) self.old.parts self.old.replay.spare)) }
+            (Some on) self.old.parts self.new.replay.spare)) }
+        ensures last { IfOk result (λ o. IfSome o (λ n. IfSome
+            (spoken (known_to self.old.streams) on call.now)
+            (IsLastOf self.new.queue n))) }
+        ensures spare { IfOk result (λ o. IfSome o (λ n.
+            keeps ≡ true → HasSpare self.new.replay.spare n)) }
         ensures none { IfOk result (λ o. o ≡ None → self.new ≡ self.old) }
         ensures err { OnErr result (self.new ≡ with_room
-            self.old self.new.streams.ready self.old.parts self.old.replay.spare) }
+            self.old self.new.streams.ready self.old.parts self.new.replay.spare) }
     {
         // The ids of the streams have 31 bits, so that the frames on them can be spelled.
         self.streams.fair();
@@ -151,35 +211,51 @@ impl State {
             return Ok(None);
         }
         let last = is_last(&self.streams, call);
-        let length = frame_length(on, last, call);
-        if !fits(length, mtu(settings)) {
+        let count = frame_length(on, last, call);
+        if !fits(count, mtu(settings)) {
             return Ok(None);
         }
         self.streams.reserve(on)?;
+        reserve_one(&mut self.replay, count, keeps)?;
         append_frame(&mut self.queue, on, last, call)?;
-        Ok(Some(length))
+        Ok(Some(count))
     }
 
-    // Applies a call on a stream that makes one frame of this length, for which room was made.
+    // Applies a call on a stream whose frame of so many bytes was put in line last, for which room
+    // was made.
     #[inline(always)]
-    fn speak_once(&mut self, call: &Call, on: u32, length: u32)
+    fn speak_once(&mut self, call: &Call, on: u32, count: u32, agreed: Agreed)
         requires acts { Acts self.old.streams call.now }
         requires frames { self.old.made.frames < 2 ^ 63 }
         requires position { self.old.made.position < 2 ^ 63 }
-        ensures after { self.new ≡ spoken_after self.old call.now length self.new.parts }
+        requires keeps { agreed.resumption ≡ true →
+            CanKeepLast self.old.replay self.old.queue count }
+        requires lets { (id : ℕ) →
+            LetsStart agreed.leases (answer_on call.now id) self.old.lease }
+        ensures after { self.new ≡ spoken_after
+            self.old call.now count self.new.parts self.new.replay self.new.lease }
+        ensures held { (f : Sent) →
+            drop (length self.old.queue - count) self.old.queue ≡ canonical f →
+            HoldsMore self.old.replay.held (if_agreed agreed.resumption (f ∷ [])) 0
+            self.new.replay.held }
+        ensures hold { self.new.replay.held.hold ≡ self.old.replay.held.hold }
+        ensures lease { (id now : ℕ) → self.new.lease ≡ lease_after
+            agreed.leases now (answer_on call.now id) (events.Asked call.now) self.old.lease }
         ensures parts { LetsGo
             (known_to (acted self.old.streams call.now)) on self.old.parts self.new.parts }
     {
         self.made.frames += 1;
-        self.made.position += u64::from(length);
+        self.made.position += u64::from(count);
+        keep_last(&mut self.replay, &self.queue, count, agreed.resumption);
+        use_lease(&mut self.lease, agreed.leases, call);
         let _stream = self.streams.act(call);
         let_stream_go(&mut self.parts, &self.streams, on);
     }
 }
 
 impl<T: Tape> Session<T> {
-    /// Sends a request or a payload that goes out in one frame, where neither resumption nor leases
-    /// are agreed. `None` where the call isn't such a one, or is refused: nothing has changed.
+    /// Sends a request or a payload that goes out in one frame, which is kept where resumption is
+    /// agreed. `None` where the call isn't such a one, or is refused: nothing has changed.
     #[inline(always)]
     pub(crate) fn send(&mut self, who: u32, call: &Call) -> Option<Answer>
         requires askable { CanBeAsked call.now }
@@ -198,8 +274,12 @@ impl<T: Tape> Session<T> {
         // It does nothing: it says that the amounts of the call have their range.
         call_amounts_fit(call);
         let before = self.state.queue.len();
-        let length = match self.state.line_call(&self.settings, call, on) {
-            Ok(Some(length)) => length,
+        let agreed = agreed_by(&self.settings, &self.state);
+        let count = match self
+            .state
+            .line_call(&self.settings, call, on, agreed.resumption)
+        {
+            Ok(Some(count)) => count,
             Ok(None) => return None,
             Err(OutOfMemory) => return Some(Answer::OutOfMemory),
         };
@@ -209,7 +289,7 @@ impl<T: Tape> Session<T> {
             return Some(Answer::OutOfMemory);
         }
         self.history.note_call(who, call, &answer);
-        self.state.speak_once(call, on, length);
+        self.state.speak_once(call, on, count, agreed);
         Some(answer)
     }
 }
