@@ -1,6 +1,5 @@
-use Rattle.std.proofs.Common.{◌≡◌, ◌-◌, ◌<◌, ◌≤◌, ◌^◌, ◌∷◌, [], length, ap, ◌∙◌, subst, sym, arith}
+use Rattle.std.proofs.Common.{◌≡◌, ◌-◌, ◌∷◌, [], length, ap, ◌∙◌, arith}
 use Rattle.std.proofs.lemmas.List.{length-drop}
-use Rattle.replay_buffer.specs.Held.{HasSpare, Held}
 use Rattle.session_core.proofs.KeptLast.{holds_none, holds_one}
 use Rattle.session_core.proofs.sending.keep_last.Goals as goal
 
