@@ -22,7 +22,7 @@ use Rattle.conn_shared.specs.Lines.{who_of}
 use Rattle.conn_shared.specs.Members.{Knowledge}
 use Rattle.conn_shared.specs.Calls.{IsCalled}
 use Rattle.workers.specs.Causes.{IsRight, WasAnswered}
-use Rattle.workers.specs.Courses.{GoesOn, HasSent, IsWorkersCall, accepted, accepted_of, after_call, bytes_of_all, course, is_done, is_named}
+use Rattle.workers.specs.Courses.{GoesOn, HasReplied, IsWorkersCall, accepted, accepted_of, after_call, course, is_done, is_named}
 use Rattle.workers.specs.Serving.{IsServed, Serving}
 use Rattle.workers.proofs.Fronts.{IsOwn}
 use Rattle.workers.specs.Going.{MayAnswer, told}
@@ -125,28 +125,20 @@ goes_call g me asked a new named c = by (leaves a) refl c.step.after
     }
 
 -- the replies that a call adds are those that were accepted
-pub sent_call : (g : Settings) (me : Knowledge) (asked : Call) (a : Answer) (new : List Entry) → 0 < times me.number me.names → IsCalled g me (event.Asked asked) a new
-    → HasSent me.names me.front new (bytes_of_all (accepted_of asked a))
-sent_call g me asked a new named c = by (leaves a) refl c.step.after
+pub replied_call : (g : Settings) (me : Knowledge) (asked : Call) (a : Answer) (new : List Entry) → 0 < times me.number me.names → IsCalled g me (event.Asked asked) a new
+    → HasReplied me.names me.front new (accepted_of asked a)
+replied_call g me asked a new named c = by (leaves a) refl c.step.after
   where
-    same : bytes_of_all (accepted_of asked a) ≤ bytes_of_all (accepted_of asked a)
-    same = omega arith
-
     none : accepted me.names c.follows.0 ≡ []
     none = accepted_others me.names c.follows.0 c.follows.2
 
-    by : (b : Bool) → leaves a ≡ b → new ≡ (if b then entry_of me.number (event.Asked asked) a ∷ c.before else c.before) → HasSent me.names me.front new (bytes_of_all (accepted_of asked a))
+    by : (b : Bool) → leaves a ≡ b → new ≡ (if b then entry_of me.number (event.Asked asked) a ∷ c.before else c.before) → HasReplied me.names me.front new (accepted_of asked a)
     by true is after = record {
       more = entry_of me.number (event.Asked asked) a ∷ c.follows.0;
       on = after ∙ ap (λ es. entry_of me.number (event.Asked asked) a ∷ es) c.follows.1;
-      sent = subst (λ n. bytes_of_all (accepted_of asked a) ≤ n)
-          (sym (ap bytes_of_all (accepted_own me.names me.number asked a c.follows.0 named ∙ (ap (λ cs. accepted_of asked a ++ cs) none ∙ append-nil (accepted_of asked a))))) same;
+      replied = accepted_own me.names me.number asked a c.follows.0 named ∙ (ap (λ cs. accepted_of asked a ++ cs) none ∙ append-nil (accepted_of asked a));
     }
-    by false is after = record {
-      more = c.follows.0;
-      on = after ∙ c.follows.1;
-      sent = subst (λ n. bytes_of_all (accepted_of asked a) ≤ n) (sym (ap bytes_of_all (none ∙ sym (unaccepted asked a is)))) same;
-    }
+    by false is after = record { more = c.follows.0; on = after ∙ c.follows.1; replied = none ∙ sym (unaccepted asked a is) }
 
 -- ---- what was answered
 

@@ -33,7 +33,7 @@ pub all_weaker : {X : Type 0} (P Q : X → Type 0) (xs : List X) → ((x : X) �
 all_weaker P Q [] f h = tt
 all_weaker P Q (x ∷ xs) f h = (f x h.0, all_weaker P Q xs f h.1)
 
-accepted-append : (names : List ℕ) (xs ys : List Entry) → accepted names (xs ++ ys) ≡ accepted names xs ++ accepted names ys
+pub accepted-append : (names : List ℕ) (xs ys : List Entry) → accepted names (xs ++ ys) ≡ accepted names xs ++ accepted names ys
 accepted-append names [] ys = refl
 accepted-append names (x ∷ xs) ys = by (is_named names x.who) (accepted-append names xs ys)
   where
@@ -78,7 +78,7 @@ goes_later P names number a b n h = (h.more, h.on)
 
 -- ---- all replies on one stream
 
-none_of : {X : Type 0} (xs : List X) → length xs ≡ 0 → xs ≡ []
+pub none_of : {X : Type 0} (xs : List X) → length xs ≡ 0 → xs ≡ []
 none_of [] h = refl
 none_of (x ∷ xs) h = absurd (omega arith)
 
@@ -200,7 +200,7 @@ got_since g number a b c j h w = record { initial = w.initial; complete = w.comp
 
 -- ---- the bytes of replies
 
-bytes-append : (xs ys : List Call) → bytes_of_all (xs ++ ys) ≡ bytes_of_all xs + bytes_of_all ys
+pub bytes-append : (xs ys : List Call) → bytes_of_all (xs ++ ys) ≡ bytes_of_all xs + bytes_of_all ys
 bytes-append [] ys = omega arith
 bytes-append (x ∷ xs) ys = let rest = bytes-append xs ys in omega arith
 

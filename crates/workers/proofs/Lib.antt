@@ -15,3 +15,4 @@ pub mod Served
 pub mod Standing
 pub mod Values
 pub mod Waiting
+pub mod Within

@@ -74,7 +74,7 @@ stopped_reply g routes names number old new j asked ends a is on may tells was p
   final = final_for_good a is (reply_only j.stream asked a on may);
 }
 
-done_bytes : (s : ℕ) (asked : Call) → IsReplyOn s asked → bytes_of_all (accepted_of asked answer.Done) ≡ bytes_of asked
+pub done_bytes : (s : ℕ) (asked : Call) → IsReplyOn s asked → bytes_of_all (accepted_of asked answer.Done) ≡ bytes_of asked
 done_bytes s (call.Next q message complete) on = let n : length message.content + 0 ≡ length message.content = omega arith in n
 done_bytes s (call.Done q) on = refl
 done_bytes s (call.Fail q code content) on = refl

@@ -1,5 +1,5 @@
 -- How the job of a stream went, by the calls of one caller. Entries stand newest first.
-use Rattle.std.specs.Prelude.{◌≡◌, ◌<◌, ◌≤◌, ◌+◌, ℕ, ◌==◌, ◌||◌, Bool, true, false, nat_lt, if◌then◌else◌, List, [], ◌∷◌, ◌++◌, length, Option, Some, None, is_none}
+use Rattle.std.specs.Prelude.{◌≡◌, ◌<◌, ◌≤◌, ◌+◌, ◌⊎◌, ℕ, ◌==◌, ◌||◌, Bool, true, false, nat_lt, if◌then◌else◌, List, [], ◌∷◌, ◌++◌, length, Option, Some, None, is_none}
 use Rattle.std.specs.List.{AllByRecursion}
 use Rattle.rs_wire.specs.declared.call.Call.{Call}
 use Rattle.rs_wire.specs.declared.call.Call.TheVariants as call
@@ -172,3 +172,20 @@ pub record HasSent (names : List ℕ) (old new : List Entry) (bytes : ℕ) : Typ
 abbrev pub HasSentMost : List ℕ → Option ℕ → List Entry → List Entry → Type 0
 HasSentMost names None old new = ⊥
 HasSentMost names (Some most) old new = HasSent names old new most
+
+-- The front went on, and these replies were accepted under these names, the newest first.
+pub record HasReplied (names : List ℕ) (old new : List Entry) (replies : List Call) : Type 0 where
+  pub more : List Entry
+  pub on : new ≡ more ++ old
+  pub replied : accepted names more ≡ replies
+
+-- the replies before the last one, which is the first here, have fewer bytes than this in sum, or there are none
+abbrev pub IsWithin : ℕ → List Call → Type 0
+IsWithin most [] = Unit {0}
+IsWithin most (last ∷ before) = (before ≡ []) ⊎ (bytes_of_all before < most)
+
+-- The front went on by replies that may have so many bytes: after some of them one more was accepted only while those had fewer.
+pub record KeepsWithin (names : List ℕ) (most : ℕ) (old new : List Entry) : Type 0 where
+  pub replies : List Call
+  pub made : HasReplied names old new replies
+  pub within : IsWithin most replies

@@ -36,7 +36,7 @@ use Rattle.workers.specs.declared.worked.Worked.TheVariants as worked
 use Rattle.workers.specs.declared.worked.Progress.{Progress}
 use Rattle.workers.specs.declared.worked.Progress.TheVariants as progress
 use Rattle.workers.specs.Replies.{item_of, items_of, law_of, no_route, plain, response}
-use Rattle.workers.specs.Courses.{Course, GoesOn, IsOfJob, WorksOn, after_call, bytes_of, course}
+use Rattle.workers.specs.Courses.{Course, GoesOn, HasReplied, IsOfJob, WorksOn, after_call, bytes_of, bytes_of_all, course}
 use Rattle.workers.specs.Serving.{AreRouted, IsFinalTake, IsRouted, IsServed, IsWholeJob, Serving, Stands, jobs_on}
 
 -- ---- what a job says next
@@ -226,6 +226,18 @@ abbrev pub IsAccepted : Call → ℕ → Bool → Step → Type 0
 IsAccepted asked before last (step.Served items) = (last ≡ true) × (items ≡ before + item_of asked)
 IsAccepted asked before last (step.Went bytes) = bytes ≡ bytes_of asked
 IsAccepted asked before last _ = ⊥
+
+-- where a job goes on after a step, the step tells these bytes
+abbrev pub Tells : Step → ℕ → Type 0
+Tells (step.Went bytes) sum = bytes ≡ sum
+Tells _ sum = Unit {0}
+
+-- a step had one reply at most
+pub record HasRepliedOnce (names : List ℕ) (old new : List Entry) (how : Step) : Type 0 where
+  pub replies : List Call
+  pub made : HasReplied names old new replies
+  pub one : length replies ≤ 1
+  pub bytes : Tells how (bytes_of_all replies)
 
 -- the job at that place stays or leaves
 abbrev pub IsSettled : ℕ → Going → List OpenJob → List OpenJob → Type 0

@@ -4,7 +4,7 @@ ghost use Rattle.std.specs.Prelude.{◌≡◌, ◌≤◌, ◌^◌, ℕ, length};
 ghost use Rattle.rs_wire.specs.Calls.{CanBeAsked};
 ghost use Rattle.session_laws.specs.Streams.{IsLawful};
 ghost use Rattle.workers.specs.Causes.{WasAnswered};
-ghost use Rattle.workers.specs.Courses.{GoesOn, HasSent, IsWorkersCall, accepted_of, bytes_of_all, course};
+ghost use Rattle.workers.specs.Courses.{GoesOn, HasReplied, HasSent, IsWorkersCall, accepted_of, bytes_of_all, course};
 ghost use Rattle.workers.specs.Going.{MayAnswer, told};
 
 use conn::{Caller, Connection};
@@ -30,6 +30,8 @@ pub fn ask<R: Wait, T: Tape>(
         caller.old.front caller.new.front (length (accepted_of call.now result)) }
     ensures sent { HasSent caller.old.names caller.old.front caller.new.front
         (bytes_of_all (accepted_of call.now result)) }
+    ensures replied { HasReplied caller.old.names caller.old.front caller.new.front
+        (accepted_of call.now result) }
     ensures may { MayAnswer call.now result }
     ensures was { WasAnswered connection.now.settings caller.old.number caller.old.front
         caller.new.front call.now result }

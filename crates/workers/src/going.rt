@@ -1,7 +1,8 @@
 //! How far a job goes on in one call.
 
-ghost use Rattle.std.specs.Prelude.{◌≡◌, ◌≢◌, ◌≤◌, None, IfSome, true, false};
+ghost use Rattle.std.specs.Prelude.{◌≡◌, ◌≢◌, ◌<◌, ◌≤◌, ◌^◌, None, IfSome, true, false};
 ghost use Rattle.workers.specs.declared.going.Going.TheVariants as goings;
+ghost use Rattle.workers.specs.Courses.{KeepsWithin};
 ghost use Rattle.workers.specs.Serving.{IsRouted};
 ghost use Rattle.workers.specs.Causes.{CauseOf};
 ghost use Rattle.workers.specs.Going.{HasGone, HasWorked, IsSameJob, WholeOf, left_by};
@@ -34,6 +35,7 @@ pub enum Going {
 fn is_enough(sent: u64, most: Option<u64>) -> bool
     ensures none { most ≡ None → result ≡ false }
     ensures enough { result ≡ true → IfSome most (λ m. m ≤ sent) }
+    ensures fewer { result ≡ false → IfSome most (λ m. (sent < m) × (m < 2 ^ 64)) }
 {
     match most {
         None => false,
@@ -62,6 +64,8 @@ pub fn go_on<R: Wait, T: Tape, F: Handler, G: Gate>(
         caller.new.front job.old (left_by result job.new) }
     ensures whole { WholeOf caller.old.names tools.now.routes.now caller.old.front
         caller.new.front job.old result }
+    ensures within { IfSome tools.now.most (λ most. KeepsWithin caller.old.names most
+        caller.old.front caller.new.front) }
     ensures unbounded { tools.now.most ≡ None → result ≢ goings.More }
 {
     let mut sent = 0u64;

@@ -5,7 +5,7 @@ ghost use Rattle.handlers.specs.Listed.{place as place_of};
 ghost use Rattle.workers.specs.declared.going.Going.TheVariants as goings;
 ghost use Rattle.workers.specs.declared.worked.Progress.TheVariants as progresses;
 ghost use Rattle.workers.specs.declared.worked.Worked.TheVariants as workeds;
-ghost use Rattle.workers.specs.Courses.{GoesOn, IsWorkersCall, WorksOn, course};
+ghost use Rattle.workers.specs.Courses.{GoesOn, IsWorkersCall, KeepsWithin, WorksOn, course};
 ghost use Rattle.workers.specs.Replies.{name_of};
 ghost use Rattle.workers.specs.Serving.{AreRouted, Serving};
 ghost use Rattle.workers.specs.Causes.{CauseOfProgress, CauseOfTaking, CauseOfWorked, IsHinderedAt, IsNotMore, IsOfJobs, WaitingOfProgress, WaitingOfWorked, WentAt, WholeOfProgress, WholeOfWorked};
@@ -57,6 +57,8 @@ fn go_at<R: Wait, T: Tape, F: Handler, G: Gate>(
     ensures went { WentAt caller.old.names tools.now.routes.now caller.old.number
         tools.now.connection.now.settings tools.now.most caller.old.front caller.new.front place
         jobs.old.items jobs.new.items result }
+    ensures within { IfSome tools.now.most (λ most. KeepsWithin caller.old.names most
+        caller.old.front caller.new.front) }
     ensures unbounded { tools.now.most ≡ None → result ≢ goings.More }
 {
     go_on(rt, tools, caller, &mut jobs[place])
@@ -113,6 +115,8 @@ fn try_job<R: Wait, T: Tape, F: Handler, G: Gate>(
     ensures hindered { IfNone result (IsHinderedAt tools.now.connection.now.settings
         tools.now.routes.now caller.old.names caller.old.number caller.old.front caller.new.front
         place jobs.old.items jobs.new.items) }
+    ensures within { IfSome tools.now.most (λ most. KeepsWithin caller.old.names most
+        caller.old.front caller.new.front) }
     ensures unbounded { tools.now.most ≡ None → IfSome result IsNotMore }
 {
     let stream = jobs[place].stream;
@@ -185,6 +189,8 @@ fn go_first<R: Wait, T: Tape, F: Handler, G: Gate>(
     ensures whole { WholeOfProgress tools.now.connection.now.settings tools.now.routes.now
         caller.old.names caller.old.number caller.old.front caller.new.front jobs.old.items
         jobs.new.items result }
+    ensures within { IfSome tools.now.most (λ most. KeepsWithin caller.old.names most
+        caller.old.front caller.new.front) }
     ensures unbounded { tools.now.most ≡ None → IsNotMore result }
 {
     let place = jobs.len() - 1;
@@ -214,6 +220,8 @@ fn take_job<R: Wait, T: Tape, F: Handler, G: Gate>(
         jobs.new.items ≡ jobs.old.items }
     ensures still { result ≡ progresses.Worked workeds.Idle → (s : ℕ) →
         course caller.old.names s caller.new.front ≡ course caller.old.names s caller.old.front }
+    ensures within { IfSome tools.now.most (λ most. KeepsWithin caller.old.names most
+        caller.old.front caller.new.front) }
     ensures unbounded { tools.now.most ≡ None → IsNotMore result }
 {
     if jobs.reserve(1).is_err() {
@@ -258,6 +266,8 @@ fn serve<R: Wait, T: Tape, F: Handler, G: Gate>(
     ensures whole { WholeOfProgress tools.now.connection.now.settings tools.now.routes.now
         caller.old.names caller.old.number caller.old.front caller.new.front jobs.old.items
         jobs.new.items result }
+    ensures within { IfSome tools.now.most (λ most. KeepsWithin caller.old.names most
+        caller.old.front caller.new.front) }
     ensures unbounded { tools.now.most ≡ None → IsNotMore result }
 {
     let count = jobs.len();
@@ -339,6 +349,8 @@ pub fn serve_some<R: Wait, T: Tape, F: Handler, G: Gate>(
         caller.old.number caller.old.front caller.new.front work.old work.new result }
     ensures whole { WholeOfProgress connection.now.settings routes.now caller.old.names
         caller.old.number caller.old.front caller.new.front work.old work.new result }
+    // One reply more is made only while those before it in this call have fewer bytes than these.
+    ensures within { KeepsWithin caller.old.names most caller.old.front caller.new.front }
 {
     let tools = Tools {
         alloc,

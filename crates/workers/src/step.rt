@@ -11,7 +11,7 @@ ghost use Rattle.workers.specs.Replies.{item_of, law_of};
 ghost use Rattle.workers.specs.Causes.{CauseOfStep};
 ghost use Rattle.workers.specs.Courses.{IsReplyOn, bytes_of};
 ghost use Rattle.workers.specs.Serving.{IsRouted};
-ghost use Rattle.workers.specs.Going.{Awaits, HasGone, HasWorked, IsAccepted, IsSameJob, WholeOfStep, left_after, left_by_step, plan_of};
+ghost use Rattle.workers.specs.Going.{Awaits, HasGone, HasRepliedOnce, HasWorked, IsAccepted, IsSameJob, WholeOfStep, left_after, left_by_step, plan_of};
 
 use crate::ask::ask;
 use crate::gate::Gate;
@@ -84,6 +84,7 @@ fn take_content<R: Wait, T: Tape>(
     ensures worked { HasWorked caller.old.names caller.old.number caller.old.front
         caller.new.front job.old job.new }
     ensures job { IsSameJob job.old job.new }
+    ensures once { HasRepliedOnce caller.old.names caller.old.front caller.new.front result }
     ensures cause { (routes : List Listed) → Awaits routes job.old → CauseOfStep
         connection.now.settings routes caller.old.names caller.old.number caller.old.front
         caller.new.front job.new result }
@@ -142,6 +143,7 @@ fn say<R: Wait, T: Tape>(
     ensures worked { HasWorked caller.old.names caller.old.number caller.old.front
         caller.new.front job.old job.new }
     ensures job { IsSameJob job.old job.new }
+    ensures once { HasRepliedOnce caller.old.names caller.old.front caller.new.front result }
     ensures cause { (routes : List Listed) →
         plan_of (law_of routes job.old.kind job.old.message) job.old ≡ plans.Say call.now last →
         CauseOfStep connection.now.settings routes caller.old.names caller.old.number
@@ -181,6 +183,7 @@ fn answer<R: Wait, T: Tape, F: Handler, G: Gate>(
     ensures worked { HasWorked caller.old.names caller.old.number caller.old.front
         caller.new.front job.old job.new }
     ensures job { IsSameJob job.old job.new }
+    ensures once { HasRepliedOnce caller.old.names caller.old.front caller.new.front result }
     ensures cause { CauseOfStep tools.now.connection.now.settings tools.now.routes.now
         caller.old.names caller.old.number caller.old.front caller.new.front job.new result }
     ensures kept { HasGone caller.old.names tools.now.routes.now caller.old.front
@@ -213,6 +216,7 @@ pub fn make_step<R: Wait, T: Tape, F: Handler, G: Gate>(
     ensures worked { HasWorked caller.old.names caller.old.number caller.old.front
         caller.new.front job.old job.new }
     ensures job { IsSameJob job.old job.new }
+    ensures once { HasRepliedOnce caller.old.names caller.old.front caller.new.front result }
     ensures cause { CauseOfStep tools.now.connection.now.settings tools.now.routes.now
         caller.old.names caller.old.number caller.old.front caller.new.front job.new result }
     ensures kept { HasGone caller.old.names tools.now.routes.now caller.old.front

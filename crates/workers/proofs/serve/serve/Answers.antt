@@ -4,6 +4,8 @@ use Rattle.workers.proofs.AtWork.{all_first, all_wait, at_work_after, still_for,
 use Rattle.workers.proofs.Ended.{whole_since}
 use Rattle.workers.proofs.Gone.{on_both}
 use Rattle.workers.proofs.Served.{had_since, hindered_length, hindered_stood, hindered_until, jobs_after, keeps_after, later_of, progress_of_jobs, progress_of_taking, quiet_since, taking_after}
+use Rattle.workers.specs.Courses.{IsWorkersCall}
+use Rattle.workers.proofs.Within.{within_since}
 use Rattle.workers.proofs.serve.serve.Goals as goal
 
 pub returns-in-Some-clause-at_work : goal.returns-in-Some-clause-at_work
@@ -105,3 +107,11 @@ returns-clause-whole g c =
     (had_since c.args.tools.now.connection.now.settings c.args.caller.now.number c.args.caller.now.front c.loop-place.caller.front c.take_job.new.caller.front c.args.jobs.now.items c.loop-place.jobs.items
     (later_of _ _ _ _ c.loop-place.invariant.quiet) c.loop-place.invariant.stood)
     c.take_job.ensures.whole
+
+pub returns-in-Some-clause-within : goal.returns-in-Some-clause-within
+returns-in-Some-clause-within g c =
+    within_since IsWorkersCall c.args.caller.now c.loop-place.caller c.try_job.new.caller c.args.tools.now.most c.loop-place.invariant.same c.loop-place.invariant.quiet c.try_job.ensures.within
+
+pub returns-clause-within : goal.returns-clause-within
+returns-clause-within g c =
+    within_since IsWorkersCall c.args.caller.now c.loop-place.caller c.take_job.new.caller c.args.tools.now.most c.loop-place.invariant.same c.loop-place.invariant.quiet c.take_job.ensures.within

@@ -9,6 +9,8 @@ use Rattle.workers.proofs.Ended.{was_pushed, whole_since}
 use Rattle.workers.proofs.Fronts.{goes_later, goes_longer, job_taken_quietly}
 use Rattle.workers.proofs.Putting.{had_put, keeps_put, no_job, no_more_found, not_yet_found, put_routed, told_no_job}
 use Rattle.workers.proofs.Served.{jobs_after, taking_of_jobs}
+use Rattle.workers.specs.Courses.{IsWorkersCall}
+use Rattle.workers.proofs.Within.{within_none, within_quietly, within_since}
 use Rattle.workers.proofs.serve.take_job.Goals as goal
 
 pub returns-then-is_err-clause-at_work : goal.returns-then-is_err-clause-at_work
@@ -89,3 +91,22 @@ returns-in-Asked-clause-whole g c =
 
 pub returns-in-Pushed-clause-whole : goal.returns-in-Pushed-clause-whole
 returns-in-Pushed-clause-whole g c = inr (refl, refl, was_pushed _ _ _ _ c.ask.result (sym c.sort_job.ensures ∙ c.in-Pushed.is) c.ask.ensures.was)
+
+pub returns-then-is_err-clause-within : goal.returns-then-is_err-clause-within
+returns-then-is_err-clause-within g c = within_none _ c.args.tools.now.most _
+
+pub returns-in-Asked-clause-within : goal.returns-in-Asked-clause-within
+returns-in-Asked-clause-within g c =
+    within_since IsWorkersCall c.args.caller.now c.ask.new.caller c.go_first.new.caller c.args.tools.now.most c.ask.ensures.same (job_taken_quietly _ _ _ _ c.ask.result c.ask.ensures.goes) c.go_first.ensures.within
+
+pub returns-in-Pushed-clause-within : goal.returns-in-Pushed-clause-within
+returns-in-Pushed-clause-within g c = within_quietly IsWorkersCall _ _ c.args.tools.now.most _ _ (job_taken_quietly _ _ _ _ c.ask.result c.ask.ensures.goes)
+
+pub returns-in-NotYet-clause-within : goal.returns-in-NotYet-clause-within
+returns-in-NotYet-clause-within g c = within_quietly IsWorkersCall _ _ c.args.tools.now.most _ _ (job_taken_quietly _ _ _ _ c.ask.result c.ask.ensures.goes)
+
+pub returns-in-OutOfMemory-clause-within : goal.returns-in-OutOfMemory-clause-within
+returns-in-OutOfMemory-clause-within g c = within_quietly IsWorkersCall _ _ c.args.tools.now.most _ _ (job_taken_quietly _ _ _ _ c.ask.result c.ask.ensures.goes)
+
+pub returns-in-NoMore-clause-within : goal.returns-in-NoMore-clause-within
+returns-in-NoMore-clause-within g c = within_quietly IsWorkersCall _ _ c.args.tools.now.most _ _ (job_taken_quietly _ _ _ _ c.ask.result c.ask.ensures.goes)

@@ -6,6 +6,7 @@ use Rattle.workers.specs.Going.{HasGone}
 use Rattle.workers.proofs.Ended.{whole_said}
 use Rattle.workers.proofs.Gone.{made_after, said_by, worked_said}
 use Rattle.workers.proofs.Reasons.{closed_reply, stopped_reply, waiting_reply, went_reply}
+use Rattle.workers.proofs.Within.{once_none, once_said, tells_reply}
 use Rattle.workers.proofs.step.say.Goals as goal
 
 pub returns-in-Accepted-clause-worked : goal.returns-in-Accepted-clause-worked
@@ -71,3 +72,21 @@ returns-in-Accepted-clause-whole g c = λ routes plans.
 pub returns-in-Final-clause-whole : goal.returns-in-Final-clause-whole
 returns-in-Final-clause-whole g c = λ routes plans.
     closed_reply _ routes _ _ c.args.job.now c.args.call.now c.ask-answer.result c.requires.on c.ask-answer.ensures.told
+
+pub returns-in_default-clause-once : goal.returns-in_default-clause-once
+returns-in_default-clause-once g c = once_none _ _ _ tt
+
+pub returns-in-Accepted-clause-once : goal.returns-in-Accepted-clause-once
+returns-in-Accepted-clause-once g c =
+    once_said _ _ _ c.args.call.now c.ask-answer.result c.accepted.result
+    (tells_reply c.args.job.now.stream c.args.call.now c.args.job.now.made c.args.last c.ask-answer.result c.accepted.result (sym c.judge.ensures ∙ c.in-Accepted.is) c.requires.on c.accepted.ensures.accepted)
+    c.ask-answer.ensures.replied
+
+pub returns-in-Blocked-clause-once : goal.returns-in-Blocked-clause-once
+returns-in-Blocked-clause-once g c = once_said _ _ _ c.args.call.now c.ask-answer.result _ tt c.ask-answer.ensures.replied
+
+pub returns-in-OutOfMemory-clause-once : goal.returns-in-OutOfMemory-clause-once
+returns-in-OutOfMemory-clause-once g c = once_said _ _ _ c.args.call.now c.ask-answer.result _ tt c.ask-answer.ensures.replied
+
+pub returns-in-Final-clause-once : goal.returns-in-Final-clause-once
+returns-in-Final-clause-once g c = once_said _ _ _ c.args.call.now c.ask-answer.result _ tt c.ask-answer.ensures.replied

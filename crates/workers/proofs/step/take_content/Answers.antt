@@ -3,6 +3,7 @@ use Rattle.workers.specs.declared.outcome.Taken.TheVariants as taken
 use Rattle.workers.proofs.AtEnd.{take_ends}
 use Rattle.workers.proofs.Gone.{took_by, worked_took}
 use Rattle.workers.proofs.Reasons.{closed_take, stopped_take, waiting_take}
+use Rattle.workers.proofs.Within.{once_took}
 use Rattle.workers.proofs.step.take_content.Goals as goal
 
 pub returns-in-Item-clause-worked : goal.returns-in-Item-clause-worked
@@ -52,3 +53,18 @@ returns-clause-kept g c = λ routes w.
 pub returns-clause-whole : goal.returns-clause-whole
 returns-clause-whole g c = λ routes w.
     closed_take c.args.connection.now.settings routes _ _ _ _ c.args.job.now c.ask.result c.in-Final.answer (sym c.sort.ensures ∙ c.in-Final.is) c.ask.ensures.may c.ask.ensures.lawful c.ask.ensures.was w
+
+pub returns-in-Item-clause-once : goal.returns-in-Item-clause-once
+returns-in-Item-clause-once g c = once_took _ _ _ c.args.job.now.stream c.ask.result _ refl c.ask.ensures.replied
+
+pub returns-in-End-clause-once : goal.returns-in-End-clause-once
+returns-in-End-clause-once g c = once_took _ _ _ c.args.job.now.stream c.ask.result _ refl c.ask.ensures.replied
+
+pub returns-in-Blocked-clause-once : goal.returns-in-Blocked-clause-once
+returns-in-Blocked-clause-once g c = once_took _ _ _ c.args.job.now.stream c.ask.result _ tt c.ask.ensures.replied
+
+pub returns-in-OutOfMemory-clause-once : goal.returns-in-OutOfMemory-clause-once
+returns-in-OutOfMemory-clause-once g c = once_took _ _ _ c.args.job.now.stream c.ask.result _ tt c.ask.ensures.replied
+
+pub returns-clause-once : goal.returns-clause-once
+returns-clause-once g c = once_took _ _ _ c.args.job.now.stream c.ask.result _ tt c.ask.ensures.replied
