@@ -4,13 +4,12 @@ use Rattle.std.specs.Prelude.{Option, Some, None, IfSome}
 use Rattle.rs_wire.specs.declared.call.Call.{Call}
 use Rattle.rs_wire.specs.declared.call.Call.TheVariants as call
 use Rattle.tape.specs.declared.answer.Answer.{Answer}
-use Rattle.tape.specs.declared.answer.Answer.TheVariants as answer
 use Rattle.tape.specs.declared.entry.Entry.{Entry}
 use Rattle.conn_shared.specs.Members.{Knowledge}
 use Rattle.workers.specs.declared.outcome.Outcome.TheVariants as outcome
 use Rattle.workers.specs.declared.step.Step.{Step}
 use Rattle.workers.specs.declared.step.Step.TheVariants as step
-use Rattle.workers.specs.Courses.{GoesOn, HasReplied, HasSent, IsReplyOn, IsWithin, KeepsWithin, accepted, accepted_of, bytes_of, bytes_of_all, is_done}
+use Rattle.workers.specs.Courses.{GoesOn, HasReplied, HasSent, IsReplyOn, IsWithin, KeepsWithin, accepted, accepted_of, bytes_of_all, is_done}
 use Rattle.workers.specs.Going.{HasRepliedOnce, IsAccepted, Tells, outcome_of}
 use Rattle.workers.proofs.Fronts.{accepted-append, bytes-append, none_of}
 use Rattle.workers.proofs.Gone.{IsOn}
