@@ -1,5 +1,6 @@
 -- What stood in front has come.
-use Rattle.std.proofs.Common.{◌≡◌, ◌∙◌, ℕ, true, false, true≢false, List, [], ◌∷◌, ◌++◌, refl, sym, ap, subst, append-nil}
+use Rattle.std.proofs.lemmas.List.{length-append}
+use Rattle.std.proofs.Common.{◌≡◌, ◌≤◌, ◌+◌, ◌∙◌, ℕ, true, false, true≢false, List, [], ◌∷◌, ◌++◌, length, refl, sym, ap, subst, arith, append-nil}
 use Rattle.rs_frame.specs.declared.frame.Frame.{Frame}
 use Rattle.rs_frame.specs.Spelling.{Spells}
 use Rattle.rs_chunk.specs.Stream.{IsCut, IsWhole, after_frame, first_frame}
@@ -57,6 +58,13 @@ pub settles_bad : (p : Inner) (e : Event) → p.incoming.waits ≡ [] → p.bad 
 settles_bad p (event.Came conn f) none good bad h = absurd (true≢false (sym bad))
 settles_bad p (event.Bad conn rule) none good bad h = settle_bad p conn rule none good h
 settles_bad p _ none good bad h = absurd h
+
+-- where what waits is dropped
+pub waits_gone : (i j : Comes) → j ≡ record i { waits = [] } → length (all_of j) ≤ length (all_of i)
+waits_gone i j is =
+    let before : length (all_of i) ≡ length i.bytes + length i.waits = length-append i.bytes i.waits in
+    let after : length (all_of j) ≡ length i.bytes = ap (λ (c : Comes). length (all_of c)) is ∙ ap length (append-nil i.bytes) in
+    omega arith
 
 -- what stands in front of the reader stands in front of all
 pub waiting_all : (i : Comes) → IsWaiting i.bytes i.max_in → IsWaiting (all_of i) i.max_in

@@ -1,11 +1,11 @@
 //! Bytes between a pump and its link.
 
-ghost use Rattle.std.specs.Prelude.{◌≡◌, ◌⊎◌, List, []};
+ghost use Rattle.std.specs.Prelude.{◌≡◌, ◌≤◌, ◌⊎◌, List, [], length, true};
 ghost use Rattle.rs_wire.specs.declared.settings.Settings.{Settings};
 ghost use Rattle.tape.specs.declared.entry.Entry.{Entry};
 ghost use Rattle.outside.specs.Links.{NoneFell};
 ghost use Rattle.link_model.specs.Carrying.{Keeps};
-ghost use Rattle.pump.specs.Moves.{HasGave, HasTook, IsFew, took_by};
+ghost use Rattle.pump.specs.Moves.{HasGave, HasTook, IsFew, all_of, took_by};
 ghost use Rattle.pump.specs.Turns.{HasWaiting, has};
 
 use crate::incoming::Took;
@@ -57,6 +57,8 @@ impl Inner {
         ensures counted { NoneFell (L.shown link.old).counts (L.shown link.new).counts }
         ensures rest { self.new ≡ record self.old { incoming = self.new.incoming } }
         ensures max_in { self.new.incoming.max_in ≡ self.old.incoming.max_in }
+        ensures dropped { self.old.bad ≡ true →
+            length (all_of self.new.incoming) ≤ length (all_of self.old.incoming) }
     {
         if gave == Gave::Failed {
             return Took::Nothing;

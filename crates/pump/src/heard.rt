@@ -1,6 +1,6 @@
 //! What came, on its way from a pump to the session.
 
-ghost use Rattle.std.specs.Prelude.{◌≡◌, ◌≢◌, [], false};
+ghost use Rattle.std.specs.Prelude.{◌≡◌, ◌≢◌, [], false, true};
 ghost use Rattle.rs_chunk.specs.Stream.{IsWhole};
 ghost use Rattle.tape.specs.declared.event.Event.{Event as Happening};
 ghost use Rattle.link_model.specs.Reading.{IsInFront};
@@ -88,6 +88,7 @@ impl Inner {
         ensures conn { self.new.conn ≡ self.old.conn }
         ensures max_in { self.new.incoming.max_in ≡ self.old.incoming.max_in }
         ensures left { self.new.outgoing ≡ self.old.outgoing }
+        ensures dropped { self.old.bad ≡ true → self.new ≡ self.old }
     {
         if self.bad {
             return Brought::Nothing;
@@ -123,6 +124,7 @@ impl Inner {
         ensures conn { self.new.conn ≡ self.old.conn }
         ensures max_in { self.new.incoming.max_in ≡ self.old.incoming.max_in }
         ensures left { self.new.outgoing ≡ self.old.outgoing }
+        ensures dropped { self.old.bad ≡ true → self.new ≡ self.old }
     {
         let mut noted = false;
         for _ in rt.forever() {

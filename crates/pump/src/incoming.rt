@@ -129,6 +129,7 @@ impl Incoming {
         ensures given { (L.shown link.new).given ≡ (L.shown link.old).given }
         ensures stalls { (L.shown link.new).counts.stalls ≡ (L.shown link.old).counts.stalls }
         ensures counted { NoneFell (L.shown link.old).counts (L.shown link.new).counts }
+        ensures rest { self.new ≡ record self.old { waits = [] } }
         ensures max_in { self.new.max_in ≡ self.old.max_in }
     {
         self.waits = 0;

@@ -1,6 +1,6 @@
 //! One turn of a pump.
 
-ghost use Rattle.std.specs.Prelude.{◌≡◌, false};
+ghost use Rattle.std.specs.Prelude.{◌≡◌, ◌≤◌, false, length, true};
 ghost use Rattle.outside.specs.Links.{NoneFell};
 ghost use Rattle.pump.specs.Turns.{IsKept, IsReadOut, IsTurned, RulesOut, TurnedFor, is_early};
 
@@ -54,6 +54,9 @@ impl Pump {
         ensures read { is_early result ≡ false →
             IsReadOut connection.now.settings caller.old self.new caller.new.front }
         ensures counted { NoneFell (L.shown link.old).counts (L.shown link.new).counts }
+
+        // Once bytes came that are no frame, the pump holds no byte more of what it takes.
+        ensures dropped { self.old.bad ≡ true → length self.new.rest ≤ length self.old.rest }
         ensures conn { self.new.conn ≡ self.old.conn }
         ensures max_in { self.new.max_in ≡ self.old.max_in }
     {

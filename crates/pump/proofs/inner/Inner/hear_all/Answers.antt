@@ -1,4 +1,5 @@
 use Rattle.std.proofs.Common.{rules, ◌≡◌, ◌∙◌, true, true≢false, ap, sym, subst, refl}
+use Rattle.pump.specs.declared.inner.Inner.{Inner}
 use Rattle.pump.specs.Turns.{Arrives, BroughtFor, GoesOn, HasArrived, IfBusy, IfDone, IsEmptied, Names, has}
 use Rattle.pump.proofs.Adding.{continues_same, goes_both, goes_continues, on_both}
 use Rattle.pump.proofs.Events.{arrived_wider, brought_wider, busy_after, done_after, for_after, noted_after, nothing_after}
@@ -23,6 +24,7 @@ loop-preserved g c =
       λ noted. arrived_wider c.args.self.now.conn me was now.front now.front (ap (λ (x : Knowledge). x.number) i.0) (goes_continues _ me was.front i.2) (continues_same now.front) came,
       λ none. absurd (true≢false none),
       λ none. absurd (true≢false none),
+      λ bad. c.hear-brought.ensures.dropped (ap (λ (p : Inner). p.bad) (i.9 bad) ∙ bad) ∙ i.9 bad,
     )
 
 pub returns-then-ne-clause-hears : goal.returns-then-ne-clause-hears
@@ -62,3 +64,8 @@ pub returns-then-ne-clause-quiet : goal.returns-then-ne-clause-quiet
 returns-then-ne-clause-quiet g c is =
     let none = nothing_after c.loop.noted c.hear-brought.result (sym c.after_some.ensures ∙ is) in
     c.hear-brought.ensures.quiet none.1 ∙ c.loop.invariant.7 none.0
+
+pub returns-then-ne-clause-dropped : goal.returns-then-ne-clause-dropped
+returns-then-ne-clause-dropped g c bad =
+    let i = c.loop.invariant in
+    c.hear-brought.ensures.dropped (ap (λ (p : Inner). p.bad) (i.9 bad) ∙ bad) ∙ i.9 bad

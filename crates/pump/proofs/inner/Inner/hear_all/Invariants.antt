@@ -13,3 +13,4 @@ invariant-loop g l = l.caller ≡ record l.fn.caller { front = l.caller.front; n
     × (l.noted ≡ true → HasArrived l.fn.self.conn l.fn.caller l.caller.front)
     × (l.noted ≡ false → l.caller.front ≡ l.fn.caller.front)
     × (l.noted ≡ false → HasWaiting (has l.fn.self) → HasWaiting (has l.self))
+    × (l.fn.self.bad ≡ true → l.self ≡ l.fn.self)

@@ -3,6 +3,7 @@ use Rattle.link_model.specs.Carrying.{Keeps}
 use Rattle.link_model.proofs.Kept.{keeps_take}
 use Rattle.pump.specs.Moves.{all_of}
 use Rattle.pump.specs.Turns.{has}
+use Rattle.pump.proofs.Settled.{waits_gone}
 use Rattle.pump.proofs.inner.Inner.take_some.Goals as goal
 
 pub returns-then-self-clause-kept : goal.returns-then-self-clause-kept
@@ -33,3 +34,6 @@ returns-in-Err-clause-kept g c st past k =
     let done : Keeps st past new (record (has p) { rest = all_of j }) =
     keeps_take st past (g.L.Link.shown c.args.link.now) new (has p) more.piece (all_of j) (λ good. more.behind ∙ ap (λ t. t ++ more.piece) c.feed.ensures.all) more.taken c.take.ensures.given k in
     subst (λ m. Keeps st past new (record (has p) { rest = all_of j; max_in = m })) (sym (c.take.ensures.max_in ∙ c.feed.ensures.max_in)) done
+
+pub returns-then-self-clause-dropped : goal.returns-then-self-clause-dropped
+returns-then-self-clause-dropped g c bad = waits_gone c.args.self.now.incoming c.skip.new.self c.skip.ensures.rest

@@ -1,4 +1,4 @@
-use Rattle.std.proofs.Common.{rules, ◌≡◌, ◌∙◌, ◌⊎◌, ℕ, inl, inr, true, true≢false, not, List, [], None, refl, ap, sym, subst}
+use Rattle.std.proofs.Common.{rules, ◌≡◌, ◌≤◌, ◌∙◌, ◌⊎◌, ℕ, length, arith, inl, inr, true, true≢false, not, List, [], None, refl, ap, sym, subst}
 use Rattle.rs_wire.specs.declared.settings.Settings.{Settings}
 use Rattle.outside.specs.Causes.{Rose}
 use Rattle.outside.specs.Links.{Shown}
@@ -204,3 +204,28 @@ pub returns-clause-order : goal.returns-clause-order
 returns-clause-order g c =
     rules_out c.args.connection.now.settings c.look-looked.new.caller.front (has c.hear_all-heard.new.self) c.hear_all-heard.result c.look-looked.result c.len-left.result c.sum_up.result
     c.look-looked.ensures.cause c.look-looked.ensures.queued c.len-left.ensures.count c.hear_all-heard.ensures.emptied c.sum_up.ensures.order
+
+-- ---- what is taken after bytes that are no frame
+
+pub returns-in-Some-clause-dropped : goal.returns-in-Some-clause-dropped
+returns-in-Some-clause-dropped g c bad =
+    let p = c.self.inside.inner in
+    let q = c.begin-begun.new.self in
+    let incoming : q.incoming ≡ p.incoming = search rules in
+    subst (λ (b : Between). length (all_of q.incoming) ≤ length b.rest) c.self.view_is
+    (let same : length (all_of q.incoming) ≡ length (all_of p.incoming) = ap (λ (i : Comes). length (all_of i)) incoming in omega (arith, same))
+
+pub returns-clause-dropped : goal.returns-clause-dropped
+returns-clause-dropped g c bad =
+    let p = c.self.inside.inner in
+    let gave = c.give_some-gave.new.self in
+    let took = c.take_some-took.new.self in
+    let heard = c.hear_all-heard.new.self in
+    let was : p.bad ≡ true = ap (λ (b : Between). b.bad) c.self.view_is ∙ bad in
+    let incoming : gave.incoming ≡ p.incoming = search rules in
+    let gave_bad : gave.bad ≡ p.bad = search rules in
+    let took_bad : took.bad ≡ p.bad = search rules in
+    let fewer = c.take_some-took.ensures.dropped (gave_bad ∙ was) in
+    let before : length (all_of gave.incoming) ≡ length (all_of p.incoming) = ap (λ (i : Comes). length (all_of i)) incoming in
+    let after : length (all_of heard.incoming) ≡ length (all_of took.incoming) = ap (λ (q : Inner). length (all_of q.incoming)) (c.hear_all-heard.ensures.dropped (took_bad ∙ was)) in
+    subst (λ (b : Between). length (all_of heard.incoming) ≤ length b.rest) c.self.view_is (omega (arith, fewer, before, after))
