@@ -103,11 +103,10 @@ Ask { side: Client, call: Lease { ttl: Amount { number: 2147483647 }, count: Amo
 ];
 
 #[test]
-fn each_script_is_read_so(rt: HostRuntime) -> Result<(), Fail> {
+fn each_script_is_read_so(rt: HostRuntime) {
     for row in READ {
-        assert!(rt; is_read_so(rt.alloc(), &row)?, "{}", row.shows);
+        assert!(rt; is_read_so(&rt, rt.alloc(), &row), "{}", row.shows);
     }
-    Ok(())
 }
 
 /// Texts of which the first line is wrong.

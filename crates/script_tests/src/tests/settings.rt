@@ -1,8 +1,8 @@
-use super::{Row, fault, is_read_so};
-use cable_script::{Script, ScriptFault};
-use rs_wire::Side;
+use super::{Row, fault, is_read_so, script_of};
+use cable_script::ScriptFault;
+use rs_wire::{Checked, Settings, Side};
 use std::alloc::Global;
-use std::test::Fail;
+use std::process::Abort;
 
 const READ: [Row; 3] = [
     Row {
@@ -37,11 +37,10 @@ Tick { now: 0 }
 ];
 
 #[test]
-fn setting_lines_are_read_in_their_order(rt: HostRuntime) -> Result<(), Fail> {
+fn setting_lines_are_read_in_their_order(rt: HostRuntime) {
     for row in READ {
-        assert!(rt; is_read_so(rt.alloc(), &row)?, "{}", row.shows);
+        assert!(rt; is_read_so(&rt, rt.alloc(), &row), "{}", row.shows);
     }
-    Ok(())
 }
 
 /// Setting lines, and what they make of four settings of an end.
@@ -150,27 +149,34 @@ const MADE: [Made; 10] = [
     },
 ];
 
+// The settings that the lines of a text make for a side.
+fn settings_of<R: Abort>(rt: &R, alloc: Global, text: &[u8], side: Side) -> Checked {
+    let script = script_of(rt, alloc, text);
+    match script.settings(alloc, side) {
+        Ok(settings) => settings,
+        Err(_) => panic!(rt; "there is memory"),
+    }
+}
+
+// Whether the settings are what the row says.
+fn are_so(settings: &Settings, row: &Made) -> bool {
+    settings.resume == row.resume
+        && settings.lease == row.lease
+        && settings.token.as_slice() == row.token
+        && settings.hold == row.hold
+}
+
 /// Whether the lines make of the settings what the row says.
-fn is_made_so(alloc: Global, row: &Made) -> Result<bool, Fail> {
-    let script = Script::read(alloc, row.text).map_err(|_| Fail::from("the script is right"))?;
-    let checked = script
-        .settings(alloc, row.side)
-        .map_err(|_| Fail::from("there is memory"))?;
-    let settings = checked.settings();
-    Ok(
-        settings.resume == row.resume
-            && settings.lease == row.lease
-            && settings.token.as_slice() == row.token
-            && settings.hold == row.hold,
-    )
+fn is_made_so<R: Abort>(rt: &R, alloc: Global, row: &Made) -> bool {
+    let checked = settings_of(rt, alloc, row.text, row.side);
+    are_so(checked.settings(), row)
 }
 
 #[test]
-fn setting_lines_make_such_settings(rt: HostRuntime) -> Result<(), Fail> {
+fn setting_lines_make_such_settings(rt: HostRuntime) {
     for row in MADE {
-        assert!(rt; is_made_so(rt.alloc(), &row)?, "{}", row.shows);
+        assert!(rt; is_made_so(&rt, rt.alloc(), &row), "{}", row.shows);
     }
-    Ok(())
 }
 
 /// Texts, and the wrong line of each, where there is one.

@@ -3,7 +3,7 @@
 use command_line::{Asked, CallTask, ServeTask, Task, WordsFault, read_words};
 use rs_wire::{Amount, Blob, Kind};
 use std::alloc::Global;
-use std::test::Fail;
+use std::process::Abort;
 
 const CABLE: &[u8] = b"cable";
 
@@ -17,44 +17,100 @@ const LOAD: &[u8] = b"load";
 
 const END: &[u8] = b"--";
 
+fn blob<R: Abort>(rt: &R, alloc: Global, bytes: &[u8]) -> Blob {
+    Blob::from_slice(alloc, bytes).expect(rt, "there is memory")
+}
+
+fn amount<R: Abort>(rt: &R, number: u32) -> Amount {
+    match Amount::of(number) {
+        Some(amount) => amount,
+        None => panic!(rt; "it is an amount"),
+    }
+}
+
 // What the words ask for, or why nothing.
-fn answer(alloc: Global, words: &[&[u8]]) -> Result<Result<Asked, WordsFault>, Fail> {
+fn answer<R: Abort>(rt: &R, alloc: Global, words: &[&[u8]]) -> Result<Asked, WordsFault> {
     let mut blobs = Vec::new(alloc);
     for word in words {
-        blobs.push(Blob::from_slice(alloc, word)?)?;
+        assert!(rt; blobs.push(blob(rt, alloc, word)).is_ok());
     }
-    Ok(read_words(alloc, &blobs))
+    read_words(alloc, &blobs)
 }
 
-// Whether words ask for nothing.
-fn is_usage(alloc: Global, words: &[&[u8]]) -> Result<bool, Fail> {
-    Ok(answer(alloc, words)? == Err(WordsFault::Usage))
+fn is_task(answer: &Result<Asked, WordsFault>, wanted: Task) -> bool {
+    match answer {
+        Ok(Asked::Task(task)) => *task == wanted,
+        _ => false,
+    }
+}
+
+fn is_call(answer: &Result<Asked, WordsFault>, wanted: &CallTask) -> bool {
+    match answer {
+        Ok(Asked::Call(task)) => task == wanted,
+        _ => false,
+    }
+}
+
+fn is_load(answer: &Result<Asked, WordsFault>, wanted: u32) -> bool {
+    match answer {
+        Ok(Asked::Load { seed }) => *seed == wanted,
+        _ => false,
+    }
+}
+
+fn is_server(answer: &Result<Asked, WordsFault>, wanted: &ServeTask) -> bool {
+    match answer {
+        Ok(Asked::Serve(task)) => task == wanted,
+        _ => false,
+    }
+}
+
+fn is_usage(answer: &Result<Asked, WordsFault>) -> bool {
+    matches!(answer, Err(WordsFault::Usage))
+}
+
+// The words of each row ask for its task.
+fn compare_tasks<R: Abort>(rt: &R, alloc: Global, rows: &[(&[&[u8]], Task)]) {
+    for (words, task) in rows {
+        assert!(rt; is_task(&answer(rt, alloc, words), *task));
+    }
+}
+
+// The words of each row ask for nothing.
+fn refuse<R: Abort>(rt: &R, alloc: Global, rows: &[&[&[u8]]]) {
+    for words in rows {
+        assert!(rt; is_usage(&answer(rt, alloc, words)));
+    }
 }
 
 #[test]
-fn cable_may_be_played_by_threads(rt: HostRuntime) -> Result<(), Fail> {
-    let alone = Ok(Asked::Task(Task::Cable { threads: false }));
-    let threads = Ok(Asked::Task(Task::Cable { threads: true }));
-    assert!(rt; answer(rt.alloc(), &[CABLE])? == alone);
-    assert!(rt; answer(rt.alloc(), &[CABLE, END])? == alone);
-    assert!(rt; answer(rt.alloc(), &[CABLE, THREADS])? == threads);
-    assert!(rt; answer(rt.alloc(), &[CABLE, THREADS, END])? == threads);
-    Ok(())
+fn cable_may_be_played_by_threads(rt: HostRuntime) {
+    let alone = Task::Cable { threads: false };
+    let threads = Task::Cable { threads: true };
+    let rows: [(&[&[u8]], Task); 4] = [
+        (&[CABLE], alone),
+        (&[CABLE, END], alone),
+        (&[CABLE, THREADS], threads),
+        (&[CABLE, THREADS, END], threads),
+    ];
+    compare_tasks(&rt, rt.alloc(), &rows);
 }
 
 #[test]
-fn frames_may_go_back(rt: HostRuntime) -> Result<(), Fail> {
-    let forth = Ok(Asked::Task(Task::Frames { back: false }));
-    let back = Ok(Asked::Task(Task::Frames { back: true }));
-    assert!(rt; answer(rt.alloc(), &[FRAMES])? == forth);
-    assert!(rt; answer(rt.alloc(), &[FRAMES, END])? == forth);
-    assert!(rt; answer(rt.alloc(), &[FRAMES, BACK])? == back);
-    assert!(rt; answer(rt.alloc(), &[FRAMES, BACK, END])? == back);
-    Ok(())
+fn frames_may_go_back(rt: HostRuntime) {
+    let forth = Task::Frames { back: false };
+    let back = Task::Frames { back: true };
+    let rows: [(&[&[u8]], Task); 4] = [
+        (&[FRAMES], forth),
+        (&[FRAMES, END], forth),
+        (&[FRAMES, BACK], back),
+        (&[FRAMES, BACK, END], back),
+    ];
+    compare_tasks(&rt, rt.alloc(), &rows);
 }
 
 #[test]
-fn an_unknown_command_is_usage(rt: HostRuntime) -> Result<(), Fail> {
+fn an_unknown_command_is_usage(rt: HostRuntime) {
     let rows: [&[&[u8]]; 7] = [
         &[],
         &[b""],
@@ -64,14 +120,11 @@ fn an_unknown_command_is_usage(rt: HostRuntime) -> Result<(), Fail> {
         &[b"\xff"],
         &[b"Cable"],
     ];
-    for row in rows {
-        assert!(rt; is_usage(rt.alloc(), row)?);
-    }
-    Ok(())
+    refuse(&rt, rt.alloc(), &rows);
 }
 
 #[test]
-fn a_word_too_much_is_usage(rt: HostRuntime) -> Result<(), Fail> {
+fn a_word_too_much_is_usage(rt: HostRuntime) {
     let rows: [&[&[u8]]; 18] = [
         &[CABLE, b"x"],
         &[CABLE, b"--back"],
@@ -92,10 +145,7 @@ fn a_word_too_much_is_usage(rt: HostRuntime) -> Result<(), Fail> {
         &[FRAMES, b"\xff"],
         &[CABLE, END, END],
     ];
-    for row in rows {
-        assert!(rt; is_usage(rt.alloc(), row)?);
-    }
-    Ok(())
+    refuse(&rt, rt.alloc(), &rows);
 }
 
 const CALL: &[u8] = b"call";
@@ -103,23 +153,28 @@ const CALL: &[u8] = b"call";
 const MOST: u32 = 2_147_483_647;
 
 // A call of `m` by the route `r` with no content, as the words ask for it that say no more.
-fn plain(alloc: Global, kind: Kind) -> Result<CallTask, Fail> {
-    Ok(CallTask {
-        address: Blob::from_slice(alloc, b"m")?,
+fn plain<R: Abort>(rt: &R, alloc: Global, kind: Kind) -> CallTask {
+    CallTask {
+        address: blob(rt, alloc, b"m"),
         kind,
-        route: Blob::from_slice(alloc, b"r")?,
-        content: Blob::from_slice(alloc, b"")?,
-        count: Amount::of(MOST).ok_or("an amount")?,
+        route: blob(rt, alloc, b"r"),
+        content: blob(rt, alloc, b""),
+        count: amount(rt, MOST),
         token: None,
         lease: false,
         lulls: 1_000,
         tries: 0,
         ws: false,
-    })
+    }
+}
+
+// Whether these words ask for that call.
+fn asks_call<R: Abort>(rt: &R, alloc: Global, words: &[&[u8]], task: &CallTask) -> bool {
+    is_call(&answer(rt, alloc, words), task)
 }
 
 #[test]
-fn a_call_has_its_defaults(rt: HostRuntime) -> Result<(), Fail> {
+fn a_call_has_its_defaults(rt: HostRuntime) {
     let rows: [(&[u8], Kind); 4] = [
         (b"fnf", Kind::Fnf),
         (b"response", Kind::Response),
@@ -127,22 +182,29 @@ fn a_call_has_its_defaults(rt: HostRuntime) -> Result<(), Fail> {
         (b"channel", Kind::Channel),
     ];
     for (word, kind) in rows {
-        let asked = Ok(Asked::Call(plain(rt.alloc(), kind)?));
-        assert!(rt; answer(rt.alloc(), &[CALL, b"m", word, b"r", b"."])? == asked);
+        let task = plain(&rt, rt.alloc(), kind);
+        assert!(rt; asks_call(&rt, rt.alloc(), &[CALL, b"m", word, b"r", b"."], &task));
     }
-    Ok(())
+}
+
+// A call that the words say all of.
+fn full_call<R: Abort>(rt: &R, alloc: Global) -> CallTask {
+    CallTask {
+        address: blob(rt, alloc, b"m"),
+        kind: Kind::Stream,
+        route: blob(rt, alloc, b"r"),
+        content: blob(rt, alloc, b"hi"),
+        count: amount(rt, 2),
+        token: Some(blob(rt, alloc, b"tok")),
+        lease: true,
+        lulls: 3,
+        tries: 16,
+        ws: true,
+    }
 }
 
 #[test]
-fn a_call_has_options_before_and_after_its_operands(rt: HostRuntime) -> Result<(), Fail> {
-    let mut task = plain(rt.alloc(), Kind::Stream)?;
-    task.content = Blob::from_slice(rt.alloc(), b"hi")?;
-    task.count = Amount::of(2).ok_or("an amount")?;
-    task.token = Some(Blob::from_slice(rt.alloc(), b"tok")?);
-    task.lease = true;
-    task.lulls = 3;
-    task.tries = 16;
-    task.ws = true;
+fn a_call_has_options_before_and_after_its_operands(rt: HostRuntime) {
     let words: [&[u8]; 13] = [
         CALL,
         b"--count",
@@ -158,12 +220,12 @@ fn a_call_has_options_before_and_after_its_operands(rt: HostRuntime) -> Result<(
         b"3",
         b"--tries=16",
     ];
-    assert!(rt; answer(rt.alloc(), &words)? == Ok(Asked::Call(task)));
-    Ok(())
+    let task = full_call(&rt, rt.alloc());
+    assert!(rt; asks_call(&rt, rt.alloc(), &words, &task));
 }
 
 #[test]
-fn a_faulty_call_is_usage(rt: HostRuntime) -> Result<(), Fail> {
+fn a_faulty_call_is_usage(rt: HostRuntime) {
     let rows: [&[&[u8]]; 16] = [
         &[CALL],
         &[CALL, b"m", b"fnf", b"r"],
@@ -182,14 +244,11 @@ fn a_faulty_call_is_usage(rt: HostRuntime) -> Result<(), Fail> {
         &[CALL, b"m", b"fnf", b"r", b".", b"--ws=true"],
         &[CALL, b"m", b"fnf", b"r", b".", b"--text", b"x"],
     ];
-    for row in rows {
-        assert!(rt; is_usage(rt.alloc(), row)?);
-    }
-    Ok(())
+    refuse(&rt, rt.alloc(), &rows);
 }
 
 #[test]
-fn a_load_has_its_seed(rt: HostRuntime) -> Result<(), Fail> {
+fn a_load_has_its_seed(rt: HostRuntime) {
     let rows: [(&[&[u8]], u32); 4] = [
         (&[LOAD, b"0"], 0),
         (&[LOAD, b"4294967295"], 4_294_967_295),
@@ -197,13 +256,12 @@ fn a_load_has_its_seed(rt: HostRuntime) -> Result<(), Fail> {
         (&[LOAD, END, b"7"], 7),
     ];
     for (words, seed) in rows {
-        assert!(rt; answer(rt.alloc(), words)? == Ok(Asked::Load { seed }));
+        assert!(rt; is_load(&answer(&rt, rt.alloc(), words), seed));
     }
-    Ok(())
 }
 
 #[test]
-fn a_faulty_load_is_usage(rt: HostRuntime) -> Result<(), Fail> {
+fn a_faulty_load_is_usage(rt: HostRuntime) {
     let rows: [&[&[u8]]; 9] = [
         &[LOAD],
         &[LOAD, b"4294967296"],
@@ -215,43 +273,58 @@ fn a_faulty_load_is_usage(rt: HostRuntime) -> Result<(), Fail> {
         &[LOAD, b"1", b"2"],
         &[LOAD, b"1", b"--threads"],
     ];
-    for row in rows {
-        assert!(rt; is_usage(rt.alloc(), row)?);
-    }
-    Ok(())
+    refuse(&rt, rt.alloc(), &rows);
 }
 
 const SERVE: &[u8] = b"serve";
 
 // A server at `m` of so many connections, as the words ask for it that say no more.
-fn plain_server(alloc: Global, connections: u32) -> Result<ServeTask, Fail> {
-    Ok(ServeTask {
-        address: Blob::from_slice(alloc, b"m")?,
+fn plain_server<R: Abort>(rt: &R, alloc: Global, connections: u32) -> ServeTask {
+    ServeTask {
+        address: blob(rt, alloc, b"m"),
         connections,
         workers: 1,
         lease: None,
         resume: false,
         ws: false,
-    })
+    }
+}
+
+// Whether these words ask for that server.
+fn asks_server<R: Abort>(rt: &R, alloc: Global, words: &[&[u8]], task: &ServeTask) -> bool {
+    is_server(&answer(rt, alloc, words), task)
 }
 
 #[test]
-fn a_server_has_its_defaults(rt: HostRuntime) -> Result<(), Fail> {
+fn a_server_has_its_defaults(rt: HostRuntime) {
     let rows: [(&[u8], u32); 3] = [(b"1", 1), (b"7", 7), (b"64", 64)];
     for (word, connections) in rows {
-        let asked = Ok(Asked::Serve(plain_server(rt.alloc(), connections)?));
-        assert!(rt; answer(rt.alloc(), &[SERVE, b"m", b"--connections", word])? == asked);
+        let task = plain_server(&rt, rt.alloc(), connections);
+        assert!(rt;
+            asks_server(
+                &rt,
+                rt.alloc(),
+                &[SERVE, b"m", b"--connections", word],
+                &task
+            )
+        );
     }
-    Ok(())
+}
+
+// A server that the words say all of.
+fn full_server<R: Abort>(rt: &R, alloc: Global) -> ServeTask {
+    ServeTask {
+        address: blob(rt, alloc, b"m"),
+        connections: 2,
+        workers: 16,
+        lease: Some(amount(rt, MOST)),
+        resume: true,
+        ws: true,
+    }
 }
 
 #[test]
-fn a_server_has_options_before_and_after_its_address(rt: HostRuntime) -> Result<(), Fail> {
-    let mut task = plain_server(rt.alloc(), 2)?;
-    task.workers = 16;
-    task.lease = Amount::of(MOST);
-    task.resume = true;
-    task.ws = true;
+fn a_server_has_options_before_and_after_its_address(rt: HostRuntime) {
     let words: [&[u8]; 8] = [
         SERVE,
         b"--workers=16",
@@ -262,12 +335,12 @@ fn a_server_has_options_before_and_after_its_address(rt: HostRuntime) -> Result<
         b"2147483647",
         b"--ws",
     ];
-    assert!(rt; answer(rt.alloc(), &words)? == Ok(Asked::Serve(task)));
-    Ok(())
+    let task = full_server(&rt, rt.alloc());
+    assert!(rt; asks_server(&rt, rt.alloc(), &words, &task));
 }
 
 #[test]
-fn a_faulty_server_is_usage(rt: HostRuntime) -> Result<(), Fail> {
+fn a_faulty_server_is_usage(rt: HostRuntime) {
     let rows: [&[&[u8]]; 14] = [
         &[SERVE],
         &[SERVE, b"m"],
@@ -284,8 +357,5 @@ fn a_faulty_server_is_usage(rt: HostRuntime) -> Result<(), Fail> {
         &[SERVE, b"m", b"--connections=1", b"--resume=tok"],
         &[SERVE, b"m", b"--connections=1", b"--ws", b"--ws"],
     ];
-    for row in rows {
-        assert!(rt; is_usage(rt.alloc(), row)?);
-    }
-    Ok(())
+    refuse(&rt, rt.alloc(), &rows);
 }
