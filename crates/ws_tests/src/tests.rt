@@ -2,6 +2,7 @@
 
 mod coming;
 mod large;
+mod pumps;
 mod sending;
 mod stream;
 mod two_ends;

@@ -108,18 +108,28 @@ fn the_longest_frame_goes(rt: HostRuntime) {
     assert!(rt; gone == padded(&rt, alloc, head, 10 + MOST_FRAME));
 }
 
-/// The head of a message of 16,777,214 bytes, which are to be followed by its last fragment. The key
-/// is zeros, which leaves bytes as they are.
-const HEAD: &[u8] = b"\x02\xff\x00\x00\x00\x00\x00\xff\xff\xfe\x00\x00\x00\x00";
+/// The head of a message of 16,777,215 bytes in one frame, and that of a first fragment of 16,777,214
+/// bytes. The key is zeros, which leaves bytes as they are.
+const WHOLE: &[u8] = b"\x82\xff\x00\x00\x00\x00\x00\xff\xff\xff\x00\x00\x00\x00";
 
-/// That fragment, of one byte and of two, and what a take of the message answers.
-const LASTS: [(&[u8], Taken); 2] = [
-    (b"\x80\x81\x00\x00\x00\x00\x2a", Taken::Took(3 + MOST_FRAME)),
-    (b"\x80\x82\x00\x00\x00\x00\x2a\x2a", Taken::Failed),
+const FIRST: &[u8] = b"\x02\xff\x00\x00\x00\x00\x00\xff\xff\xfe\x00\x00\x00\x00";
+
+/// Such a head, what comes after 16,777,214 zeros, and what a take of it all answers: a frame in one
+/// message, the same without its last byte, and with a last fragment of one byte and of two.
+const MESSAGES: [(&[u8], &[u8], Taken); 4] = [
+    (WHOLE, b"\x2a", Taken::Took(3 + MOST_FRAME)),
+    (WHOLE, b"", Taken::Lull),
+    (
+        FIRST,
+        b"\x80\x81\x00\x00\x00\x00\x2a",
+        Taken::Took(3 + MOST_FRAME),
+    ),
+    (FIRST, b"\x80\x82\x00\x00\x00\x00\x2a\x2a", Taken::Failed),
 ];
 
-fn play<R: Abort>(rt: &R, alloc: Global, last: &[u8], answer: Taken) {
-    let mut coming = padded(rt, alloc, HEAD, HEAD.len() + MOST_FRAME - 1);
+fn play<R: Abort>(rt: &R, alloc: Global, head: &[u8], last: &[u8], answer: Taken) {
+    let zeros = MOST_FRAME - 1;
+    let mut coming = padded(rt, alloc, head, head.len().saturating_add(zeros));
     assert!(rt; coming.extend_from_slice(last).is_ok());
     let mut end = server(rt, alloc, coming);
     let mut buffer = padded(rt, alloc, b"", 4 + MOST_FRAME);
@@ -128,8 +138,8 @@ fn play<R: Abort>(rt: &R, alloc: Global, last: &[u8], answer: Taken) {
 }
 
 #[test]
-fn the_longest_frame_comes_in_fragments_and_no_longer_one(rt: HostRuntime) {
-    for (last, answer) in LASTS {
-        play(&rt, rt.alloc(), last, answer);
+fn the_longest_frame_comes_whole_or_in_fragments_and_no_longer_one(rt: HostRuntime) {
+    for (head, last, answer) in MESSAGES {
+        play(&rt, rt.alloc(), head, last, answer);
     }
 }
