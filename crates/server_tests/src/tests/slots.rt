@@ -1,6 +1,6 @@
 //! A server with three slots, and the links that it serves.
 
-ghost use Rattle.std.specs.Prelude.{◌≡◌, ◌<◌, [], IfSome, length};
+ghost use Rattle.std.specs.Prelude.{◌≡◌, ◌<◌, ◌∷◌, [], IfSome, false, length, true};
 ghost use Rattle.rs_wire.specs.declared.words.Side.TheVariants.{Server};
 ghost use Rattle.rs_wire.specs.Settings.{usual};
 ghost use Rattle.outside.specs.Links.{IsNew};
@@ -9,7 +9,7 @@ ghost use Rattle.server.specs.Opening.{AreOf};
 
 use conn::{Caller, Connection};
 use handlers::{Law, Routes, Stored};
-use outside::{After, MemClock, MemLink};
+use outside::{After, Clock, MemClock, MemLink};
 use rs_wire::{Amount, Blob, Checked, Kind, Settings, Side, check};
 use server::{Served, serve_connection};
 use session_core::Session;
@@ -145,6 +145,25 @@ pub fn make_shared<R: Abort>(rt: &R, alloc: Global, resume: bool, lease: bool) -
     }
 }
 
+// A list of two.
+fn two<R: Abort, T: Drop>(rt: &R, alloc: Global, first: T, second: T) -> Vec<T>
+    ensures { result.items ≡ first ∷ second ∷ [] }
+{
+    let mut list = Vec::new(alloc);
+    assert!(rt; list.push(first).is_ok());
+    assert!(rt; list.push(second).is_ok());
+    list
+}
+
+// A list of three.
+fn three<R: Abort, T: Drop>(rt: &R, alloc: Global, first: T, second: T, third: T) -> Vec<T>
+    ensures { result.items ≡ first ∷ second ∷ third ∷ [] }
+{
+    let mut list = two(rt, alloc, first, second);
+    assert!(rt; list.push(third).is_ok());
+    list
+}
+
 /// Three connections, each with its first caller.
 pub fn slots<R: Abort, H: Shelf>(
     rt: &R,
@@ -159,15 +178,58 @@ where
         result.0.items result.1.items }
     ensures three { length result.0.items ≡ 3 }
 {
-    let mut connections = Vec::new(alloc);
-    let mut callers = Vec::new(alloc);
-    let (first, caller) = lent(rt, alloc, shelf, resume, lease);
-    assert!(rt; connections.push(first).is_ok() && callers.push(caller).is_ok());
-    let (second, caller) = lent(rt, alloc, shelf, resume, lease);
-    assert!(rt; connections.push(second).is_ok() && callers.push(caller).is_ok());
-    let (third, caller) = lent(rt, alloc, shelf, resume, lease);
-    assert!(rt; connections.push(third).is_ok() && callers.push(caller).is_ok());
+    let (first, first_caller) = lent(rt, alloc, shelf, resume, lease);
+    let (second, second_caller) = lent(rt, alloc, shelf, resume, lease);
+    let (third, third_caller) = lent(rt, alloc, shelf, resume, lease);
+    let connections = three(rt, alloc, first, second, third);
+    let callers = three(rt, alloc, first_caller, second_caller, third_caller);
     (connections, callers)
+}
+
+// A connection with a tape of the shelf, and two callers of it.
+fn lent_to_two<R: Abort + Wait, H: Shelf>(
+    rt: &R,
+    alloc: Global,
+    shelf: &mut H,
+) -> (Connection<H::Tape>, Caller<H::Tape>, Caller<H::Tape>)
+where
+    H::Tape: Drop,
+    ensures of { result.1.of ≡ result.0 }
+    ensures other { result.2.of ≡ result.0 }
+    ensures settings { result.0.settings ≡
+        record (usual Server) { resume = true; lease = false } }
+{
+    let (connection, mut caller) = lent(rt, alloc, shelf, true, false);
+    match connection.split(rt, &mut caller) {
+        Ok(other) => (connection, caller, other),
+        Err(_) => panic!(rt; "there is a part and a number for one more"),
+    }
+}
+
+/// Two slots of a server that resumes and has no leases, and two callers of each.
+pub struct TwoRows<T: Tape> {
+    pub connections: Vec<Connection<T>>,
+    pub callers: Vec<Caller<T>>,
+    pub others: Vec<Caller<T>>,
+}
+
+/// Two connections, and two rows of callers.
+pub fn two_rows<R: Abort + Wait, H: Shelf>(rt: &R, alloc: Global, shelf: &mut H) -> TwoRows<H::Tape>
+where
+    H::Tape: Drop,
+    ensures of { AreOf (record (usual Server) { resume = true; lease = false })
+        result.connections.items result.callers.items }
+    ensures others { AreOf (record (usual Server) { resume = true; lease = false })
+        result.connections.items result.others.items }
+    ensures two { length result.connections.items ≡ 2 }
+{
+    let (first, first_caller, first_other) = lent_to_two(rt, alloc, shelf);
+    let (second, second_caller, second_other) = lent_to_two(rt, alloc, shelf);
+    TwoRows {
+        connections: two(rt, alloc, first, second),
+        callers: two(rt, alloc, first_caller, second_caller),
+        others: two(rt, alloc, first_other, second_other),
+    }
 }
 
 /// A new link that has these bytes to take, and of which the call with this number fails, from 1;
@@ -179,7 +241,8 @@ pub fn link<R: Abort>(rt: &R, alloc: Global, bytes: &[u8], after: After, fails: 
     MemLink::new(alloc, blob(rt, alloc, bytes), after, MOST, fails)
 }
 
-fn clock<R: Abort>(rt: &R, alloc: Global, moments: &[u64]) -> MemClock {
+/// A clock that gives these moments, the last one again and again.
+pub fn clock<R: Abort>(rt: &R, alloc: Global, moments: &[u64]) -> MemClock {
     let moments = Vec::from_slice(alloc, moments).expect(rt, "there is memory");
     assert!(rt; !moments.is_empty());
     MemClock::new(moments)
@@ -191,8 +254,43 @@ fn work_of(alloc: Global, works: bool) -> Option<Work>
     if works { Some(Work::new(alloc)) } else { None }
 }
 
-/// Serves the link. Its answer is this one.
+/// Serves the link of a slot by this clock, and says how: as `serve_connection` does.
 #[tactic(auto, using(server::proofs::Places::of_back))]
+pub fn serve_by<R: Wait, K: Clock, T: Tape>(
+    rt: &R,
+    alloc: Global,
+    connections: &[Connection<T>],
+    callers: &mut [Caller<T>],
+    shared: &Shared,
+    plan: Plan,
+    clock: &K,
+    link: &mut MemLink,
+) -> (Served, Option<(u32, u64)>)
+    requires of { AreOf shared.now.settings connections.now callers.old }
+    requires server { shared.now.settings.side ≡ Server }
+    requires place { plan.slot < length connections.now }
+    requires new { IsNew (shown_of link.old) }
+    ensures of { AreOf shared.now.settings connections.now callers.new }
+{
+    let mut jobs = work_of(alloc, plan.works);
+    let grant = Amount::of(plan.grant);
+    serve_connection(
+        rt,
+        alloc,
+        link,
+        clock,
+        plan.slot,
+        connections,
+        callers,
+        &shared.table,
+        &shared.settings,
+        &shared.routes,
+        grant,
+        &mut jobs,
+    )
+}
+
+/// Serves the link. Its answer is this one.
 pub fn serve<R: Abort + Wait, T: Tape>(
     rt: &R,
     alloc: Global,
@@ -211,22 +309,7 @@ pub fn serve<R: Abort + Wait, T: Tape>(
     ensures of { AreOf shared.now.settings connections.now callers.new }
 {
     let clock = clock(rt, alloc, plan.moments);
-    let mut jobs = work_of(alloc, plan.works);
-    let grant = Amount::of(plan.grant);
-    let served = serve_connection(
-        rt,
-        alloc,
-        link,
-        &clock,
-        plan.slot,
-        connections,
-        callers,
-        &shared.table,
-        &shared.settings,
-        &shared.routes,
-        grant,
-        &mut jobs,
-    );
+    let served = serve_by(rt, alloc, connections, callers, shared, plan, &clock, link);
     assert!(rt; served.0 == wanted);
     assert!(rt; served.1 == opened);
 }
