@@ -1,6 +1,6 @@
 //! The queue: one buffer, and where the bytes left begin in it.
 
-ghost use Rattle.std.specs.Prelude.{◌≡◌, ◌+◌, ◌-◌, ◌<◌, ◌≤◌, ◌^◌, ◌++◌, [], ℕ, List, length, take, drop, max, vec_len, vec_capacity, is_ok, if◌then◌else◌, IsOk, OnOk, OnErr};
+ghost use Rattle.std.specs.Prelude.{◌≡◌, ◌+◌, ◌-◌, ◌*◌, ◌<◌, ◌≤◌, ◌^◌, ◌++◌, [], ℕ, List, length, take, drop, max, vec_len, vec_capacity, is_ok, if◌then◌else◌, IsOk, OnOk, OnErr};
 ghost use Rattle.std.specs.Fn.{FnOnceReturnsAtMut};
 
 use rs_wire::OutOfMemory;
@@ -37,15 +37,18 @@ impl Model for ByteQueue {
         (vec_len q.buffer + q.reserved ≤ vec_capacity q.buffer) };
 }
 
-// Removes the first bytes and moves the others to their place.
+// Removes the first bytes, at least half of them, and moves the others to their place. What moves
+// and where it goes don't overlap then, so it is one copy.
 fn remove_front(buffer: &mut Vec<u8>, count: usize)
-    requires { count ≤ vec_len buffer.old }
+    requires within { count ≤ vec_len buffer.old }
+    requires half { vec_len buffer.old ≤ 2 * count }
     ensures items { buffer.new.items ≡ drop count buffer.old.items }
     ensures len { vec_len buffer.new + count ≡ vec_len buffer.old }
     ensures capacity { vec_capacity buffer.new ≡ vec_capacity buffer.old }
 {
     let left = buffer.len() - count;
-    buffer.copy_within(count.., 0);
+    let (removed, kept) = buffer.split_at_mut(count);
+    removed[..left].copy_from_slice(kept);
     buffer.truncate(left);
 }
 
