@@ -71,7 +71,7 @@ impl<T: Tape> ClientCarrier<T> {
         if self.pump.is_some() {
             return Ok(());
         }
-        let answer = tell(rt, connection, &mut self.caller, &Event::opening())?;
+        let answer = tell(rt, connection, &mut self.caller, Event::opening())?;
         let Answer::Opened(conn) = answer else {
             return Ok(());
         };
@@ -102,14 +102,15 @@ impl<T: Tape> ClientCarrier<T> {
             (received self.old.from) → IsCarrying self.new.caller (done ++ line.Cut ∷ []) self.new.pump
             (sent self.new.out) (received self.new.from)) }
     {
-        let Some(pump) = self.pump.take() else {
+        let Some(pump) = &mut self.pump else {
             return push_mark(rt, &mut self.out, Mark::Line);
         };
-        let mut pump = pump;
         let conn = self.conn;
-        tell(rt, connection, &mut self.caller, &Event::Cut { conn })?;
+        tell(rt, connection, &mut self.caller, Event::Cut { conn })?;
         push_mark(rt, &mut self.out, Mark::Cut)?;
-        is_cut(lose(rt, alloc, &mut pump, &mut self.from)?)
+        let mark = lose(rt, alloc, pump, &mut self.from)?;
+        self.pump = None;
+        is_cut(mark)
     }
 
     /// Tells a moment, in milliseconds.
@@ -133,7 +134,7 @@ impl<T: Tape> ClientCarrier<T> {
             (received self.old.from) → IsCarrying self.new.caller (done ++ line.Tick now ∷ []) self.new.pump
             (sent self.new.out) (received self.new.from)) }
     {
-        tell(rt, connection, &mut self.caller, &Event::Tick { now })?;
+        tell(rt, connection, &mut self.caller, Event::Tick { now })?;
         Ok(())
     }
 }
