@@ -142,15 +142,14 @@ impl<T: Tape> Cable<T> {
         ensures played { (r : Ends) → At self.old r → IfOk result (λ moved.
             Reaches self.new (λ r'. Ups (sides_of self.old) most r r' × IsMoved moved r r')) }
     {
-        let Some(mut wire) = self.wire.take() else {
+        let Some(wire) = &mut self.wire else {
             return Ok(false);
         };
         let number = wire.client;
         let gave = carry(&mut self.client, number, most, buffer, &mut wire.up.rest)?;
         self.client.legal();
-        let came = arrive(alloc, &mut self.server, &mut wire)?;
+        let came = arrive(alloc, &mut self.server, wire)?;
         self.server.legal();
-        self.wire = Some(wire);
         Ok(any(gave, came))
     }
 
@@ -163,15 +162,13 @@ impl<T: Tape> Cable<T> {
         ensures played { (r : Ends) → At self.old r → IfOk result (λ moved.
             Reaches self.new (λ r'. Downs (sides_of self.old) most r r' × IsMoved moved r r')) }
     {
-        let Some(mut wire) = self.wire.take() else {
+        let Some(wire) = &mut self.wire else {
             return Ok(false);
         };
-        let gave = give(&mut self.server, &mut wire, most, buffer)?;
+        let gave = give(&mut self.server, wire, most, buffer)?;
         self.server.legal();
-        let number = wire.client;
-        let came = hear(alloc, &mut self.client, number, &mut wire.down)?;
+        let came = hear(alloc, &mut self.client, wire.client, &mut wire.down)?;
         self.client.legal();
-        self.wire = Some(wire);
         Ok(any(gave, came))
     }
 
@@ -213,13 +210,14 @@ impl<T: Tape> Cable<T> {
         ensures played { (r : Ends) → At self.old r →
             OnOk result (Reaches self.new (λ r'. r' ≡ cuts (sides_of self.old) r)) }
     {
-        let Some(wire) = self.wire.take() else {
+        let Some(wire) = &self.wire else {
             return Ok(());
         };
         cut(&mut self.client, wire.client)?;
         self.client.legal();
-        cut_there(&mut self.server, &wire)?;
+        cut_there(&mut self.server, wire)?;
         self.server.legal();
+        self.wire = None;
         Ok(())
     }
 
@@ -230,12 +228,13 @@ impl<T: Tape> Cable<T> {
         ensures played { (r : Ends) → At self.old r →
             OnOk result (Reaches self.new (λ r'. r' ≡ drops (sides_of self.old) r)) }
     {
-        let Some(wire) = self.wire.take() else {
+        let Some(wire) = &self.wire else {
             return Ok(());
         };
         cut(&mut self.client, wire.client)?;
         self.client.legal();
-        self.dropped = dropped_after(&wire, self.dropped);
+        self.dropped = dropped_after(wire, self.dropped);
+        self.wire = None;
         Ok(())
     }
 
