@@ -10,10 +10,8 @@ use Rattle.outside.specs.declared.net.NetFault.{NetFault}
 use Rattle.outside.specs.declared.net.NetFault.TheVariants as faults
 use Rattle.conn_shared.specs.Members.{Knowledge}
 use Rattle.handlers.specs.Listed.{Listed}
-use Rattle.server.specs.Serving.{Outcome}
 use Rattle.server.specs.declared.served.Served.{Served}
 use Rattle.serve_slots.specs.Tapes.{IsWhole}
-use Rattle.serve_links.specs.Callers.{lease_of}
 use Rattle.serve_threads.specs.Asking.{repeated}
 use Rattle.serve_threads.specs.declared.guest.Guest.{Guest}
 use Rattle.serve_told.specs.Links.{some_lack}

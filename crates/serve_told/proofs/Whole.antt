@@ -243,8 +243,8 @@ module _ {N L T : Type 0} (shown : L → Shown) (g : Settings) (ids : List Share
 
   go_on : (k : ℕ) (q : Guest L T) → slice_get come.left k ≡ Some q → GoOnFrom q.row.items (fronts lasts)
   go_on k q is = all_on q.row.items (fronts lasts) (row_long k q is ∙ sym (fronts_long lasts ∙ lasts_each)) (λ i c past at tape.
-    let l = last_at lasts i past tape in
-    let on = goes_on k i c l.0 (q.row.items, row_at come.left k q is, at) l.1 in (on.0, l.2 ∙ on.1))
+      let l = last_at lasts i past tape in
+      let on = goes_on k i c l.0 (q.row.items, row_at come.left k q is, at) l.1 in (on.0, l.2 ∙ on.1))
 
   answered_at : (k : ℕ) (row : List ℕ) (link : Shown) (said : Served) → slice_get (rows_of (links_of shown come.left) (callers_of come.left)) k ≡ Some row → slice_get (links_of shown come.left) k ≡ Some link
       → slice_get (answers_of come.left) k ≡ Some said → IsAnswered g moments grant (fronts lasts) k row link said
