@@ -1,5 +1,5 @@
 -- What a call came to, whose link and whose tape went back.
-use Rattle.std.proofs.Common.{◌≡◌, ◌≢◌, ◌∙◌, ◌⊎◌, ℕ, false, List, [], ◌∷◌, ◌++◌, Option, inl, inr, refl, sym, ap, subst}
+use Rattle.std.proofs.Common.{◌≡◌, ◌≢◌, ◌∙◌, ◌⊎◌, ℕ, false, List, [], ◌∷◌, ◌++◌, Option, is_some, inl, inr, refl, sym, ap, subst}
 use Rattle.outside.specs.Causes.{Rose}
 use Rattle.outside.specs.Links.{Shown}
 use Rattle.outside.specs.declared.net.Ask.{Ask}
@@ -37,8 +37,8 @@ use Rattle.rsocket_call.proofs.Beginning.{can_begin, first_is_one, nothing_said,
 use Rattle.rsocket_call.proofs.Ending.{printing_on, printing_stopped, text_of}
 use Rattle.rsocket_call.proofs.Saying.{says_nothing}
 
-module _ (t : CallTask) (moments : Option (List ℕ)) (shelf shelf' : List (Option (List Entry))) (asks asks' : Option (List Ask)) (back mid back' : Option (List Shown)) (faults faults' : ℕ) (me : Knowledge) (was now : ClientSeen) (empty : me.front ≡ []) (opened : HasOpened moments me was)
-    (settings : was.caller.of.settings ≡ settings_for t) (own : IsOwn now.caller) (tape : GotTape (settings_for t) now.caller.front shelf shelf') (puts : PutsBack now.link mid back') (dialed : HasDialed t.address t.ws asks asks') where
+module _ (t : CallTask) (moments : Option (List ℕ)) (fresh : Option (List Entry)) (shelf shelf' : List (Option (List Entry))) (asks asks' : Option (List Ask)) (back mid back' : Option (List Shown)) (faults faults' : ℕ) (me : Knowledge) (was now : ClientSeen) (empty : me.front ≡ []) (opened : HasOpened moments me was)
+    (settings : was.caller.of.settings ≡ settings_for t) (own : IsOwn now.caller) (tape : GotTape (settings_for t) (is_some fresh) now.caller.front shelf shelf') (puts : PutsBack now.link mid back') (dialed : HasDialed t.address t.ws asks asks') where
   -- what holds where the caller was alone, does
   holds : (P : Type 0) → Alone (asking_for t) moments was now P → IsOwn was.caller × P
   holds P came = (let a = came own in (a.0, a.1 (can_begin (asking_for t) moments me was empty opened a.0)))
@@ -51,27 +51,27 @@ module _ (t : CallTask) (moments : Option (List ℕ)) (shelf shelf' : List (Opti
   gone_on k text alone s = subst (λ n. GoesFrom (asking_for t) moments faults faults' n (settings_for t) was.caller.front now.caller.front now.conn now.link k [] back mid [] text) (first_is_one moments me was empty opened alone)
       (subst (λ g. GoesFrom (asking_for t) moments faults faults' was.conn g was.caller.front now.caller.front now.conn now.link k [] back mid [] text) settings s)
 
-  written : (r : Called) (old new : ByteStream) → IsWritten r (asking_for t) moments t.lulls (tries_for t) was now back mid faults faults' old new → (text : List ℕ) × TextOf r t moments shelf shelf' asks asks' back back' faults faults' text × Writes text old new
+  written : (r : Called) (old new : ByteStream) → IsWritten r (asking_for t) moments t.lulls (tries_for t) was now back mid faults faults' old new → (text : List ℕ) × TextOf r t moments fresh shelf shelf' asks asks' back back' faults faults' text × Writes text old new
   written r old new h =
       let a = holds (StopsWith (asking_for t) moments t.lulls (tries_for t) was now back mid faults faults' r h.text) h.came in (
         h.text,
-        text_of t moments shelf shelf' asks asks' back mid back' faults faults' was.caller.front now.caller.front now.link h.text (nothing_said (asking_for t) moments me was empty opened a.0) tape puts dialed r (stopped r h.text a.0 a.1),
+        text_of t moments fresh shelf shelf' asks asks' back mid back' faults faults' was.caller.front now.caller.front now.link h.text (nothing_said (asking_for t) moments me was empty opened a.0) tape puts dialed r (stopped r h.text a.0 a.1),
         h.written,
       )
 
-  cut : (old new : ByteStream) → IsCutOff (asking_for t) moments t.lulls (tries_for t) was now back mid faults faults' old new → (text : List ℕ) × WasPrinting t moments shelf shelf' asks asks' back back' text × CutOff text old new
+  cut : (old new : ByteStream) → IsCutOff (asking_for t) moments t.lulls (tries_for t) was now back mid faults faults' old new → (text : List ℕ) × WasPrinting t moments fresh shelf shelf' asks asks' back back' text × CutOff text old new
   cut old new h =
       let a = holds (((k : Calling) × GoesWith (asking_for t) moments was now back mid faults faults' k h.text) ⊎ ((r : Called) × (r ≢ called.OutOfMemory) × StopsWith (asking_for t) moments t.lulls (tries_for t) was now back mid faults faults' r h.text)) h.came in
       let none = nothing_said (asking_for t) moments me was empty opened a.0 in (
         h.text,
         elim (a.1) [
-          | inl on ↦ printing_on t moments shelf shelf' asks asks' back mid back' faults faults' was.caller.front now.caller.front now.link h.text none tape puts dialed now.conn on.0 (gone_on on.0 h.text a.0 on.1)
-          | inr off ↦ printing_stopped t moments shelf shelf' asks asks' back mid back' faults faults' was.caller.front now.caller.front now.link h.text none tape puts dialed off.0 (stopped off.0 h.text a.0 off.2)
+          | inl on ↦ printing_on t moments fresh shelf shelf' asks asks' back mid back' faults faults' was.caller.front now.caller.front now.link h.text none tape puts dialed now.conn on.0 (gone_on on.0 h.text a.0 on.1)
+          | inr off ↦ printing_stopped t moments fresh shelf shelf' asks asks' back mid back' faults faults' was.caller.front now.caller.front now.link h.text none tape puts dialed off.0 (stopped off.0 h.text a.0 off.2)
         ],
         h.cut,
       )
 
-  pub has_come : (m : Made) (old new : ByteStream) → HasMade m (asking_for t) moments t.lulls (tries_for t) was now back mid faults faults' old new → HasCome m t moments shelf shelf' asks asks' back back' faults faults' old new
+  pub has_come : (m : Made) (old new : ByteStream) → HasMade m (asking_for t) moments t.lulls (tries_for t) was now back mid faults faults' old new → HasCome m t moments fresh shelf shelf' asks asks' back back' faults faults' old new
   has_come made.WriteFault old new h = cut old new h
   has_come (made.Called called.OutOfMemory) old new h = (h.0, tt, h.1)
   has_come (made.Called called.Finished) old new h = written called.Finished old new h
@@ -80,22 +80,21 @@ module _ (t : CallTask) (moments : Option (List ℕ)) (shelf shelf' : List (Opti
   has_come (made.Called (called.Idle n)) old new h = written (called.Idle n) old new h
   has_come (made.Called (called.Refused why)) old new h = written (called.Refused why) old new h
 
-  pub has_come_by : (w : Asking) (lulls tries : ℕ) → w ≡ asking_for t → lulls ≡ t.lulls → tries ≡ tries_for t → (m : Made) (old new : ByteStream) → HasMade m w moments lulls tries was now back mid faults faults' old new → HasCome m t moments shelf shelf' asks asks' back back' faults faults' old new
+  pub has_come_by : (w : Asking) (lulls tries : ℕ) → w ≡ asking_for t → lulls ≡ t.lulls → tries ≡ tries_for t → (m : Made) (old new : ByteStream) → HasMade m w moments lulls tries was now back mid faults faults' old new → HasCome m t moments fresh shelf shelf' asks asks' back back' faults faults' old new
   has_come_by w lulls tries is n k m old new h = has_come m old new (subst (λ x. HasMade m (asking_for t) moments t.lulls x was now back mid faults faults' old new) k
       (subst (λ x. HasMade m (asking_for t) moments x tries was now back mid faults faults' old new) n (subst (λ x. HasMade m x moments lulls tries was now back mid faults faults' old new) is h)))
 
 -- ---- no client began
 
-unlinked : (t : CallTask) (moments : Option (List ℕ)) (shelf shelf' : List (Option (List Entry))) (asks asks' : Option (List Ask)) (back back' : Option (List Shown)) (faults faults' n now : ℕ) (past : List Entry) → past ≡ entry_of n (event.Tick now) answer.Quiet ∷ [] → AreMoments moments past
-    → GotTape (settings_for t) past shelf shelf' → HasDialed t.address t.ws asks asks' → back' ≡ back → Rose faults faults' → TextOf called.Net t moments shelf shelf' asks asks' back back' faults faults' []
-unlinked t moments shelf shelf' asks asks' back back' faults faults' n now past is timed tape dialed same rose =
+unlinked : (t : CallTask) (moments : Option (List ℕ)) (fresh : Option (List Entry)) (shelf shelf' : List (Option (List Entry))) (asks asks' : Option (List Ask)) (back back' : Option (List Shown)) (faults faults' n now : ℕ) (past : List Entry) → past ≡ entry_of n (event.Tick now) answer.Quiet ∷ [] → AreMoments moments past
+    → GotTape (settings_for t) (is_some fresh) past shelf shelf' → HasDialed t.address t.ws asks asks' → back' ≡ back → Rose faults faults' → TextOf called.Net t moments fresh shelf shelf' asks asks' back back' faults faults' []
+unlinked t moments fresh shelf shelf' asks asks' back back' faults faults' n now past is timed tape dialed same rose =
     let w = asking_for t in
     let none : said t.kind false past ≡ [] = ap (said t.kind false) is ∙ says_nothing t.kind _ (tick_unstarted w moments n now 0) in
     record {
       past = past;
       links = [];
       call = record {
-        tells = tape.tells;
         put_back = tape.put_back;
         legal = tape.legal;
         fair = tape.fair;
@@ -112,18 +111,20 @@ unlinked t moments shelf shelf' asks asks' back back' faults faults' n now past 
     }
 
 -- the caller went on by a tick, or memory ran out
-pub came_unbegun : (r : Called) (t : CallTask) (moments : Option (List ℕ)) (shelf shelf' : List (Option (List Entry))) (asks asks' : Option (List Ask)) (back back' : Option (List Shown)) (faults faults' : ℕ) (me now : Knowledge) (out : ByteStream) → me.front ≡ [] → me.of.settings ≡ settings_for t
-    → now ≡ record me { front = now.front; note = now.note } → IsOwn now → IsStillTo r moments me now.front back back' faults faults' → HasDialed t.address t.ws asks asks' → GotTape now.of.settings now.front shelf shelf' → HasCome (made.Called r) t moments shelf shelf' asks asks' back back' faults faults' out out
-came_unbegun called.OutOfMemory t moments shelf shelf' asks asks' back back' faults faults' me now out none settings same own h dialed tape = ([], tt, writes_none out)
-came_unbegun called.Finished t moments shelf shelf' asks asks' back back' faults faults' me now out none settings same own h dialed tape = absurd h
-came_unbegun (called.Dead last) t moments shelf shelf' asks asks' back back' faults faults' me now out none settings same own h dialed tape = absurd h
-came_unbegun (called.Idle n) t moments shelf shelf' asks asks' back back' faults faults' me now out none settings same own h dialed tape = absurd h
-came_unbegun (called.Refused why) t moments shelf shelf' asks asks' back back' faults faults' me now out none settings same own h dialed tape = absurd h
-came_unbegun called.Net t moments shelf shelf' asks asks' back back' faults faults' me now out none settings same own (ticks, kept, rose) dialed tape =
+pub came_unbegun : (r : Called) (t : CallTask) (moments : Option (List ℕ)) (fresh : Option (List Entry)) (shelf shelf' : List (Option (List Entry))) (asks asks' : Option (List Ask)) (back back' : Option (List Shown)) (faults faults' : ℕ) (me now : Knowledge) (out : ByteStream) → me.front ≡ [] → me.of.settings ≡ settings_for t → me.of.tells ≡ is_some fresh
+    → now ≡ record me { front = now.front; note = now.note } → IsOwn now → IsStillTo r moments me now.front back back' faults faults' → HasDialed t.address t.ws asks asks' → GotTape now.of.settings now.of.tells now.front shelf shelf' → HasCome (made.Called r) t moments fresh shelf shelf' asks asks' back back' faults faults' out out
+came_unbegun called.OutOfMemory t moments fresh shelf shelf' asks asks' back back' faults faults' me now out none settings tells same own h dialed tape = ([], tt, writes_none out)
+came_unbegun called.Finished t moments fresh shelf shelf' asks asks' back back' faults faults' me now out none settings tells same own h dialed tape = absurd h
+came_unbegun (called.Dead last) t moments fresh shelf shelf' asks asks' back back' faults faults' me now out none settings tells same own h dialed tape = absurd h
+came_unbegun (called.Idle n) t moments fresh shelf shelf' asks asks' back back' faults faults' me now out none settings tells same own h dialed tape = absurd h
+came_unbegun (called.Refused why) t moments fresh shelf shelf' asks asks' back back' faults faults' me now out none settings tells same own h dialed tape = absurd h
+came_unbegun called.Net t moments fresh shelf shelf' asks asks' back back' faults faults' me now out none settings tells same own (ticks, kept, rose) dialed tape =
     let tick = own_call me.of.settings me now (event.Tick ticks.now) ticks.answered refl same ticks.called own in
     let is = tick_first moments me now.front none ticks tick.1 in
-    let here : now.of.settings ≡ settings_for t = ap (λ (k : Knowledge). k.of.settings) same ∙ settings in (
+    let here : now.of.settings ≡ settings_for t = ap (λ (k : Knowledge). k.of.settings) same ∙ settings in
+    let telling : now.of.tells ≡ is_some fresh = ap (λ (k : Knowledge). k.of.tells) same ∙ tells in (
       [],
-      unlinked t moments shelf shelf' asks asks' back back' faults faults' me.number ticks.now now.front is (subst (AreMoments moments) (sym is) (ticks.moment, tt)) (subst (λ g. GotTape g now.front shelf shelf') here tape) dialed kept rose,
+      unlinked t moments fresh shelf shelf' asks asks' back back' faults faults' me.number ticks.now now.front is (subst (AreMoments moments) (sym is) (ticks.moment, tt))
+          (subst (λ b. GotTape (settings_for t) b now.front shelf shelf') telling (subst (λ g. GotTape g now.of.tells now.front shelf shelf') here tape)) dialed kept rose,
       writes_none out,
     )

@@ -1,6 +1,6 @@
 -- What a call came to, once its link and its tape went back.
 use Rattle.std.proofs.lemmas.List.{length-append}
-use Rattle.std.proofs.Common.{◌≡◌, ◌∙◌, ◌⊎◌, ◌≤◌, ℕ, Bool, true, false, List, [], ◌∷◌, ◌++◌, Option, Some, None, IsSome, append-nil, inl, inr, refl, sym, ap, subst, arith}
+use Rattle.std.proofs.Common.{◌≡◌, ◌∙◌, ◌⊎◌, ◌≤◌, ℕ, Bool, true, false, List, [], ◌∷◌, ◌++◌, Option, Some, None, IsSome, is_some, append-nil, inl, inr, refl, sym, ap, subst, arith}
 use Rattle.rs_wire.specs.declared.words.Kind.{Kind}
 use Rattle.outside.specs.Links.{Shown}
 use Rattle.outside.specs.declared.net.Ask.{Ask}
@@ -40,24 +40,24 @@ word_is None h = cc
 
 -- ---- where its caller was alone and it could begin
 
-module _ (t : CallTask) (moments : Option (List ℕ)) (shelf shelf' : List (Option (List Entry))) (asks asks' : Option (List Ask)) (back mid back' : Option (List Shown)) (faults faults' : ℕ) (past new : List Entry) (present : Option Shown) (text : List ℕ) (none : said t.kind false past ≡ []) (tape : GotTape (settings_for t) new shelf shelf') (puts : PutsBack present mid back')
+module _ (t : CallTask) (moments : Option (List ℕ)) (fresh : Option (List Entry)) (shelf shelf' : List (Option (List Entry))) (asks asks' : Option (List Ask)) (back mid back' : Option (List Shown)) (faults faults' : ℕ) (past new : List Entry) (present : Option Shown) (text : List ℕ) (none : said t.kind false past ≡ []) (tape : GotTape (settings_for t) (is_some fresh) new shelf shelf') (puts : PutsBack present mid back')
     (dialed : HasDialed t.address t.ws asks asks') where
   -- a call over these links
-  call_of : (links : List Shown) → IsCall (settings_for t) (asking_for t) moments new links → GotBack links back back' → IsCallOf t moments shelf shelf' asks asks' back back' new links
-  call_of links call got = record { tells = tape.tells; put_back = tape.put_back; legal = tape.legal; fair = tape.fair; dialed = dialed; got_back = got; call = call }
+  call_of : (links : List Shown) → IsCall (settings_for t) (asking_for t) moments new links → GotBack links back back' → IsCallOf t moments fresh shelf shelf' asks asks' back back' new links
+  call_of links call got = record { put_back = tape.put_back; legal = tape.legal; fair = tape.fair; dialed = dialed; got_back = got; call = call }
 
   module _ (r : Called) (s : StopsFrom r (asking_for t) moments t.lulls (tries_for t) faults faults' 1 (settings_for t) past new present [] back mid [] text) where
     whole : IsWholeCall r (asking_for t) moments t.lulls (tries_for t) faults faults' (settings_for t) past new present back mid [] text
     whole = whole_call r (asking_for t) moments t.lulls (tries_for t) faults faults' 1 (settings_for t) past new present back mid [] text refl s
 
-    call : IsCallOf t moments shelf shelf' asks asks' back back' new whole.links
+    call : IsCallOf t moments fresh shelf shelf' asks asks' back back' new whole.links
     call = call_of whole.links whole.call (whole.got back' puts)
 
     says : text ≡ said t.kind (is_finished r) new
     says = printed_is t.kind (is_finished r) past new text none whole.prints
 
   -- what is told of it
-  pub text_of : (r : Called) → StopsFrom r (asking_for t) moments t.lulls (tries_for t) faults faults' 1 (settings_for t) past new present [] back mid [] text → TextOf r t moments shelf shelf' asks asks' back back' faults faults' text
+  pub text_of : (r : Called) → StopsFrom r (asking_for t) moments t.lulls (tries_for t) faults faults' 1 (settings_for t) past new present [] back mid [] text → TextOf r t moments fresh shelf shelf' asks asks' back back' faults faults' text
   text_of called.OutOfMemory s = tt
   text_of called.Finished s = record { past = new; links = (whole called.Finished s).links; call = call called.Finished s; ended = ((whole called.Finished s).why, says called.Finished s) }
   text_of (called.Refused why) s =
@@ -88,7 +88,7 @@ module _ (t : CallTask) (moments : Option (List ℕ)) (shelf shelf' : List (Opti
       }
 
   -- a write failed once it had come to something
-  pub printing_stopped : (r : Called) → StopsFrom r (asking_for t) moments t.lulls (tries_for t) faults faults' 1 (settings_for t) past new present [] back mid [] text → WasPrinting t moments shelf shelf' asks asks' back back' text
+  pub printing_stopped : (r : Called) → StopsFrom r (asking_for t) moments t.lulls (tries_for t) faults faults' 1 (settings_for t) past new present [] back mid [] text → WasPrinting t moments fresh shelf shelf' asks asks' back back' text
   printing_stopped r s = record { past = new; links = (whole r s).links; call = call r s; more = []; prints = by (is_finished r) (says r s) }
     where
       by : (e : Bool) → text ≡ said t.kind e new → (text ≡ said t.kind true new) ⊎ (text ≡ said t.kind false new ++ [])
@@ -104,7 +104,7 @@ module _ (t : CallTask) (moments : Option (List ℕ)) (shelf shelf' : List (Opti
   few true = omega arith
   few false = omega arith
 
-  pub printing_on : (c : ℕ) (k : Calling) → GoesFrom (asking_for t) moments faults faults' 1 (settings_for t) past new c present k [] back mid [] text → WasPrinting t moments shelf shelf' asks asks' back back' text
+  pub printing_on : (c : ℕ) (k : Calling) → GoesFrom (asking_for t) moments faults faults' 1 (settings_for t) past new c present k [] back mid [] text → WasPrinting t moments fresh shelf shelf' asks asks' back back' text
   printing_on c k s =
       let u = s.under_way in
       let last = u.link in

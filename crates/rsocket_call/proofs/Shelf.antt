@@ -1,5 +1,5 @@
 -- An empty tape that came back.
-use Rattle.std.proofs.Common.{◌≡◌, ◌∙◌, ℕ, Bool, List, [], ◌∷◌, ◌++◌, length, Option, Some, None, IfSome, is_some, inr, refl, ap, arith}
+use Rattle.std.proofs.Common.{◌≡◌, ◌∙◌, ℕ, List, [], ◌∷◌, ◌++◌, length, Option, Some, None, IfSome, is_some, inr, refl, ap, arith}
 use Rattle.rs_wire.specs.declared.settings.Settings.{Settings}
 use Rattle.tape.specs.declared.entry.Entry.{Entry}
 use Rattle.session_core.specs.Seen.{told_by}
@@ -16,11 +16,10 @@ unfolding Legal Fair
 nothing_legal g = (tt, tt)
 
 -- it is the tape of a session of which nothing happened
-pub got_empty : (g : Settings) (tells : Bool) (told : Option (List Entry)) (shelf mid shelf' : List (Option (List Entry))) → told ≡ told_by tells [] → mid ≡ shelf → shelf' ≡ mid ++ told ∷ [] → GotSome g shelf shelf'
-got_empty g tells told shelf mid shelf' is same back = inr (
+pub got_empty : (g : Settings) (fresh told : Option (List Entry)) (shelf mid shelf' : List (Option (List Entry))) → told ≡ told_by (is_some fresh) [] → mid ≡ shelf → shelf' ≡ mid ++ told ∷ [] → GotSome g fresh shelf shelf'
+got_empty g fresh told shelf mid shelf' is same back = inr (
   [],
   record {
-    tells = tells;
     put_back = back ∙ (ap (λ (l : List (Option (List Entry))). l ++ told ∷ []) same ∙ ap (λ (o : Option (List Entry)). shelf ++ o ∷ []) is);
     legal = (nothing_legal g).0;
     fair = (nothing_legal g).1;

@@ -1,5 +1,5 @@
 -- How a call ends, and how its end is told. Entries stand newest first.
-use Rattle.std.specs.Prelude.{◌≡◌, ◌≢◌, ◌⊎◌, ℕ, Bool, List, [], ◌∷◌, ◌++◌, Option, Some, None, codes}
+use Rattle.std.specs.Prelude.{◌≡◌, ◌≢◌, ◌⊎◌, ℕ, Bool, List, [], ◌∷◌, ◌++◌, Option, Some, None, codes, is_some}
 use Rattle.rs_wire.specs.declared.settings.Settings.{Settings}
 use Rattle.rs_wire.specs.declared.fault.Cause.{Cause}
 use Rattle.outside.specs.Links.{Shown}
@@ -19,16 +19,15 @@ use Rattle.client.specs.Clients.{asking_of}
 use Rattle.client.specs.declared.plan.CallPlan.{CallPlan}
 use Rattle.rsocket_call.specs.Called.{Finished, FoundDead, WasIdle, WasPrinting, WasRefused, WasUnlinked, asking_for}
 
--- the tape of a session under these settings came back to the shelf, which shows these entries or nothing
-pub record GotTape (g : Settings) (past : List Entry) (shelf shelf' : List (Option (List Entry))) : Type 0 where
-  pub tells : Bool
+-- the tape of a session under these settings came back to the shelf, which tells these entries or nothing
+pub record GotTape (g : Settings) (tells : Bool) (past : List Entry) (shelf shelf' : List (Option (List Entry))) : Type 0 where
   pub put_back : shelf' ≡ shelf ++ told_by tells past ∷ []
   pub legal : Legal g past
   pub fair : Fair g past
 
--- a shelf got nothing, or one tape of a session under these settings
-abbrev pub GotSome : Settings → List (Option (List Entry)) → List (Option (List Entry)) → Type 0
-GotSome g shelf shelf' = (shelf' ≡ shelf) ⊎ ((past : List Entry) × GotTape g past shelf shelf')
+-- a shelf got nothing, or one tape of a session under these settings, which tells where a fresh one tells
+abbrev pub GotSome : Settings → Option (List Entry) → List (Option (List Entry)) → List (Option (List Entry)) → Type 0
+GotSome g fresh shelf shelf' = (shelf' ≡ shelf) ⊎ ((past : List Entry) × GotTape g (is_some fresh) past shelf shelf')
 
 -- ---- the last line
 
@@ -73,18 +72,18 @@ TellsMade (made.Called r) old new status = IsTelling r old new status
 -- ---- what is told
 
 -- by what a call came to, over the text that it printed
-abbrev pub TextOf : Called → CallTask → Option (List ℕ) → List (Option (List Entry)) → List (Option (List Entry)) → Option (List Ask) → Option (List Ask) → Option (List Shown) → Option (List Shown) → ℕ → ℕ → List ℕ → Type 0
-TextOf called.Finished t moments shelf shelf' asks asks' back back' faults faults' text = Finished t moments shelf shelf' asks asks' back back' text
-TextOf (called.Refused why) t moments shelf shelf' asks asks' back back' faults faults' text = WasRefused t moments shelf shelf' asks asks' back back' (text ++ last_line (called.Refused why))
-TextOf called.Net t moments shelf shelf' asks asks' back back' faults faults' text = WasUnlinked t moments shelf shelf' asks asks' back back' faults faults' (text ++ last_line called.Net)
-TextOf (called.Dead last) t moments shelf shelf' asks asks' back back' faults faults' text = FoundDead t moments shelf shelf' asks asks' back back' (text ++ last_line (called.Dead last))
-TextOf (called.Idle lulls) t moments shelf shelf' asks asks' back back' faults faults' text = WasIdle t moments shelf shelf' asks asks' back back' (text ++ last_line (called.Idle lulls))
-TextOf called.OutOfMemory t moments shelf shelf' asks asks' back back' faults faults' text = Unit {0}
+abbrev pub TextOf : Called → CallTask → Option (List ℕ) → Option (List Entry) → List (Option (List Entry)) → List (Option (List Entry)) → Option (List Ask) → Option (List Ask) → Option (List Shown) → Option (List Shown) → ℕ → ℕ → List ℕ → Type 0
+TextOf called.Finished t moments fresh shelf shelf' asks asks' back back' faults faults' text = Finished t moments fresh shelf shelf' asks asks' back back' text
+TextOf (called.Refused why) t moments fresh shelf shelf' asks asks' back back' faults faults' text = WasRefused t moments fresh shelf shelf' asks asks' back back' (text ++ last_line (called.Refused why))
+TextOf called.Net t moments fresh shelf shelf' asks asks' back back' faults faults' text = WasUnlinked t moments fresh shelf shelf' asks asks' back back' faults faults' (text ++ last_line called.Net)
+TextOf (called.Dead last) t moments fresh shelf shelf' asks asks' back back' faults faults' text = FoundDead t moments fresh shelf shelf' asks asks' back back' (text ++ last_line (called.Dead last))
+TextOf (called.Idle lulls) t moments fresh shelf shelf' asks asks' back back' faults faults' text = WasIdle t moments fresh shelf shelf' asks asks' back back' (text ++ last_line (called.Idle lulls))
+TextOf called.OutOfMemory t moments fresh shelf shelf' asks asks' back back' faults faults' text = Unit {0}
 
 -- the call came to this; its text is written, or a write failed
-abbrev pub HasCome : Made → CallTask → Option (List ℕ) → List (Option (List Entry)) → List (Option (List Entry)) → Option (List Ask) → Option (List Ask) → Option (List Shown) → Option (List Shown) → ℕ → ℕ → ByteStream → ByteStream → Type 0
-HasCome made.WriteFault t moments shelf shelf' asks asks' back back' faults faults' old new = (text : List ℕ) × WasPrinting t moments shelf shelf' asks asks' back back' text × CutOff text old new
-HasCome (made.Called r) t moments shelf shelf' asks asks' back back' faults faults' old new = (text : List ℕ) × TextOf r t moments shelf shelf' asks asks' back back' faults faults' text × Writes text old new
+abbrev pub HasCome : Made → CallTask → Option (List ℕ) → Option (List Entry) → List (Option (List Entry)) → List (Option (List Entry)) → Option (List Ask) → Option (List Ask) → Option (List Shown) → Option (List Shown) → ℕ → ℕ → ByteStream → ByteStream → Type 0
+HasCome made.WriteFault t moments fresh shelf shelf' asks asks' back back' faults faults' old new = (text : List ℕ) × WasPrinting t moments fresh shelf shelf' asks asks' back back' text × CutOff text old new
+HasCome (made.Called r) t moments fresh shelf shelf' asks asks' back back' faults faults' old new = (text : List ℕ) × TextOf r t moments fresh shelf shelf' asks asks' back back' faults faults' text × Writes text old new
 
 -- memory ran out: a part of what the call printed is written, and then the line that says so, or a part of that
 abbrev pub EndsInMemory : ByteStream → ByteStream → Type 0

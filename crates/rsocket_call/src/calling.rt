@@ -1,6 +1,6 @@
 //! One call of a server.
 
-ghost use Rattle.std.specs.Prelude.{◌≡◌, ◌<◌, ◌+◌, List, Option, IfOk};
+ghost use Rattle.std.specs.Prelude.{◌≡◌, ◌<◌, ◌+◌, List, Option, IfOk, is_some};
 ghost use Rattle.conn_shared.specs.Members.{first_member};
 ghost use Rattle.client.specs.Counting.{HasDialed};
 ghost use Rattle.outside.specs.declared.net.Ask.{Ask};
@@ -55,16 +55,17 @@ fn call_as<H: Shelf, N: Net, K: Clock, O: Sink, R: Wait>(
     requires plan { IsPlanOf task.now plan.now }
     requires opened { HasOpened (K.moments clock.now) (first_member client.of) client }
     requires settings { client.of.settings ≡ settings_for task.now }
+    requires tells { client.of.tells ≡ is_some H.fresh }
     requires to { (client.address ≡ task.now.address) × (client.ws ≡ task.now.ws) }
     requires out { 0 < N.out net.old }
     requires lent { 0 < H.lent shelf.old }
     ensures lent { H.lent shelf.new + 1 ≡ H.lent shelf.old }
     ensures come { (asks : Option (List Ask)) →
         HasDialed task.now.address task.now.ws asks (N.asked net.old) →
-        HasCome result task.now (K.moments clock.now) (H.back shelf.old) (H.back shelf.new)
-        asks (N.asked net.new) (N.back net.old) (N.back net.new)
+        HasCome result task.now (K.moments clock.now) H.fresh
+        (H.back shelf.old) (H.back shelf.new) asks (N.asked net.new) (N.back net.old) (N.back net.new)
         (N.faults net.old) (N.faults net.new) (O.shown output.old) (O.shown output.new) }
-    ensures got { GotSome (settings_for task.now) (H.back shelf.old) (H.back shelf.new) }
+    ensures got { GotSome (settings_for task.now) H.fresh (H.back shelf.old) (H.back shelf.new) }
 {
     let made = make(rt, alloc, &mut client, net, clock, plan, output);
     finish(client, net, shelf);
@@ -87,13 +88,14 @@ fn call_on<H: Shelf, N: Net, K: Clock, O: Sink, R: Wait>(
     requires plan { IsPlanOf task.now plan.now }
     requires first { caller ≡ first_member connection }
     requires settings { connection.settings ≡ settings_for task.now }
+    requires tells { connection.tells ≡ is_some H.fresh }
     requires lent { 0 < H.lent shelf.old }
     ensures lent { H.lent shelf.new + 1 ≡ H.lent shelf.old }
     ensures come { HasCome result task.now (K.moments clock.now)
-        (H.back shelf.old) (H.back shelf.new) (N.asked net.old) (N.asked net.new)
+        H.fresh (H.back shelf.old) (H.back shelf.new) (N.asked net.old) (N.asked net.new)
         (N.back net.old) (N.back net.new)
         (N.faults net.old) (N.faults net.new) (O.shown output.old) (O.shown output.new) }
-    ensures got { GotSome (settings_for task.now) (H.back shelf.old) (H.back shelf.new) }
+    ensures got { GotSome (settings_for task.now) H.fresh (H.back shelf.old) (H.back shelf.new) }
 {
     match begin(rt, alloc, task, net, clock, connection, caller) {
         Ok(client) => call_as(rt, alloc, task, plan, output, net, clock, shelf, client),
@@ -116,10 +118,10 @@ fn come<H: Shelf, N: Net, K: Clock, O: Sink, R: Wait>(
 ) -> Made
     ensures lent { H.lent shelf.new ≡ H.lent shelf.old }
     ensures come { HasCome result task.now (K.moments clock.now)
-        (H.back shelf.old) (H.back shelf.new) (N.asked net.old) (N.asked net.new)
+        H.fresh (H.back shelf.old) (H.back shelf.new) (N.asked net.old) (N.asked net.new)
         (N.back net.old) (N.back net.new)
         (N.faults net.old) (N.faults net.new) (O.shown output.old) (O.shown output.new) }
-    ensures got { GotSome (settings_for task.now) (H.back shelf.old) (H.back shelf.new) }
+    ensures got { GotSome (settings_for task.now) H.fresh (H.back shelf.old) (H.back shelf.new) }
 {
     let Ok(plan) = plan(alloc, task) else {
         return Made::Called(Called::OutOfMemory);
@@ -153,41 +155,42 @@ pub fn call<H: Shelf, N: Net, K: Clock, O: Sink, R: Wait>(
 
     // The end came, and is said.
     ensures done { result ≡ 0 → WritesSome (Finished task.now (K.moments clock.now)
-        (H.back shelf.old) (H.back shelf.new) (N.asked net.old) (N.asked net.new)
+        H.fresh (H.back shelf.old) (H.back shelf.new) (N.asked net.old) (N.asked net.new)
         (N.back net.old) (N.back net.new))
         (O.shown output.old) (O.shown output.new) }
 
     // A write failed, the last one: a prefix is written of what the call printed, or of that and its
     // last line.
     ensures cut_off { result ≡ 5 → CutsOffSome (WasPrinting task.now (K.moments clock.now)
-        (H.back shelf.old) (H.back shelf.new) (N.asked net.old) (N.asked net.new)
+        H.fresh (H.back shelf.old) (H.back shelf.new) (N.asked net.old) (N.asked net.new)
         (N.back net.old) (N.back net.new))
         (O.shown output.old) (O.shown output.new) }
     ensures memory { result ≡ 6 → EndsInMemory (O.shown output.old) (O.shown output.new) }
 
     // The end did not come, for this cause, and what came is said with its line.
     ensures refused { result ≡ 7 → WritesSome (WasRefused task.now (K.moments clock.now)
-        (H.back shelf.old) (H.back shelf.new) (N.asked net.old) (N.asked net.new)
+        H.fresh (H.back shelf.old) (H.back shelf.new) (N.asked net.old) (N.asked net.new)
         (N.back net.old) (N.back net.new))
         (O.shown output.old) (O.shown output.new) }
     ensures unlinked { result ≡ 8 → WritesSome (WasUnlinked task.now (K.moments clock.now)
-        (H.back shelf.old) (H.back shelf.new) (N.asked net.old) (N.asked net.new)
+        H.fresh (H.back shelf.old) (H.back shelf.new) (N.asked net.old) (N.asked net.new)
         (N.back net.old) (N.back net.new)
         (N.faults net.old) (N.faults net.new)) (O.shown output.old) (O.shown output.new) }
     ensures dead { result ≡ 9 → WritesSome (FoundDead task.now (K.moments clock.now)
-        (H.back shelf.old) (H.back shelf.new) (N.asked net.old) (N.asked net.new)
+        H.fresh (H.back shelf.old) (H.back shelf.new) (N.asked net.old) (N.asked net.new)
         (N.back net.old) (N.back net.new))
         (O.shown output.old) (O.shown output.new) }
     ensures idle { result ≡ 10 → WritesSome (WasIdle task.now (K.moments clock.now)
-        (H.back shelf.old) (H.back shelf.new) (N.asked net.old) (N.asked net.new)
+        H.fresh (H.back shelf.old) (H.back shelf.new) (N.asked net.old) (N.asked net.new)
         (N.back net.old) (N.back net.new))
         (O.shown output.old) (O.shown output.new) }
     ensures failed_writes { FailedWrites
         (O.shown output.old).faults (O.shown output.new).faults result }
 
-    // On every status as many tapes are lent as before, and the shelf gets at most one, of a session.
+    // On every status as many tapes are lent as before, and the shelf gets at most one, of a session,
+    // which tells its entries where a fresh one tells.
     ensures lent { H.lent shelf.new ≡ H.lent shelf.old }
-    ensures got { GotSome (settings_for task.now) (H.back shelf.old) (H.back shelf.new) }
+    ensures got { GotSome (settings_for task.now) H.fresh (H.back shelf.old) (H.back shelf.new) }
 {
     match come(rt, alloc, task, output, net, clock, shelf) {
         Made::WriteFault => WRITE_FAULT,

@@ -48,6 +48,7 @@ fn share<T: Tape>(
     requires checked { IsChecked settings }
     requires empty { T.count tape ≡ 0 }
     ensures settings { IfOk result (λ r. r.0.settings ≡ settings) }
+    ensures tells { IfOk result (λ r. r.0.tells ≡ is_some (T.told tape)) }
     ensures first { IfOk result (λ r. r.1 ≡ first_member r.0) }
     ensures back { IfErr result (λ t. T.told t ≡ told_by (is_some (T.told tape)) []) }
 {
@@ -68,11 +69,12 @@ pub fn connect<H: Shelf>(
     shelf: &mut H,
 ) -> Result<(Connection<H::Tape>, Caller<H::Tape>), OutOfMemory>
     ensures settings { IfOk result (λ r. r.0.settings ≡ settings_for task.now) }
+    ensures tells { IfOk result (λ r. r.0.tells ≡ is_some H.fresh) }
     ensures first { IfOk result (λ r. r.1 ≡ first_member r.0) }
     ensures back { OnOk result (H.back shelf.new ≡ H.back shelf.old) }
     ensures lent { OnOk result (H.lent shelf.new ≡ H.lent shelf.old + 1) }
     ensures err { OnErr result (H.lent shelf.new ≡ H.lent shelf.old) }
-    ensures got { OnErr result (GotSome (settings_for task.now)
+    ensures got { OnErr result (GotSome (settings_for task.now) H.fresh
         (H.back shelf.old) (H.back shelf.new)) }
 {
     let settings = settings(alloc, task)?;

@@ -15,7 +15,8 @@ use tape::{Shelf, Tape};
 // Puts the tape of a session back.
 fn keep<H: Shelf>(session: Session<H::Tape>, shelf: &mut H)
     requires lent { 0 < H.lent shelf.old }
-    ensures tape { GotTape session.settings session.entries (H.back shelf.old) (H.back shelf.new) }
+    ensures tape { GotTape session.settings session.tells session.entries
+        (H.back shelf.old) (H.back shelf.new) }
     ensures lent { H.lent shelf.new + 1 ≡ H.lent shelf.old }
 {
     session.legal();
@@ -31,7 +32,7 @@ pub fn finish<N: Net, H: Shelf>(client: Client<N, H::Tape>, net: &mut N, shelf: 
     requires link { IfSome client.link (λ link. 0 < N.out net.old) }
     requires lent { 0 < H.lent shelf.old }
     ensures own { IsOwn client.caller }
-    ensures tape { GotTape client.of.settings client.caller.front
+    ensures tape { GotTape client.of.settings client.of.tells client.caller.front
         (H.back shelf.old) (H.back shelf.new) }
     ensures lent { H.lent shelf.new + 1 ≡ H.lent shelf.old }
     ensures back { PutsBack client.link (N.back net.old) (N.back net.new) }
@@ -51,7 +52,8 @@ pub fn put_away<H: Shelf>(connection: Connection<H::Tape>, caller: Caller<H::Tap
     requires parts { caller.parts ≡ all_parts }
     requires lent { 0 < H.lent shelf.old }
     ensures own { IsOwn caller }
-    ensures tape { GotTape caller.of.settings caller.front (H.back shelf.old) (H.back shelf.new) }
+    ensures tape { GotTape caller.of.settings caller.of.tells caller.front
+        (H.back shelf.old) (H.back shelf.new) }
     ensures lent { H.lent shelf.new + 1 ≡ H.lent shelf.old }
 {
     match connection.close(caller) {

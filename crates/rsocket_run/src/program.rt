@@ -232,29 +232,29 @@ where
     // What a call writes, status by status, each with its cause. 5: a prefix of what it printed, or of
     // that and its last line. 6: some of what it printed, and the line; so it is on every words.
     ensures called { result ≡ 0 → OfCall words.now (λ t. WritesSome (Finished t
-        (K.moments clock.now) (H.back shelf.old) (H.back shelf.new) (N.asked net.old)
-        (N.asked net.new) (N.back net.old) (N.back net.new))
+        (K.moments clock.now) H.fresh (H.back shelf.old) (H.back shelf.new)
+        (N.asked net.old) (N.asked net.new) (N.back net.old) (N.back net.new))
         (O.shown output.old) (O.shown output.new)) }
     ensures call_cut_off { result ≡ 5 → OfCall words.now (λ t. CutsOffSome (WasPrinting t
-        (K.moments clock.now) (H.back shelf.old) (H.back shelf.new) (N.asked net.old)
-        (N.asked net.new) (N.back net.old) (N.back net.new))
+        (K.moments clock.now) H.fresh (H.back shelf.old) (H.back shelf.new)
+        (N.asked net.old) (N.asked net.new) (N.back net.old) (N.back net.new))
         (O.shown output.old) (O.shown output.new)) }
     ensures memory { result ≡ 6 → EndsInMemory (O.shown output.old) (O.shown output.new) }
     ensures refused { result ≡ 7 → OfCall words.now (λ t. WritesSome (WasRefused t
-        (K.moments clock.now) (H.back shelf.old) (H.back shelf.new) (N.asked net.old)
-        (N.asked net.new) (N.back net.old) (N.back net.new))
+        (K.moments clock.now) H.fresh (H.back shelf.old) (H.back shelf.new)
+        (N.asked net.old) (N.asked net.new) (N.back net.old) (N.back net.new))
         (O.shown output.old) (O.shown output.new)) }
     ensures unlinked { result ≡ 8 → OfCall words.now (λ t. WritesSome (WasUnlinked t
-        (K.moments clock.now) (H.back shelf.old) (H.back shelf.new) (N.asked net.old)
-        (N.asked net.new) (N.back net.old) (N.back net.new) (N.faults net.old) (N.faults net.new))
+        (K.moments clock.now) H.fresh (H.back shelf.old) (H.back shelf.new)
+        (N.asked net.old) (N.asked net.new) (N.back net.old) (N.back net.new) (N.faults net.old) (N.faults net.new))
         (O.shown output.old) (O.shown output.new)) }
     ensures dead { result ≡ 9 → OfCall words.now (λ t. WritesSome (FoundDead t
-        (K.moments clock.now) (H.back shelf.old) (H.back shelf.new) (N.asked net.old)
-        (N.asked net.new) (N.back net.old) (N.back net.new))
+        (K.moments clock.now) H.fresh (H.back shelf.old) (H.back shelf.new)
+        (N.asked net.old) (N.asked net.new) (N.back net.old) (N.back net.new))
         (O.shown output.old) (O.shown output.new)) }
     ensures idle { result ≡ 10 → OfCall words.now (λ t. WritesSome (WasIdle t
-        (K.moments clock.now) (H.back shelf.old) (H.back shelf.new) (N.asked net.old)
-        (N.asked net.new) (N.back net.old) (N.back net.new))
+        (K.moments clock.now) H.fresh (H.back shelf.old) (H.back shelf.new)
+        (N.asked net.old) (N.asked net.new) (N.back net.old) (N.back net.new))
         (O.shown output.old) (O.shown output.new)) }
 
     // What a server writes, each with its cause. 0: how many connections were served, each to its end.
@@ -289,7 +289,7 @@ where
         H.fresh (H.back shelf.old) (H.back shelf.new) result }
     ensures empty { AskNothing words.now → H.back shelf.new ≡ H.back shelf.old }
     ensures got { OfCall words.now (λ t.
-        GotSome (settings_for t) (H.back shelf.old) (H.back shelf.new)) }
+        GotSome (settings_for t) H.fresh (H.back shelf.old) (H.back shelf.new)) }
     ensures load_got { OfLoad words.now (λ seed. GotTapes (sides_by load_settings) H.fresh
         (H.back shelf.old) (H.back shelf.new)) }
 
