@@ -8,9 +8,8 @@ use Rattle.tape.specs.declared.entry.Entry.{Entry}
 use Rattle.cable_script.specs.Scripted.{Scripted}
 use Rattle.cable_script.specs.Script.{IsScript, IsFault}
 use Rattle.cable_script.specs.declared.script.ScriptFault.TheVariants.{Line as WrongLine}
-use Rattle.cable.specs.Played.{Sides}
 use Rattle.cable.specs.Shelves.{GotTapes, Reports, sides_by}
-use Rattle.threaded_play.specs.Reports.{GotSomeTapes, ReportsByThreads}
+use Rattle.threaded_play.specs.Reports.{ReportsByThreads}
 use Rattle.capture.specs.Captured.{IsBadAt, IsCapture, all_lines}
 use Rattle.capture.specs.Text.{IsTextOf, IsWrongLine}
 use Rattle.capture.specs.declared.lines.BadFrame.{BadFrame}
@@ -56,7 +55,7 @@ read_fault_line = codes "rsocket: read fault" ++ 10 ∷ []
 -- this is the report of a run of the script over a shelf: line by line, or by threads
 abbrev pub ReportsBy : Bool → Scripted → Option (List Entry) → List (Option (List Entry)) → List (Option (List Entry)) → List ℕ → Type 0
 ReportsBy false script fresh shelf shelf' out = Reports script fresh shelf shelf' out
-ReportsBy true script fresh shelf shelf' out = ReportsByThreads script shelf shelf' out
+ReportsBy true script fresh shelf shelf' out = ReportsByThreads script fresh shelf shelf' out
 
 -- `cable`: the input was read to its end and is a script, and this is the report of a run of it
 pub record RanCable (threads : Bool) (input : List ℕ) (left : Option (List ℕ)) (fresh : Option (List Entry)) (shelf shelf' : List (Option (List Entry))) (out : List ℕ) : Type 0 where
@@ -174,22 +173,17 @@ OfTask words input P = (task : Task) (text : List ℕ) → Asks words task → i
 
 -- ---- the shelf
 
--- a shelf got back the tapes of two ends, after a run line by line, or by threads
-abbrev pub GotBy : Bool → Sides → Option (List Entry) → List (Option (List Entry)) → List (Option (List Entry)) → Type 0
-GotBy false s fresh shelf shelf' = GotTapes s fresh shelf shelf'
-GotBy true s fresh shelf shelf' = GotSomeTapes s shelf shelf'
-
 -- a script was read, which is the whole input where that is told, and the shelf got tapes of the two ends of a run of it
-pub record GotEnds (threads : Bool) (input : ByteStream) (left : Option (List ℕ)) (fresh : Option (List Entry)) (shelf shelf' : List (Option (List Entry))) : Type 0 where
+pub record GotEnds (input : ByteStream) (left : Option (List ℕ)) (fresh : Option (List Entry)) (shelf shelf' : List (Option (List Entry))) : Type 0 where
   pub script : Scripted
   pub to_its_end : (text : List ℕ) → input.told ≡ Some text → left ≡ Some []
   pub is_script : (text : List ℕ) → input.told ≡ Some text → IsScript text script
-  pub got : GotBy threads (sides_by script.settings) fresh shelf shelf'
+  pub got : GotTapes (sides_by script.settings) fresh shelf shelf'
 
 -- the shelf after a run with this status: it got nothing; or the words ask for `cable`, and on 0, 5 and 6 it got tapes of its ends
 abbrev pub IsShelfAfter : List (List ℕ) → ByteStream → Option (List ℕ) → Option (List Entry) → List (Option (List Entry)) → List (Option (List Entry)) → ℕ → Type 0
 IsShelfAfter words input left fresh shelf shelf' status =
-    (shelf' ≡ shelf) ⊎ ((threads : Bool) × Asks words (tasks.Cable threads) × GotEnds threads input left fresh shelf shelf' × ((status ≡ 0) ⊎ ((status ≡ 5) ⊎ (status ≡ 6))))
+    (shelf' ≡ shelf) ⊎ ((threads : Bool) × Asks words (tasks.Cable threads) × GotEnds input left fresh shelf shelf' × ((status ≡ 0) ⊎ ((status ≡ 5) ⊎ (status ≡ 6))))
 
 -- ---- the status
 

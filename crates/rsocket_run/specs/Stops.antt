@@ -64,14 +64,14 @@ faults_after_writing (Err fault) faults = one_more faults
 
 -- the shelf after `cable` ended so: it got nothing; or it got tapes of the ends of a run of its script, where the work was done or memory
 -- ran out in it
-abbrev pub IsShelfAfterCable : Bool → ByteStream → Option (List ℕ) → Option (List Entry) → List (Option (List Entry)) → List (Option (List Entry)) → Result Unit Stop → Type 0
-IsShelfAfterCable threads input left fresh shelf shelf' result =
-    (shelf' ≡ shelf) ⊎ (GotEnds threads input left fresh shelf shelf' × IfErr result (λ stop. stop ≡ stops.OutOfMemory))
+abbrev pub IsShelfAfterCable : ByteStream → Option (List ℕ) → Option (List Entry) → List (Option (List Entry)) → List (Option (List Entry)) → Result Unit Stop → Type 0
+IsShelfAfterCable input left fresh shelf shelf' result =
+    (shelf' ≡ shelf) ⊎ (GotEnds input left fresh shelf shelf' × IfErr result (λ stop. stop ≡ stops.OutOfMemory))
 
 -- the shelf after the work of these words ended so
 abbrev pub IsShelfAfterWork : List (List ℕ) → ByteStream → Option (List ℕ) → Option (List Entry) → List (Option (List Entry)) → List (Option (List Entry)) → Result Unit Stop → Type 0
 IsShelfAfterWork words input left fresh shelf shelf' result =
-    (shelf' ≡ shelf) ⊎ ((threads : Bool) × Asks words (tasks.Cable threads) × GotEnds threads input left fresh shelf shelf' × IfErr result (λ stop. stop ≡ stops.OutOfMemory))
+    (shelf' ≡ shelf) ⊎ ((threads : Bool) × Asks words (tasks.Cable threads) × GotEnds input left fresh shelf shelf' × IfErr result (λ stop. stop ≡ stops.OutOfMemory))
 
 -- the faults of each part as a stop of the run
 abbrev pub of_input : Unread → Stop

@@ -3,8 +3,8 @@
 ghost use Rattle.std.specs.Prelude.{◌≡◌, [], ℕ, List, true, false, Some, IfErr, IfOk, OnOk};
 ghost use Rattle.command_line.specs.declared.task.Task.TheVariants as tasks;
 ghost use Rattle.rsocket_run.specs.declared.tasks.TheConstants.{READ_FOR_CAPTURE, READ_FOR_SCRIPT};
-ghost use Rattle.cable.specs.Shelves.{sides_by};
-ghost use Rattle.rsocket_run.specs.Run.{GotBy, PlayedSome, RanBack, RanCable, RanFrames, ReportsBy};
+ghost use Rattle.cable.specs.Shelves.{GotTapes, sides_by};
+ghost use Rattle.rsocket_run.specs.Run.{PlayedSome, RanBack, RanCable, RanFrames, ReportsBy};
 ghost use Rattle.rsocket_run.specs.Stops.{IsShelfAfterCable, StoppedBy, faults_after_work};
 ghost use Rattle.rsocket_run.specs.Streams.{HasRead};
 
@@ -41,7 +41,7 @@ where
     ensures reports { IfOk result (λ text. ReportsBy threads script.now H.fresh
         (H.back shelf.old) (H.back shelf.new) text.items) }
     ensures lent { H.lent shelf.new ≡ H.lent shelf.old }
-    ensures got { GotBy threads (sides_by script.now.settings) H.fresh
+    ensures got { GotTapes (sides_by script.now.settings) H.fresh
         (H.back shelf.old) (H.back shelf.new) }
 {
     if threads {
@@ -77,7 +77,7 @@ where
         faults_after_work result (I.shown input.old).faults }
     ensures words { ¬ (result ≡ Err Stop.Usage) }
     ensures lent { H.lent shelf.new ≡ H.lent shelf.old }
-    ensures back { IsShelfAfterCable threads (I.shown input.old) (I.shown input.new).told H.fresh
+    ensures back { IsShelfAfterCable (I.shown input.old) (I.shown input.new).told H.fresh
         (H.back shelf.old) (H.back shelf.new) result }
 {
     let text = read_to(alloc, input, READ_FOR_SCRIPT)?;

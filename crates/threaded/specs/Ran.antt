@@ -16,6 +16,6 @@ IsPlayed g h lines C S = Played (record { client = g; server = h }) lines C S �
 abbrev pub AreJoined : Settings → Settings → List Entry → List Entry → Type 0
 AreJoined g h C S = (pair : ℕ → ℕ) × Joined g h C S pair
 
--- the same end with other entries; whether its tape tells them is left open, and so is its spare
+-- the same end with other entries; its spare is left open
 abbrev pub IsSameEnd : Seen → Seen → Type 0
-IsSameEnd v w = w ≡ record v { entries = w.entries; tells = w.tells; spare = w.spare }
+IsSameEnd v w = w ≡ record v { entries = w.entries; spare = w.spare }

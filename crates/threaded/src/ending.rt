@@ -31,7 +31,8 @@ fn part<T: Tape + Drop>(
     asker: Caller<T>,
 ) -> Session<T>
     requires { AreParts connection carrier asker }
-    ensures { result.settings ≡ connection.settings }
+    ensures settings { result.settings ≡ connection.settings }
+    ensures tells { result.tells ≡ connection.tells }
 {
     unshare(connection, carrier, asker)
 }
@@ -40,7 +41,8 @@ fn part<T: Tape + Drop>(
 fn part_far<T: Tape + Drop>(server: Connection<T>, far: FarBack<T>, asker: Caller<T>) -> Session<T>
     requires whole { IfOk far (λ c. AreParts server c.caller asker) }
     requires stopped { IfErr far (λ k. AreParts server k asker) }
-    ensures { result.settings ≡ server.settings }
+    ensures settings { result.settings ≡ server.settings }
+    ensures tells { result.tells ≡ server.tells }
 {
     match far {
         Ok(far) => part(server, far.caller, asker),
@@ -75,7 +77,9 @@ fn gather<T: Tape + Drop, R: Wait>(
     requires up { IsPair near.out far.from }
     requires down { IsPair far.out near.from }
     ensures client_settings { result.client.settings ≡ client.settings }
+    ensures client_tells { result.client.tells ≡ client.tells }
     ensures server_settings { result.server.settings ≡ server.settings }
+    ensures server_tells { result.server.tells ≡ server.tells }
     ensures played { (lines : List Line) → client.settings.side ≡ Client →
         IsChecked client.settings → IsChecked server.settings →
         NearHands lines client client_asked.caller client_asked.want near.caller near.pump
@@ -123,7 +127,9 @@ fn finish_near<T: Tape + Drop, R: Wait>(
     requires up { IfOk far (λ f. IsPair near.out f.from) }
     requires down { IfOk far (λ f. IsPair f.out near.from) }
     ensures client_settings { result.client.settings ≡ client.settings }
+    ensures client_tells { result.client.tells ≡ client.tells }
     ensures server_settings { result.server.settings ≡ server.settings }
+    ensures server_tells { result.server.tells ≡ server.tells }
     ensures played { (lines : List Line) → client.settings.side ≡ Client →
         IsChecked client.settings → IsChecked server.settings →
         NearHands lines client client_asked.caller client_asked.want near.caller near.pump
@@ -177,7 +183,9 @@ pub(crate) fn finish<T: Tape + Drop, R: Wait>(
     requires up { IfOk returned.near (λ n. IfOk returned.far (λ f. IsPair n.out f.from)) }
     requires down { IfOk returned.near (λ n. IfOk returned.far (λ f. IsPair f.out n.from)) }
     ensures client_settings { result.client.settings ≡ client.settings }
+    ensures client_tells { result.client.tells ≡ client.tells }
     ensures server_settings { result.server.settings ≡ server.settings }
+    ensures server_tells { result.server.tells ≡ server.tells }
     ensures played { (lines : List Line) → client.settings.side ≡ Client →
         IsChecked client.settings → IsChecked server.settings →
         IfOk returned.near (λ c. NearHands lines client returned.client_asked.caller

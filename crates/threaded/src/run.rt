@@ -45,7 +45,9 @@ fn play_alone<T: Tape + Drop>(
     requires client_checked { IsChecked client.settings }
     requires server_checked { IsChecked server.settings }
     ensures client_settings { result.client.settings ≡ client.settings }
+    ensures client_tells { result.client.tells ≡ client.tells }
     ensures server_settings { result.server.settings ≡ server.settings }
+    ensures server_tells { result.server.tells ≡ server.tells }
     ensures played { result.want ≡ false → IsPlayed client.settings server.settings
         script.now.lines result.client.entries result.server.entries }
 {
@@ -76,7 +78,9 @@ fn play<T: Tape + Drop + Send, R: Threads + Wait + Sync>(
     requires client_checked { IsChecked client.connection.settings }
     requires server_checked { IsChecked server.connection.settings }
     ensures client_settings { result.client.settings ≡ client.connection.settings }
+    ensures client_tells { result.client.tells ≡ client.connection.tells }
     ensures server_settings { result.server.settings ≡ server.connection.settings }
+    ensures server_tells { result.server.tells ≡ server.connection.tells }
     ensures played { result.want ≡ false → IsPlayed client.connection.settings
         server.connection.settings script.now.lines result.client.entries result.server.entries }
 {
@@ -117,7 +121,9 @@ fn share_and_play<T: Tape + Drop + Send, R: Threads + Wait + Sync>(
     requires server_checked { IsChecked server.settings }
     requires server_fresh { server.entries ≡ [] }
     ensures client_settings { result.client.settings ≡ client.connection.settings }
+    ensures client_tells { result.client.tells ≡ client.connection.tells }
     ensures server_settings { result.server.settings ≡ server.settings }
+    ensures server_tells { result.server.tells ≡ server.tells }
     ensures played { result.want ≡ false → IsPlayed client.connection.settings server.settings
         script.now.lines result.client.entries result.server.entries }
 {
@@ -146,7 +152,9 @@ fn play_by_threads<T: Tape + Drop + Send, R: Threads + Wait + Sync>(
     requires client_fresh { client.entries ≡ [] }
     requires server_fresh { server.entries ≡ [] }
     ensures client_settings { result.client.settings ≡ client.settings }
+    ensures client_tells { result.client.tells ≡ client.tells }
     ensures server_settings { result.server.settings ≡ server.settings }
+    ensures server_tells { result.server.tells ≡ server.tells }
     ensures played { result.want ≡ false → IsPlayed client.settings server.settings
         script.now.lines result.client.entries result.server.entries }
 {

@@ -32,7 +32,8 @@ fn split_off<T: Tape + Drop, R: Wait>(
     requires { first ≡ first_member connection }
     ensures connection { IfOk result (λ e. e.connection ≡ connection) }
     ensures shared { IfOk result (λ e. AreShared connection e.carrier e.asker) }
-    ensures kept { IfErr result (λ s. (s.entries ≡ []) × (s.settings ≡ connection.settings)) }
+    ensures kept { IfErr result (λ s. (s.entries ≡ []) × (s.settings ≡ connection.settings)
+        × (s.tells ≡ connection.tells)) }
 {
     let mut carrier = first;
     match connection.split(rt, &mut carrier) {
@@ -53,8 +54,10 @@ pub(crate) fn share<T: Tape + Drop, R: Wait>(
 ) -> Result<End<T>, Session<T>>
     requires { session.entries ≡ [] }
     ensures settings { IfOk result (λ e. e.connection.settings ≡ session.settings) }
+    ensures tells { IfOk result (λ e. e.connection.tells ≡ session.tells) }
     ensures shared { IfOk result (λ e. AreShared e.connection e.carrier e.asker) }
-    ensures kept { IfErr result (λ s. (s.entries ≡ []) × (s.settings ≡ session.settings)) }
+    ensures kept { IfErr result (λ s. (s.entries ≡ []) × (s.settings ≡ session.settings)
+        × (s.tells ≡ session.tells)) }
 {
     match Connection::new(alloc, session) {
         Ok((connection, first)) => split_off(rt, connection, first),

@@ -19,6 +19,7 @@ pub fn close<T: Tape + Drop>(connection: Connection<T>, caller: Caller<T>) -> Se
     requires all { caller.parts ≡ all_parts }
     ensures entries { result.entries ≡ caller.front }
     ensures settings { result.settings ≡ connection.settings }
+    ensures tells { result.tells ≡ connection.tells }
 
     // Each entry carries one of the caller's names.
     ensures named { (x : ℕ) → times x caller.names ≡ 0 → calls who_of x caller.front ≡ 0 }
@@ -41,6 +42,7 @@ pub fn unshare<T: Tape + Drop>(
     requires all { caller.parts + other.parts ≡ all_parts }
     ensures entries { result.entries ≡ longer caller.front other.front }
     ensures settings { result.settings ≡ connection.settings }
+    ensures tells { result.tells ≡ connection.tells }
 {
     let mut caller = caller;
     connection.join(&mut caller, other);
@@ -63,8 +65,10 @@ pub fn shut<T: Tape + Drop>(
     requires down { IsPair far.out near.from }
     ensures client_entries { result.0.entries ≡ near.caller.front }
     ensures client_settings { result.0.settings ≡ client.settings }
+    ensures client_tells { result.0.tells ≡ client.tells }
     ensures server_entries { result.1.entries ≡ far.caller.front }
     ensures server_settings { result.1.settings ≡ server.settings }
+    ensures server_tells { result.1.tells ≡ server.tells }
 
     // Each entry carries one of its caller's names.
     ensures client_named { (x : ℕ) → times x near.caller.names ≡ 0 →

@@ -1,9 +1,8 @@
 -- A script that is played by threads over a shelf of tapes. Entries stand newest first.
-use Rattle.std.specs.Prelude.{◌≡◌, Bool, ℕ, List, [], ◌∷◌, ◌++◌, Option}
-use Rattle.rs_wire.specs.declared.settings.Settings.{Settings}
+use Rattle.std.specs.Prelude.{◌≡◌, ℕ, List, [], ◌∷◌, ◌++◌, Option, is_some}
 use Rattle.rs_wire.specs.declared.words.Side.TheVariants.{Client, Server}
 use Rattle.tape.specs.declared.entry.Entry.{Entry}
-use Rattle.session_core.specs.Seen.{Seen, told_by}
+use Rattle.session_core.specs.Seen.{told_by}
 use Rattle.session_model.specs.Lists.{IsPrefix}
 use Rattle.session_model.specs.Frames.{made, handled}
 use Rattle.session_laws.specs.Ends.{AreEnds}
@@ -14,7 +13,7 @@ use Rattle.cable_script.specs.Setting.{settings_by}
 use Rattle.cable_script.specs.Scripted.{Scripted}
 use Rattle.cable.specs.Played.{Sides}
 use Rattle.cable.specs.Report.{report_of}
-use Rattle.cable.specs.Shelves.{IsOfSession, sides_by}
+use Rattle.cable.specs.Shelves.{end_of, sides_by}
 use Rattle.threaded.specs.Ran.{AreJoined, IsPlayed}
 
 -- the two ends of a run of these lines under these settings: they were played by threads, or line by line; each list is a session's
@@ -31,33 +30,11 @@ pub record EndsByThreads (s : Sides) (lines : List Line) (client server : List E
   pub client_accuses_nobody : AccusesNobody client
   pub server_accuses_nobody : AccusesNobody server
 
--- an end with these settings and these entries, over a tape that tells them or does not; its spare is left out
-abbrev pub end_telling : Settings → Bool → List Entry → Seen
-end_telling g tells entries = record { settings = g; entries = entries; tells = tells; spare = 0 }
-
 -- the text is the report of a run of this script by threads, and the shelf has got back the tapes of just this client and this
--- server; whether each of the two tells its entries is left open, and where it tells none the report has its line of counts alone
-pub record ReportsByThreads (script : Scripted) (shelf shelf' : List (Option (List Entry))) (text : List ℕ) : Type 0 where
+-- server: of tapes that tell nothing there are the two lines of counts
+pub record ReportsByThreads (script : Scripted) (fresh : Option (List Entry)) (shelf shelf' : List (Option (List Entry))) (text : List ℕ) : Type 0 where
   pub client : List Entry
   pub server : List Entry
   pub ends : EndsByThreads (sides_by script.settings) script.lines client server
-  pub client_tells : Bool
-  pub server_tells : Bool
-  pub put_back : shelf' ≡ shelf ++ told_by client_tells client ∷ told_by server_tells server ∷ []
-  pub reported : text ≡ report_of (end_telling (settings_by Client script.settings) client_tells client) (end_telling (settings_by Server script.settings) server_tells server)
-
--- a tape of a session under these settings shows this: the entries of the session, or nothing
-abbrev pub IsOfSome : Settings → Option (List Entry) → Type 0
-IsOfSome g tape = (tells : Bool) × IsOfSession g tells tape
-
--- each of these tapes is of a session under the settings in its place; the last ones may be missing
-abbrev pub AreOfSome : List Settings → List (Option (List Entry)) → Type 0
-AreOfSome settings [] = Unit {0}
-AreOfSome [] (tape ∷ tapes) = ⊥
-AreOfSome (g ∷ settings) (tape ∷ tapes) = IsOfSome g tape × AreOfSome settings tapes
-
--- a shelf got back the tapes of a client and of a server under these settings, in this order: both, the client's, or none
-pub record GotSomeTapes (s : Sides) (shelf shelf' : List (Option (List Entry))) : Type 0 where
-  pub tapes : List (Option (List Entry))
-  pub of_sessions : AreOfSome (s.client ∷ s.server ∷ []) tapes
-  pub back : shelf' ≡ shelf ++ tapes
+  pub put_back : shelf' ≡ shelf ++ told_by (is_some fresh) client ∷ told_by (is_some fresh) server ∷ []
+  pub reported : text ≡ report_of (end_of (settings_by Client script.settings) fresh client) (end_of (settings_by Server script.settings) fresh server)

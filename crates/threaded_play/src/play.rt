@@ -1,8 +1,8 @@
 //! The play of a script by threads.
 
 ghost use Rattle.std.specs.Prelude.{◌≡◌, IfOk};
-ghost use Rattle.cable.specs.Shelves.{sides_by};
-ghost use Rattle.threaded_play.specs.Reports.{GotSomeTapes, ReportsByThreads};
+ghost use Rattle.cable.specs.Shelves.{GotTapes, sides_by};
+ghost use Rattle.threaded_play.specs.Reports.{ReportsByThreads};
 
 use cable::{Ran, both_ends, report_of};
 use cable_script::Script;
@@ -27,9 +27,9 @@ pub fn play_by_threads<H: Shelf, R: Threads + Wait + Sync>(
 where
     H::Tape: Drop + Send,
     ensures reports { IfOk result (λ text.
-        ReportsByThreads script.now (H.back shelf.old) (H.back shelf.new) text.items) }
+        ReportsByThreads script.now H.fresh (H.back shelf.old) (H.back shelf.new) text.items) }
     ensures lent { H.lent shelf.new ≡ H.lent shelf.old }
-    ensures got { GotSomeTapes (sides_by script.now.settings)
+    ensures got { GotTapes (sides_by script.now.settings) H.fresh
         (H.back shelf.old) (H.back shelf.new) }
 {
     let (client, server) = both_ends(alloc, script, shelf)?;

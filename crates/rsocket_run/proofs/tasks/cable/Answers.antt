@@ -14,8 +14,8 @@ returns-clause-done g c = λ text is.
 
 pub returns-in_err-out-clause-back : goal.returns-in_err-out-clause-back
 returns-in_err-out-clause-back g c =
-    inr (got_ends c.args.threads (g.I.Source.shown c.args.input.now) _ _ _ _ _ _ _ c.in_ok-text.ensures.whole c.deref.ensures.value c.in_ok-script.ensures.ok c.in_err-out.ensures.got, search rules)
+    inr (got_ends (g.I.Source.shown c.args.input.now) _ _ _ _ _ _ _ c.in_ok-text.ensures.whole c.deref.ensures.value c.in_ok-script.ensures.ok c.in_err-out.ensures.got, search rules)
 
 pub returns-clause-back : goal.returns-clause-back
 returns-clause-back g c =
-    inr (got_ends c.args.threads (g.I.Source.shown c.args.input.now) _ _ _ _ _ _ _ c.in_ok-text.ensures.whole c.deref.ensures.value c.in_ok-script.ensures.ok c.in_ok-out.ensures.got, tt)
+    inr (got_ends (g.I.Source.shown c.args.input.now) _ _ _ _ _ _ _ c.in_ok-text.ensures.whole c.deref.ensures.value c.in_ok-script.ensures.ok c.in_ok-out.ensures.got, tt)

@@ -1,8 +1,7 @@
-use Rattle.std.proofs.Common.{refl, subst}
+use Rattle.std.proofs.Common.{subst}
 use Rattle.cable.specs.Played.{Sides}
-use Rattle.cable.proofs.OverShelf.{at_ok, got_both, if_ok, ok_is, side_is, sides_are}
+use Rattle.cable.proofs.OverShelf.{at_ok, got_both, if_ok, ok_is, report_is, session_tape, side_is, sides_are, told_of, two_tapes, went_on}
 use Rattle.threaded_play.specs.Reports.{EndsByThreads}
-use Rattle.threaded_play.proofs.Telling.{report_is, session_tape, some_tapes, two_tapes, went_on}
 use Rattle.threaded_play.proofs.play.play_by_threads.Goals as goal
 
 pub threaded-ran-requires-clause-client_side : goal.threaded-ran-requires-clause-client_side
@@ -40,16 +39,13 @@ returns-clause-reports g c = at_ok c.report_of-text.result _ (λ text is.
         client_accuses_nobody = ran.ensures.client_accuses_nobody went;
         server_accuses_nobody = ran.ensures.server_accuses_nobody went;
       });
-      client_tells = ran.result.client.tells;
-      server_tells = ran.result.server.tells;
-      put_back = got_both _ _ _ _ _ _ _ _ c.in_ok-client.ensures.back c.put_back.ensures.back c.put_back-2.ensures.back c.into_tape.ensures.told c.into_tape-2.ensures.told;
-      reported = report_is _ _ _ _ _ client server (if_ok _ _ _ is c.report_of-text.ensures.reported);
+      put_back = got_both _ _ _ _ _ _ _ _ c.in_ok-client.ensures.back c.put_back.ensures.back c.put_back-2.ensures.back
+          (told_of _ _ _ _ _ c.in_ok-client.ensures.client ran.ensures.client c.into_tape.ensures.told)
+          (told_of _ _ _ _ _ c.in_ok-client.ensures.server ran.ensures.server c.into_tape-2.ensures.told);
+      reported = report_is _ _ _ _ _ _ client server (if_ok _ _ _ is c.report_of-text.ensures.reported);
     })
 
 pub returns-clause-got : goal.returns-clause-got
-returns-clause-got g c = two_tapes _ _ _ _ _ (got_both _ _ _ _ _ _ _ _ c.in_ok-client.ensures.back c.put_back.ensures.back c.put_back-2.ensures.back refl refl)
-    (session_tape _ _ _ c.threaded-ran.result.client _ c.in_ok-client.ensures.client c.into_tape.ensures.told c.threaded-ran.ensures.client_legal c.threaded-ran.ensures.client_fair)
-    (session_tape _ _ _ c.threaded-ran.result.server _ c.in_ok-client.ensures.server c.into_tape-2.ensures.told c.threaded-ran.ensures.server_legal c.threaded-ran.ensures.server_fair)
-
-pub returns-in_err-client-clause-got : goal.returns-in_err-client-clause-got
-returns-in_err-client-clause-got g c = some_tapes _ _ _ _ c.in_err-client.ensures.got
+returns-clause-got g c = two_tapes _ _ _ _ _ _ _ _ c.in_ok-client.ensures.back c.put_back.ensures.back c.put_back-2.ensures.back
+    (session_tape _ _ _ _ _ c.in_ok-client.ensures.client c.threaded-ran.ensures.client c.into_tape.ensures.told c.threaded-ran.ensures.client_legal c.threaded-ran.ensures.client_fair)
+    (session_tape _ _ _ _ _ c.in_ok-client.ensures.server c.threaded-ran.ensures.server c.into_tape-2.ensures.told c.threaded-ran.ensures.server_legal c.threaded-ran.ensures.server_fair)
