@@ -16,6 +16,7 @@
 
 mod attending;
 mod first;
+mod host;
 mod lost;
 mod one_link;
 mod opening;

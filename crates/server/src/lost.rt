@@ -5,91 +5,94 @@ ghost use Rattle.session_model.specs.Life.{live};
 ghost use Rattle.tape.specs.declared.event.Event.TheVariants as events;
 ghost use Rattle.conn_shared.specs.Calls.{IsCalled};
 ghost use Rattle.conn_shared.specs.Members.{Follows};
-ghost use Rattle.server.specs.Lost.{IsNotedAs, IsNotedIf};
+ghost use Rattle.server.specs.Lost.{IsNotedAs, IsNotedIf, is_parted};
 
-use conn::{Caller, Connection};
+use crate::host::{Begun, Host};
+use conn::Caller;
+use handlers::Handler;
 use outside::Clock;
 use session_table::Sessions;
-use std::sync::{Mutex, Wait};
+use std::sync::Wait;
 use tape::{Answer, Event, Tape};
 
-// Cuts the connection, and notes that its session has none.
-fn cut_in<R: Wait, K: Clock, T: Tape>(
-    rt: &R,
-    clock: &K,
-    sessions: &mut Sessions,
-    slot: u32,
-    connection: &Connection<T>,
-    caller: &mut Caller<T>,
-    conn: u64,
-) -> Answer
-    requires of { caller.old.of ≡ connection.now }
-    ensures same { caller.new ≡ record caller.old { front = caller.new.front; note = None } }
-    ensures called { IsCalled connection.now.settings caller.old (events.Cut conn) result
-        caller.new.front }
-    // The table is told where the connection is parted.
-    ensures noted { IsNotedAs (K.moments clock.now) slot result sessions.old sessions.new }
+// Whether a cut that was so answered parted the connection.
+fn is_parted(answer: &Answer) -> bool
+    ensures { result ≡ is_parted answer.now }
 {
-    let answer = connection.event(rt, caller, &Event::Cut { conn });
-    if answer == Answer::Parted {
-        sessions.parted(slot, clock.now());
+    matches!(answer, Answer::Parted)
+}
+
+// Cuts the connection, and notes that its session has none.
+fn cut_in<R: Wait, T: Tape, K: Clock, F: Handler>(
+    rt: &R,
+    host: &Host<'_, T, K, F>,
+    begun: &Begun<'_, T>,
+    sessions: &mut Sessions,
+    caller: &mut Caller<T>,
+) -> Answer
+    requires of { caller.old.of ≡ begun.now.connection.now }
+    ensures same { caller.new ≡ record caller.old { front = caller.new.front; note = None } }
+    ensures called { IsCalled begun.now.connection.now.settings caller.old
+        (events.Cut begun.now.conn) result caller.new.front }
+    // The table is told where the connection is parted.
+    ensures noted { IsNotedAs (K.moments host.now.clock.now) begun.now.at result sessions.old
+        sessions.new }
+{
+    let event = Event::Cut { conn: begun.conn };
+    let answer = begun.connection.bring(rt, caller, event);
+    if is_parted(&answer) {
+        sessions.parted(begun.at, host.clock.now());
     }
     answer
 }
 
 /// Cuts the connection.
-pub(crate) fn cut<R: Wait, K: Clock, T: Tape>(
+pub(crate) fn cut<R: Wait, T: Tape, K: Clock, F: Handler>(
     rt: &R,
-    clock: &K,
-    table: &Mutex<Sessions>,
-    slot: u32,
-    connection: &Connection<T>,
+    host: &Host<'_, T, K, F>,
+    begun: &Begun<'_, T>,
     caller: &mut Caller<T>,
-    conn: u64,
 ) -> Answer
-    requires of { caller.old.of ≡ connection.now }
+    requires of { caller.old.of ≡ begun.now.connection.now }
     ensures same { caller.new ≡ record caller.old { front = caller.new.front; note = None } }
-    ensures called { IsCalled connection.now.settings caller.old (events.Cut conn) result
-        caller.new.front }
+    ensures called { IsCalled begun.now.connection.now.settings caller.old
+        (events.Cut begun.now.conn) result caller.new.front }
 {
-    let mut sessions = table.lock(rt);
-    cut_in(rt, clock, &mut sessions, slot, connection, caller, conn)
+    let mut sessions = host.table.lock(rt);
+    cut_in(rt, host, begun, &mut sessions, caller)
 }
 
 // Notes that the session has no connection, where it has none.
-fn note_in<R: Wait, K: Clock, T: Tape>(
+fn note_in<R: Wait, T: Tape, K: Clock, F: Handler>(
     rt: &R,
-    clock: &K,
+    host: &Host<'_, T, K, F>,
+    begun: &Begun<'_, T>,
     sessions: &mut Sessions,
-    slot: u32,
-    connection: &Connection<T>,
     caller: &mut Caller<T>,
 )
-    requires of { caller.old.of ≡ connection.now }
+    requires of { caller.old.of ≡ begun.now.connection.now }
     ensures same { caller.new ≡ record caller.old { front = caller.new.front; note = None } }
     ensures follows { Follows caller.old.names caller.old.front caller.new.front }
     // The table is told where there is no live connection.
-    ensures noted { IsNotedIf (K.moments clock.now) slot (live caller.new.front == 0)
-        sessions.old sessions.new }
+    ensures noted { IsNotedIf (K.moments host.now.clock.now) begun.now.at
+        (live caller.new.front == 0) sessions.old sessions.new }
 {
-    if connection.look(rt, caller).live == 0 {
-        sessions.parted(slot, clock.now());
+    if begun.connection.look(rt, caller).live == 0 {
+        sessions.parted(begun.at, host.clock.now());
     }
 }
 
 /// The peer counted as dead.
-pub(crate) fn note_dead<R: Wait, K: Clock, T: Tape>(
+pub(crate) fn note_dead<R: Wait, T: Tape, K: Clock, F: Handler>(
     rt: &R,
-    clock: &K,
-    table: &Mutex<Sessions>,
-    slot: u32,
-    connection: &Connection<T>,
+    host: &Host<'_, T, K, F>,
+    begun: &Begun<'_, T>,
     caller: &mut Caller<T>,
 )
-    requires of { caller.old.of ≡ connection.now }
+    requires of { caller.old.of ≡ begun.now.connection.now }
     ensures same { caller.new ≡ record caller.old { front = caller.new.front; note = None } }
     ensures follows { Follows caller.old.names caller.old.front caller.new.front }
 {
-    let mut sessions = table.lock(rt);
-    note_in(rt, clock, &mut sessions, slot, connection, caller);
+    let mut sessions = host.table.lock(rt);
+    note_in(rt, host, begun, &mut sessions, caller);
 }

@@ -15,17 +15,16 @@ ghost use Rattle.server.specs.Attending.{AreFewTicks, AreRoutedIn, IsCut, KeepsW
 ghost use Rattle.server.specs.Running.{AttendsSo, EndedFor, Leases, Ran, ended_by};
 
 use crate::attending::attend;
+use crate::host::{Begun, Host};
 use crate::lost::{cut, note_dead};
 use conn::{Caller, Connection};
-use handlers::{Handler, Routes};
+use handlers::Handler;
 use outside::{Clock, Link};
 use pump::{Pump, Turned};
 use rs_chunk::Reader;
 use rs_wire::{Amount, Call};
-use session_table::Sessions;
-use std::alloc::Global;
-use std::sync::{Mutex, Wait};
-use tape::{Answer, Tape};
+use std::sync::Wait;
+use tape::{Answer, Event, Tape};
 use workers::Work;
 
 /// How long a lease lasts that a server grants after an opening, in milliseconds.
@@ -57,56 +56,50 @@ fn grant_lease<R: Wait, T: Tape>(
 {
     let count = grant?;
     let ttl = Amount::of(LEASE_MS)?;
-    let answer = connection.call(
-        rt,
-        caller,
-        &Call::Lease {
-            ttl,
-            count,
-            metadata: None,
-        },
-    );
-    ended_by(&answer)
+    let lease = Call::Lease {
+        ttl,
+        count,
+        metadata: None,
+    };
+    let answer = connection.bring(rt, caller, Event::Asked(lease));
+    let ended = ended_by(&answer);
+    drop(answer);
+    ended
 }
 
 // Grants, and moves bytes until the link or the session ends.
-fn run<R: Wait, L: Link, K: Clock, T: Tape, F: Handler>(
+fn run<R: Wait, L: Link, T: Tape, K: Clock, F: Handler>(
     rt: &R,
-    alloc: Global,
-    link: &mut L,
-    clock: &K,
-    connection: &Connection<T>,
+    host: &Host<'_, T, K, F>,
+    begun: &Begun<'_, T>,
     caller: &mut Caller<T>,
-    conn: u64,
+    link: &mut L,
     reader: Reader,
-    routes: &Routes<F>,
-    grant: Option<Amount>,
     jobs: &mut Option<Work>,
 ) -> Turned
-    requires of { caller.old.of ≡ connection.now }
-    requires limit { reader.max_in ≡ connection.now.settings.max_in }
+    requires of { caller.old.of ≡ begun.now.connection.now }
+    requires limit { reader.max_in ≡ begun.now.connection.now.settings.max_in }
     requires short { reader.max_in < 2 ^ 24 }
-    requires routed { AreRoutedIn routes.now jobs.old }
-    requires fresh { IsFresh connection.now.settings caller.old.front (L.shown link.old) conn
-        reader.bytes }
+    requires routed { AreRoutedIn host.now.routes.now jobs.old }
+    requires fresh { IsFresh begun.now.connection.now.settings caller.old.front (L.shown link.old)
+        begun.now.conn reader.bytes }
     ensures same { caller.new ≡
         record caller.old { front = caller.new.front; note = caller.new.note } }
-    ensures ran { Ran connection.now.settings (K.moments clock.now) (is_some jobs.old) grant
-        caller.old caller.new (L.shown link.old) (L.shown link.new) conn result }
+    ensures ran { Ran begun.now.connection.now.settings (K.moments host.now.clock.now)
+        (is_some jobs.old) host.now.grant caller.old caller.new (L.shown link.old)
+        (L.shown link.new) begun.now.conn result }
     ensures taken { HasGrown (L.shown link.old).taken (L.shown link.new).taken }
-    ensures work { KeepsWork caller.old.names routes.now caller.old.front caller.new.front jobs.old
-        jobs.new }
-    ensures routed { AreRoutedIn routes.now jobs.new }
+    ensures work { KeepsWork caller.old.names host.now.routes.now caller.old.front caller.new.front
+        jobs.old jobs.new }
+    ensures routed { AreRoutedIn host.now.routes.now jobs.new }
     ensures counted { NoneFell (L.shown link.old).counts (L.shown link.new).counts }
 {
-    if let Some(turned) = grant_lease(rt, connection, caller, grant) {
+    if let Some(turned) = grant_lease(rt, begun.connection, caller, host.grant) {
         return turned;
     }
-    link.hear(rt, connection.bell());
-    match Pump::new(alloc, conn, reader) {
-        Ok(mut pump) => attend(
-            rt, alloc, &mut pump, connection, caller, link, clock, routes, jobs,
-        ),
+    link.hear(rt, begun.connection.bell());
+    match Pump::new(host.alloc, begun.conn, reader) {
+        Ok(mut pump) => attend(rt, host, begun.connection, caller, link, &mut pump, jobs),
         Err(_) => Turned::OutOfMemory,
     }
 }
@@ -123,29 +116,28 @@ fn after_cut(answer: &Answer, turned: Turned) -> Turned
 }
 
 // Ends the connection, which came to this.
-fn finish<R: Wait, K: Clock, T: Tape>(
+fn finish<R: Wait, T: Tape, K: Clock, F: Handler>(
     rt: &R,
-    clock: &K,
-    table: &Mutex<Sessions>,
-    slot: u32,
-    connection: &Connection<T>,
+    host: &Host<'_, T, K, F>,
+    begun: &Begun<'_, T>,
     caller: &mut Caller<T>,
-    conn: u64,
     turned: Turned,
 ) -> Turned
-    requires of { caller.old.of ≡ connection.now }
+    requires of { caller.old.of ≡ begun.now.connection.now }
     ensures same { caller.new ≡
         record caller.old { front = caller.new.front; note = caller.new.note } }
-    ensures goes { GoesOn (IsCut conn) caller.old caller.new.front }
+    ensures goes { GoesOn (IsCut begun.now.conn) caller.old caller.new.front }
     ensures result { result ≢ Turned.OutOfMemory → result ≡ turned }
     ensures want { turned ≡ Turned.OutOfMemory → result ≡ Turned.OutOfMemory }
 {
     if let Turned::Dead(_) = turned {
-        note_dead(rt, clock, table, slot, connection, caller);
+        note_dead(rt, host, begun, caller);
         return turned;
     }
-    let answer = cut(rt, clock, table, slot, connection, caller, conn);
-    after_cut(&answer, turned)
+    let answer = cut(rt, host, begun, caller);
+    let ended = after_cut(&answer, turned);
+    drop(answer);
+    ended
 }
 
 /// Serves a link whose connection this caller just opened, to its end: it grants the requests, moves
@@ -153,59 +145,52 @@ fn finish<R: Wait, K: Clock, T: Tape>(
 /// whose peer counts as dead is not cut. The table notes since when the session has no connection.
 /// It answers what its pump came to, or `OutOfMemory` where the lease, the pump or the cut found
 /// none.
-pub(crate) fn serve_opened<R: Wait, L: Link, K: Clock, T: Tape, F: Handler>(
+pub(crate) fn serve_opened<R: Wait, L: Link, T: Tape, K: Clock, F: Handler>(
     rt: &R,
-    alloc: Global,
-    link: &mut L,
-    clock: &K,
-    table: &Mutex<Sessions>,
-    slot: u32,
-    connection: &Connection<T>,
+    host: &Host<'_, T, K, F>,
+    begun: &Begun<'_, T>,
     caller: &mut Caller<T>,
-    conn: u64,
+    link: &mut L,
     reader: Reader,
-    routes: &Routes<F>,
-    grant: Option<Amount>,
     jobs: &mut Option<Work>,
 ) -> Turned
-    requires of { caller.old.of ≡ connection.now }
-    requires limit { reader.max_in ≡ connection.now.settings.max_in }
+    requires of { caller.old.of ≡ begun.now.connection.now }
+    requires limit { reader.max_in ≡ begun.now.connection.now.settings.max_in }
     requires short { reader.max_in < 2 ^ 24 }
-    requires routed { AreRoutedIn routes.now jobs.old }
-    requires fresh { IsFresh connection.now.settings caller.old.front (L.shown link.old) conn
-        reader.bytes }
+    requires routed { AreRoutedIn host.now.routes.now jobs.old }
+    requires fresh { IsFresh begun.now.connection.now.settings caller.old.front (L.shown link.old)
+        begun.now.conn reader.bytes }
     ensures same { caller.new ≡
         record caller.old { front = caller.new.front; note = caller.new.note } }
-    ensures legal { Legal connection.now.settings caller.new.front }
+    ensures legal { Legal begun.now.connection.now.settings caller.new.front }
 
     // The lease, what attends the connection, and its cut.
-    ensures attends { AttendsSo connection.now.settings (K.moments clock.now) (is_some jobs.old)
-        grant conn caller.old caller.new.front result }
+    ensures attends { AttendsSo begun.now.connection.now.settings (K.moments host.now.clock.now)
+        (is_some jobs.old) host.now.grant begun.now.conn caller.old caller.new.front result }
 
     // Its link is carried, if its caller alone moves bytes of it.
-    ensures carried { IsAlone conn caller.new.number caller.new.front →
-        Carried connection.now.settings caller.new.front (L.shown link.new) conn }
+    ensures carried { IsAlone begun.now.conn caller.new.number caller.new.front →
+        Carried begun.now.connection.now.settings caller.new.front (L.shown link.new)
+        begun.now.conn }
 
     // Its link may be left, if this caller alone also ends the connection.
     ensures left { (first : Head) →
-        IsJustOpened connection.now.settings caller.old.front conn first →
-        IsHeld conn caller.new.number caller.new.front → result ≢ Turned.OutOfMemory →
-        Left connection.now.settings caller.new.front (L.shown link.new) conn }
-    ensures cause { EndedFor connection.now.settings (K.moments clock.now) conn caller.old
-        caller.new.front (L.shown link.new) result }
-    ensures ticks { IsAlone conn caller.new.number caller.new.front → (more : List Entry) →
-        caller.new.front ≡ more ++ caller.old.front →
+        IsJustOpened begun.now.connection.now.settings caller.old.front begun.now.conn first →
+        IsHeld begun.now.conn caller.new.number caller.new.front → result ≢ Turned.OutOfMemory →
+        Left begun.now.connection.now.settings caller.new.front (L.shown link.new) begun.now.conn }
+    ensures cause { EndedFor begun.now.connection.now.settings (K.moments host.now.clock.now)
+        begun.now.conn caller.old caller.new.front (L.shown link.new) result }
+    ensures ticks { IsAlone begun.now.conn caller.new.number caller.new.front →
+        (more : List Entry) → caller.new.front ≡ more ++ caller.old.front →
         AreFewTicks caller.new.names more (L.shown link.new) }
     ensures taken { HasGrown (L.shown link.old).taken (L.shown link.new).taken }
-    ensures work { KeepsWork caller.old.names routes.now caller.old.front caller.new.front jobs.old
-        jobs.new }
-    ensures routed { AreRoutedIn routes.now jobs.new }
+    ensures work { KeepsWork caller.old.names host.now.routes.now caller.old.front caller.new.front
+        jobs.old jobs.new }
+    ensures routed { AreRoutedIn host.now.routes.now jobs.new }
     ensures counted { NoneFell (L.shown link.old).counts (L.shown link.new).counts }
 {
-    let turned = run(
-        rt, alloc, link, clock, connection, caller, conn, reader, routes, grant, jobs,
-    );
-    let turned = finish(rt, clock, table, slot, connection, caller, conn, turned);
+    let turned = run(rt, host, begun, caller, link, reader, jobs);
+    let turned = finish(rt, host, begun, caller, turned);
     caller.number();
     caller.legal();
     turned

@@ -9,17 +9,19 @@ ghost use Rattle.server.specs.Opening.{IsHeldAt, NotesAs, OpensAt, StayBeside, T
 ghost use Rattle.server.specs.Opening.{is_dead, is_last, is_opened, or_slot, place_in, wish_of};
 ghost use Rattle.server.specs.declared.opening.Wish.TheVariants as wishes;
 
+use crate::host::Host;
 use conn::{Caller, Connection};
+use handlers::Handler;
 use outside::Clock;
 use rs_frame::Frame;
-use rs_wire::{Blob, Checked, OutOfMemory};
+use rs_wire::{Blob, OutOfMemory};
 use session_table::Sessions;
 use std::alloc::Global;
-use std::sync::{Mutex, Wait};
+use std::sync::Wait;
 use tape::{Answer, Event, Tape};
 
 /// What a first frame asks for.
-#[derive(Debug, Drop)]
+#[derive(Drop)]
 pub(crate) enum Wish {
     /// A session that is not resumed.
     Begin,
@@ -45,7 +47,7 @@ pub(crate) fn wish_of(alloc: Global, first: &Frame) -> Result<Wish, OutOfMemory>
 
 /// An opening: at which slot, how it was answered, and whether the tick before it found the peer of
 /// that slot's live connection dead.
-#[derive(Debug, Drop)]
+#[derive(Drop)]
 pub(crate) struct Opening {
     pub(crate) slot: u32,
     pub(crate) answer: Answer,
@@ -65,7 +67,7 @@ fn tick<R: Wait, K: Clock, T: Tape>(
         caller.new.front }
 {
     let now = clock.now();
-    connection.event(rt, caller, &Event::Tick { now })
+    connection.bring(rt, caller, Event::Tick { now })
 }
 
 // Whether nothing more is asked of a session that answered so.
@@ -108,12 +110,14 @@ fn open_at<R: Wait, K: Clock, T: Tape>(
     let ticked = tick(rt, clock, connection, caller);
     let dead = is_dead(&ticked);
     if is_last(&ticked) {
+        drop(first);
         return Opening {
             slot,
             answer: ticked,
             dead,
         };
     }
+    drop(ticked);
     let event = Event::Open {
         first: Some(first),
         taken,
@@ -126,29 +130,28 @@ fn open_at<R: Wait, K: Clock, T: Tape>(
 }
 
 // Opens at the slot, by its caller.
-fn open_here<R: Wait, K: Clock, T: Tape>(
+fn open_here<R: Wait, T: Tape, K: Clock, F: Handler>(
     rt: &R,
-    clock: &K,
-    settings: &Checked,
-    slot: u32,
-    connections: &[Connection<T>],
+    host: &Host<'_, T, K, F>,
+    at: u32,
     callers: &mut [Caller<T>],
     first: Frame,
     taken: bool,
 ) -> Opening
-    requires place { slot < length connections.now }
-    requires of { AreOf settings.now connections.now callers.old }
-    requires server { settings.now.side ≡ Server }
+    requires place { at < length host.now.connections.now }
+    requires of { AreOf host.now.settings.now host.now.connections.now callers.old }
+    requires server { host.now.settings.now.side ≡ Server }
     requires spellable { IsSpellable first }
     ensures back { AreBack callers.old callers.new }
-    ensures tries { TriesAt settings.now (K.moments clock.now) slot callers.old callers.new first
-        taken result.answer result.dead }
-    ensures slot { result.slot ≡ slot }
+    ensures tries { TriesAt host.now.settings.now (K.moments host.now.clock.now) at callers.old
+        callers.new first taken result.answer result.dead }
+    ensures slot { result.slot ≡ at }
 {
-    let place = slot as usize;
+    let place = at as usize;
+    let connections = host.connections;
     let connection = &connections[place];
     let caller = &mut callers[place];
-    open_at(rt, clock, slot, connection, caller, first, taken)
+    open_at(rt, host.clock, at, connection, caller, first, taken)
 }
 
 // The slot of the session that has the token, where it is one of so many places.
@@ -164,35 +167,32 @@ fn place_of(sessions: &Sessions, token: &Blob, slots: usize) -> Option<u32>
 }
 
 // Opens the session of the token, and notes that it has a connection again, or that it has none.
-fn resume_in<R: Wait, K: Clock, T: Tape>(
+fn resume_in<R: Wait, T: Tape, K: Clock, F: Handler>(
     rt: &R,
-    clock: &K,
-    settings: &Checked,
+    host: &Host<'_, T, K, F>,
     sessions: &mut Sessions,
-    slot: u32,
-    connections: &[Connection<T>],
     callers: &mut [Caller<T>],
     first: Frame,
     token: &Blob,
 ) -> Opening
-    requires place { slot < length connections.now }
-    requires of { AreOf settings.now connections.now callers.old }
-    requires server { settings.now.side ≡ Server }
+    requires place { host.now.slot < length host.now.connections.now }
+    requires of { AreOf host.now.settings.now host.now.connections.now callers.old }
+    requires server { host.now.settings.now.side ≡ Server }
     requires spellable { IsSpellable first }
     requires asks { wish_of first ≡ wishes.Resume token.now }
     ensures back { AreBack callers.old callers.new }
-    ensures opens { OpensAt settings.now (K.moments clock.now) slot result.slot callers.old
-        callers.new first result.answer }
-    ensures place { result.slot < length connections.now }
+    ensures opens { OpensAt host.now.settings.now (K.moments host.now.clock.now) host.now.slot
+        result.slot callers.old callers.new first result.answer }
+    ensures place { result.slot < length host.now.connections.now }
     // It opens at the place that the table gives, and tells the table.
-    ensures at { result.slot ≡ or_slot slot
-        (place_in (length connections.now) (slot_of token.now sessions.old)) }
-    ensures noted { NotesAs (K.moments clock.now) result.slot (is_opened result.answer)
+    ensures at { result.slot ≡ or_slot host.now.slot
+        (place_in (length host.now.connections.now) (slot_of token.now sessions.old)) }
+    ensures noted { NotesAs (K.moments host.now.clock.now) result.slot (is_opened result.answer)
         result.dead sessions.old sessions.new }
 {
-    let at = place_of(sessions, token, connections.len()).unwrap_or(slot);
-    let opening = open_here(rt, clock, settings, at, connections, callers, first, false);
-    note_opening(clock, sessions, &opening);
+    let at = place_of(sessions, token, host.connections.len()).unwrap_or(host.slot);
+    let opening = open_here(rt, host, at, callers, first, false);
+    note_opening(host.clock, sessions, &opening);
     opening
 }
 
@@ -210,94 +210,82 @@ fn note_opening<K: Clock>(clock: &K, sessions: &mut Sessions, opening: &Opening)
 }
 
 // Whether the session at this place has the token.
-fn holds_at<R: Wait, T: Tape>(
+fn holds_at<R: Wait, T: Tape, K, F: Handler>(
     rt: &R,
-    settings: &Checked,
+    host: &Host<'_, T, K, F>,
     place: u32,
-    connections: &[Connection<T>],
     callers: &mut [Caller<T>],
     token: &Blob,
 ) -> bool
-    requires place { place < length connections.now }
-    requires of { AreOf settings.now connections.now callers.old }
+    requires place { place < length host.now.connections.now }
+    requires of { AreOf host.now.settings.now host.now.connections.now callers.old }
     ensures back { AreBack callers.old callers.new }
     ensures others { StayBeside place callers.old callers.new }
     ensures follow { FollowAll callers.old callers.new }
     ensures holds { IsTrue result ↔ HasTokenAt callers.new place token.now }
 {
     let place = place as usize;
+    let connections = host.connections;
     let connection = &connections[place];
     let caller = &mut callers[place];
     connection.holds(rt, caller, token)
 }
 
 // Whether a session at another slot has the token.
-fn is_taken<R: Wait, T: Tape>(
+fn is_taken<R: Wait, T: Tape, K, F: Handler>(
     rt: &R,
-    settings: &Checked,
+    host: &Host<'_, T, K, F>,
     found: Option<u32>,
-    slot: u32,
-    connections: &[Connection<T>],
     callers: &mut [Caller<T>],
     token: &Blob,
 ) -> bool
-    requires found { IfSome found (λ place. place < length connections.now) }
-    requires of { AreOf settings.now connections.now callers.old }
+    requires found { IfSome found (λ place. place < length host.now.connections.now) }
+    requires of { AreOf host.now.settings.now host.now.connections.now callers.old }
     ensures back { AreBack callers.old callers.new }
     ensures follow { FollowAll callers.old callers.new }
-    ensures here { slice_get callers.new slot ≡ slice_get callers.old slot }
-    ensures taken { IsTrue result ↔ IsHeldAt slot token.now callers.new found }
+    ensures here { slice_get callers.new host.now.slot ≡ slice_get callers.old host.now.slot }
+    ensures taken { IsTrue result ↔ IsHeldAt host.now.slot token.now callers.new found }
 {
     match found {
-        Some(place) if place != slot => {
-            holds_at(rt, settings, place, connections, callers, token)
-        }
+        Some(place) if place != host.slot => holds_at(rt, host, place, callers, token),
         _ => false,
     }
 }
 
 // Opens a session that may be resumed by the token, and adds it to the table. Where it answers that
 // there was not enough memory, nothing was asked.
-fn begin_in<R: Wait, K: Clock, T: Tape>(
+fn begin_in<R: Wait, T: Tape, K: Clock, F: Handler>(
     rt: &R,
-    clock: &K,
-    settings: &Checked,
+    host: &Host<'_, T, K, F>,
     sessions: &mut Sessions,
-    slot: u32,
-    connections: &[Connection<T>],
     callers: &mut [Caller<T>],
     first: Frame,
     token: Blob,
 ) -> Result<Opening, OutOfMemory>
-    requires place { slot < length connections.now }
-    requires of { AreOf settings.now connections.now callers.old }
-    requires server { settings.now.side ≡ Server }
+    requires place { host.now.slot < length host.now.connections.now }
+    requires of { AreOf host.now.settings.now host.now.connections.now callers.old }
+    requires server { host.now.settings.now.side ≡ Server }
     requires spellable { IsSpellable first }
     requires asks { wish_of first ≡ wishes.BeginAs token }
     ensures back { AreBack callers.old callers.new }
-    ensures begins { IfOk result (λ o. BeginsAt settings.now (K.moments clock.now) slot
-        (place_in (length connections.now) (slot_of token sessions.old)) token callers.old
-        callers.new first o.answer) }
-    ensures slot { IfOk result (λ o. o.slot ≡ slot) }
-    ensures added { IfOk result (λ o. AddsIf (is_opened o.answer) token slot sessions.old
-        sessions.new) }
+    ensures begins { IfOk result (λ o. BeginsAt host.now.settings.now
+        (K.moments host.now.clock.now) host.now.slot
+        (place_in (length host.now.connections.now) (slot_of token sessions.old)) token
+        callers.old callers.new first o.answer) }
+    ensures slot { IfOk result (λ o. o.slot ≡ host.now.slot) }
+    ensures added { IfOk result
+        (λ o. AddsIf (is_opened o.answer) token host.now.slot sessions.old sessions.new) }
     ensures nothing { OnErr result (callers.new ≡ callers.old) }
     ensures table { OnErr result (sessions.new ≡ sessions.old) }
 {
-    sessions.reserve()?;
-    let found = place_of(sessions, &token, connections.len());
-    let taken = is_taken(rt, settings, found, slot, connections, callers, &token);
-    let opening = open_here(
-        rt,
-        clock,
-        settings,
-        slot,
-        connections,
-        callers,
-        first,
-        taken,
-    );
-    add_if_opened(sessions, &opening.answer, token, slot);
+    if sessions.reserve().is_err() {
+        drop(first);
+        return Err(OutOfMemory);
+    }
+    let found = place_of(sessions, &token, host.connections.len());
+    let taken = is_taken(rt, host, found, callers, &token);
+    let opening = open_here(rt, host, host.slot, callers, first, taken);
+    add_if_opened(sessions, &opening.answer, token, host.slot);
     Ok(opening)
 }
 
@@ -313,68 +301,36 @@ fn add_if_opened(sessions: &mut Sessions, answer: &Answer, token: Blob, slot: u3
 
 /// Opens the session that the first frame asks for, once the table forgot those that parted so many
 /// milliseconds ago. Where it answers that there was not enough memory, nothing was asked.
-pub(crate) fn open<R: Wait, K: Clock, T: Tape>(
+pub(crate) fn open<R: Wait, T: Tape, K: Clock, F: Handler>(
     rt: &R,
-    clock: &K,
-    settings: &Checked,
-    table: &Mutex<Sessions>,
-    slot: u32,
-    connections: &[Connection<T>],
+    host: &Host<'_, T, K, F>,
     callers: &mut [Caller<T>],
     first: Frame,
     wish: Wish,
 ) -> Result<Opening, OutOfMemory>
-    requires place { slot < length connections.now }
-    requires of { AreOf settings.now connections.now callers.old }
-    requires server { settings.now.side ≡ Server }
+    requires place { host.now.slot < length host.now.connections.now }
+    requires of { AreOf host.now.settings.now host.now.connections.now callers.old }
+    requires server { host.now.settings.now.side ≡ Server }
     requires spellable { IsSpellable first }
     requires asks { wish ≡ wish_of first }
     ensures back { AreBack callers.old callers.new }
-    ensures opens { IfOk result (λ o. OpensAt settings.now (K.moments clock.now) slot o.slot
-        callers.old callers.new first o.answer) }
-    ensures place { IfOk result (λ o. o.slot < length connections.now) }
+    ensures opens { IfOk result (λ o. OpensAt host.now.settings.now
+        (K.moments host.now.clock.now) host.now.slot o.slot callers.old callers.new first
+        o.answer) }
+    ensures place { IfOk result (λ o. o.slot < length host.now.connections.now) }
     ensures nothing { OnErr result (callers.new ≡ callers.old) }
 {
-    let hold = settings.settings().session_hold_ms;
-    table.lock(rt).purge(clock.now(), hold);
+    let hold = host.settings.settings().session_hold_ms;
+    host.table.lock(rt).purge(host.clock.now(), hold);
     match wish {
-        Wish::Begin => Ok(open_here(
-            rt,
-            clock,
-            settings,
-            slot,
-            connections,
-            callers,
-            first,
-            false,
-        )),
+        Wish::Begin => Ok(open_here(rt, host, host.slot, callers, first, false)),
         Wish::BeginAs(token) => {
-            let mut sessions = table.lock(rt);
-            begin_in(
-                rt,
-                clock,
-                settings,
-                &mut sessions,
-                slot,
-                connections,
-                callers,
-                first,
-                token,
-            )
+            let mut sessions = host.table.lock(rt);
+            begin_in(rt, host, &mut sessions, callers, first, token)
         }
         Wish::Resume(token) => {
-            let mut sessions = table.lock(rt);
-            Ok(resume_in(
-                rt,
-                clock,
-                settings,
-                &mut sessions,
-                slot,
-                connections,
-                callers,
-                first,
-                &token,
-            ))
+            let mut sessions = host.table.lock(rt);
+            Ok(resume_in(rt, host, &mut sessions, callers, first, &token))
         }
     }
 }

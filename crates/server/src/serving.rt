@@ -13,6 +13,7 @@ ghost use Rattle.server.specs.Serving.{is_resume, may_resume, unbegun_by};
 ghost use Rattle.server.specs.declared.served.Served.TheVariants as served;
 
 use crate::first::{First, take_first};
+use crate::host::{Begun, Host};
 use crate::one_link::serve_opened;
 use crate::opening::{Wish, open, wish_of};
 use crate::refusing::{bad, refused};
@@ -31,44 +32,43 @@ use tape::{Answer, Tape};
 use workers::Work;
 
 // Serves a link whose connection the caller at this place just opened, to its end.
-fn serve_at<R: Wait, L: Link, K: Clock, T: Tape, F: Handler>(
+fn serve_at<R: Wait, L: Link, T: Tape, K: Clock, F: Handler>(
     rt: &R,
-    alloc: Global,
-    link: &mut L,
-    clock: &K,
+    host: &Host<'_, T, K, F>,
     at: u32,
-    connections: &[Connection<T>],
-    callers: &mut [Caller<T>],
-    table: &Mutex<Sessions>,
-    settings: &Checked,
     conn: u64,
+    callers: &mut [Caller<T>],
+    link: &mut L,
     reader: Reader,
-    routes: &Routes<F>,
-    grant: Option<Amount>,
     jobs: &mut Option<Work>,
 ) -> Turned
-    requires place { at < length connections.now }
-    requires of { AreOf settings.now connections.now callers.old }
-    requires server { settings.now.side ≡ Server }
-    requires limit { reader.max_in ≡ settings.now.max_in }
-    requires routed { AreRoutedIn routes.now jobs.old }
-    requires opened { OpenedAt settings.now.max_in at conn callers.old (L.shown link.old)
+    requires place { at < length host.now.connections.now }
+    requires of { AreOf host.now.settings.now host.now.connections.now callers.old }
+    requires server { host.now.settings.now.side ≡ Server }
+    requires limit { reader.max_in ≡ host.now.settings.now.max_in }
+    requires routed { AreRoutedIn host.now.routes.now jobs.old }
+    requires opened { OpenedAt host.now.settings.now.max_in at conn callers.old (L.shown link.old)
         reader.bytes }
     ensures back { AreBack callers.old callers.new }
-    ensures serves { ServesAt settings.now (K.moments clock.now) (is_some jobs.old) grant
-        routes.now jobs.old jobs.new at conn callers.old callers.new (L.shown link.new) result }
-    ensures routed { AreRoutedIn routes.now jobs.new }
+    ensures serves { ServesAt host.now.settings.now (K.moments host.now.clock.now)
+        (is_some jobs.old) host.now.grant host.now.routes.now jobs.old jobs.new at conn callers.old
+        callers.new (L.shown link.new) result }
+    ensures routed { AreRoutedIn host.now.routes.now jobs.new }
     ensures taken { HasGrown (L.shown link.old).taken (L.shown link.new).taken }
     ensures counted { NoneFell (L.shown link.old).counts (L.shown link.new).counts }
 {
-    settings.settings();
+    host.settings.settings();
     let place = at as usize;
+    let connections = host.connections;
     let connection = &connections[place];
     let caller = &mut callers[place];
     caller.legal();
-    serve_opened(
-        rt, alloc, link, clock, table, at, connection, caller, conn, reader, routes, grant, jobs,
-    )
+    let begun = Begun {
+        at,
+        connection,
+        conn,
+    };
+    serve_opened(rt, host, &begun, caller, link, reader, jobs)
 }
 
 // Serves a link whose first bytes are no whole frame.
@@ -100,74 +100,45 @@ fn is_resume(wish: &Wish) -> bool
 }
 
 // Serves a link by its first frame, which the reader has in front.
-fn serve_first<R: Wait, L: Link, K: Clock, T: Tape, F: Handler>(
+fn serve_first<R: Wait, L: Link, T: Tape, K: Clock, F: Handler>(
     rt: &R,
-    alloc: Global,
-    link: &mut L,
-    clock: &K,
-    slot: u32,
-    connections: &[Connection<T>],
+    host: &Host<'_, T, K, F>,
     callers: &mut [Caller<T>],
-    table: &Mutex<Sessions>,
-    settings: &Checked,
-    routes: &Routes<F>,
-    grant: Option<Amount>,
-    jobs: &mut Option<Work>,
+    link: &mut L,
     mut reader: Reader,
     frame: Frame,
+    jobs: &mut Option<Work>,
 ) -> (Served, Option<(u32, u64)>)
-    requires place { slot < length connections.now }
-    requires of { AreOf settings.now connections.now callers.old }
-    requires server { settings.now.side ≡ Server }
+    requires place { host.now.slot < length host.now.connections.now }
+    requires of { AreOf host.now.settings.now host.now.connections.now callers.old }
+    requires server { host.now.settings.now.side ≡ Server }
     requires idle { IfSome jobs.old (λ work. work ≡ []) }
-    requires limit { reader.max_in ≡ settings.now.max_in }
+    requires limit { reader.max_in ≡ host.now.settings.now.max_in }
     requires first { IsFirstOf frame reader.bytes reader.max_in (L.shown link.old) }
-    ensures serves { ServedSo settings.now (K.moments clock.now) (is_some jobs.old) grant slot routes.now
-        callers.old callers.new jobs.old jobs.new (L.shown link.new) result }
-    ensures routed { AreRoutedIn routes.now jobs.new }
+    ensures serves { ServedSo host.now.settings.now (K.moments host.now.clock.now)
+        (is_some jobs.old) host.now.grant host.now.slot host.now.routes.now callers.old callers.new
+        jobs.old jobs.new (L.shown link.new) result }
+    ensures routed { AreRoutedIn host.now.routes.now jobs.new }
     ensures counted { NoneFell (L.shown link.old).counts (L.shown link.new).counts }
 {
-    let Ok(wish) = wish_of(alloc, &frame) else {
+    let Ok(wish) = wish_of(host.alloc, &frame) else {
+        drop(frame);
         return (Served::OutOfMemory, None);
     };
     let resumes = may_resume(&wish);
     let resuming = is_resume(&wish);
     reader.pass();
-    let Ok(opening) = open(
-        rt,
-        clock,
-        settings,
-        table,
-        slot,
-        connections,
-        callers,
-        frame,
-        wish,
-    ) else {
+    let Ok(opening) = open(rt, host, callers, frame, wish) else {
         return (Served::OutOfMemory, None);
     };
     let at = opening.slot;
     match opening.answer {
         Answer::Opened(conn) => {
-            let turned = serve_at(
-                rt,
-                alloc,
-                link,
-                clock,
-                at,
-                connections,
-                callers,
-                table,
-                settings,
-                conn,
-                reader,
-                routes,
-                grant,
-                jobs,
-            );
+            drop(opening.answer);
+            let turned = serve_at(rt, host, at, conn, callers, link, reader, jobs);
             (served_by(turned, resumes), Some((at, conn)))
         }
-        answer => (refused(rt, alloc, link, resuming, answer), None),
+        answer => (refused(rt, host.alloc, link, resuming, answer), None),
     }
 }
 
@@ -225,24 +196,23 @@ pub fn serve_connection<R: Wait, L: Link, K: Clock, T: Tape, F: Handler>(
 {
     let most = settings.settings().max_in;
     let lifetime = settings.settings().lifetime_ms;
+    let host = Host {
+        alloc,
+        clock,
+        slot,
+        connections,
+        table,
+        settings,
+        routes,
+        grant,
+    };
     let mut reader = Reader::new(alloc, most);
     match take_first(rt, alloc, link, clock, &mut reader, lifetime) {
-        First::Frame(frame) => serve_first(
-            rt,
-            alloc,
-            link,
-            clock,
-            slot,
-            connections,
-            callers,
-            table,
-            settings,
-            routes,
-            grant,
-            jobs,
-            reader,
-            frame,
-        ),
-        first => (unbegun(rt, alloc, link, &first), None),
+        First::Frame(frame) => serve_first(rt, &host, callers, link, reader, frame, jobs),
+        first => {
+            let served = unbegun(rt, alloc, link, &first);
+            drop(first);
+            (served, None)
+        }
     }
 }

@@ -17,13 +17,13 @@ loop-init g c =
     let s = g.L.Link.shown c.args.link.now in (
       refl,
       λ k. k,
-      goes_none (IsAttended (g.K.Clock.moments c.args.clock.now) (is_some c.args.jobs.now) c.args.pump.now.conn) me,
+      goes_none (IsAttended (g.K.Clock.moments c.args.host.now.clock.now) (is_some c.args.jobs.now) c.args.pump.now.conn) me,
       refl,
       refl,
       none_fell s.counts,
       refl,
       c.requires.routed,
-      work_kept me me.front c.args.routes.now c.args.jobs.now (λ work h. h),
+      work_kept me me.front c.args.host.now.routes.now c.args.jobs.now (λ work h. h),
       λ own. on_time_first c.args.connection.now.settings me s c.args.pump.now,
       no_more s.taken,
     )
@@ -35,7 +35,7 @@ loop-preserved g c =
     let was = c.loop.caller in
     let mid = c.turn-turned.new.caller in
     let now = c.help.new.caller in
-    let moments = g.K.Clock.moments c.args.clock.now in
+    let moments = g.K.Clock.moments c.args.host.now.clock.now in
     let helps = is_some c.args.jobs.now in
     let conn = c.args.pump.now.conn in
     let P = IsAttended moments helps conn in
@@ -67,10 +67,10 @@ loop-preserved g c =
       none_fell_both s.counts m.counts t.counts i.5 c.turn-turned.ensures.counted,
       c.help.ensures.shape ∙ i.6,
       c.help.ensures.routed,
-      work_both me.names c.args.routes.now me.front was.front now.front c.args.jobs.now c.loop.jobs c.help.new.jobs i.8
-          (work_both me.names c.args.routes.now was.front mid.front now.front c.loop.jobs c.loop.jobs c.help.new.jobs
-          (work_kept_on me was mid.front c.args.routes.now c.loop.jobs i.0 (IsPumped moments c.loop.pump.conn) (pumped_idle moments c.loop.pump.conn) (turn_goes c.args.connection.now.settings moments was c.loop.pump.conn _ turn.left mid.front turn.turn))
-          (work_on me mid now.front c.args.routes.now c.loop.jobs c.help.new.jobs on_mid c.help.ensures.kept)),
+      work_both me.names c.args.host.now.routes.now me.front was.front now.front c.args.jobs.now c.loop.jobs c.help.new.jobs i.8
+          (work_both me.names c.args.host.now.routes.now was.front mid.front now.front c.loop.jobs c.loop.jobs c.help.new.jobs
+          (work_kept_on me was mid.front c.args.host.now.routes.now c.loop.jobs i.0 (IsPumped moments c.loop.pump.conn) (pumped_idle moments c.loop.pump.conn) (turn_goes c.args.connection.now.settings moments was c.loop.pump.conn _ turn.left mid.front turn.turn))
+          (work_on me mid now.front c.args.host.now.routes.now c.loop.jobs c.help.new.jobs on_mid c.help.ensures.kept)),
       λ own. on_time_helped st me.names me.front mid now s t c.turn-turned.new.self named_mid c.help.ensures.same spares quiet (on_time (own_mid own)),
       grown_both s.taken m.taken t.taken i.10 turn.grown.1,
     )
@@ -82,7 +82,7 @@ returns-then-not-goes_on-clause-goes g c =
     let i = c.loop.invariant in
     let was = c.loop.caller in
     let now = c.turn-turned.new.caller in
-    let moments = g.K.Clock.moments c.args.clock.now in
+    let moments = g.K.Clock.moments c.args.host.now.clock.now in
     let helps = is_some c.args.jobs.now in
     let conn = c.args.pump.now.conn in
     let P = IsAttended moments helps conn in
@@ -96,7 +96,7 @@ returns-then-not-goes_on-clause-cause g c =
     let me = c.args.caller.now in
     let was = c.loop.caller in
     let st = c.args.connection.now.settings in
-    let moments = g.K.Clock.moments c.args.clock.now in
+    let moments = g.K.Clock.moments c.args.host.now.clock.now in
     let P = IsAttended moments (is_some c.args.jobs.now) c.args.pump.now.conn in
     let s = g.L.Link.shown c.args.link.now in
     let t = g.L.Link.shown c.turn-turned.new.link in
@@ -109,7 +109,7 @@ returns-then-not-goes_on-clause-read g c late =
     let i = c.loop.invariant in
     let me = c.args.caller.now in
     let was = c.loop.caller in
-    let moments = g.K.Clock.moments c.args.clock.now in
+    let moments = g.K.Clock.moments c.args.host.now.clock.now in
     let P = IsAttended moments (is_some c.args.jobs.now) c.args.pump.now.conn in
     read_wider c.args.connection.now.settings me was c.turn-turned.new.self c.turn-turned.new.caller.front (ap (λ (x : Knowledge). x.names) i.0) (goes_continues P me was.front i.2) (c.turn-turned.ensures.read late)
 
@@ -119,10 +119,10 @@ returns-then-not-goes_on-clause-work g c =
     let me = c.args.caller.now in
     let was = c.loop.caller in
     let now = c.turn-turned.new.caller in
-    let moments = g.K.Clock.moments c.args.clock.now in
+    let moments = g.K.Clock.moments c.args.host.now.clock.now in
     let turn = c.turn-turned.ensures.turned in
-    work_both me.names c.args.routes.now me.front was.front now.front c.args.jobs.now c.loop.jobs c.loop.jobs i.8
-    (work_kept_on me was now.front c.args.routes.now c.loop.jobs i.0 (IsPumped moments c.loop.pump.conn) (pumped_idle moments c.loop.pump.conn) (turn_goes c.args.connection.now.settings moments was c.loop.pump.conn _ turn.left now.front turn.turn))
+    work_both me.names c.args.host.now.routes.now me.front was.front now.front c.args.jobs.now c.loop.jobs c.loop.jobs i.8
+    (work_kept_on me was now.front c.args.host.now.routes.now c.loop.jobs i.0 (IsPumped moments c.loop.pump.conn) (pumped_idle moments c.loop.pump.conn) (turn_goes c.args.connection.now.settings moments was c.loop.pump.conn _ turn.left now.front turn.turn))
 
 pub returns-then-not-goes_on-clause-ticks : goal.returns-then-not-goes_on-clause-ticks
 returns-then-not-goes_on-clause-ticks g c own =
@@ -131,7 +131,7 @@ returns-then-not-goes_on-clause-ticks g c own =
     let was = c.loop.caller in
     let now = c.turn-turned.new.caller in
     let st = c.args.connection.now.settings in
-    let moments = g.K.Clock.moments c.args.clock.now in
+    let moments = g.K.Clock.moments c.args.host.now.clock.now in
     let conn = c.args.pump.now.conn in
     let turn = c.turn-turned.ensures.turned in
     let on = goes_continues (IsPumped moments c.loop.pump.conn) was now.front (turn_goes st moments was c.loop.pump.conn _ turn.left now.front turn.turn) in

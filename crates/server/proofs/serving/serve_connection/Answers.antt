@@ -37,14 +37,14 @@ returns-in_default g c =
     let moments = g.K.Clock.moments c.args.clock.now in
     let past = c.args.callers.now in
     let old = g.L.Link.shown c.take_first.new.link in
-    let link = g.L.Link.shown c.unbegun.new.link in
+    let link = g.L.Link.shown c.unbegun-served.new.link in
     let bytes = c.take_first.new.reader.bytes in
     let first = c.take_first.result in
     let most : c.take_first.new.reader.max_in ≡ st.max_in = search rules in
     let life : c.settings-2.result.now.lifetime_ms ≡ st.lifetime_ms = ap (λ (x : Settings). x.lifetime_ms) c.settings-2.ensures.value in
     let cause : FirstFor moments st.lifetime_ms old bytes st.max_in first =
     subst (λ m. FirstFor moments st.lifetime_ms old bytes m first) most (subst (λ l. FirstFor moments l old bytes c.take_first.new.reader.max_in first) life c.take_first.ensures.cause) in
-    let s = unbegun_so st moments (is_some c.args.jobs.now) c.args.grant c.args.slot c.args.routes.now past c.args.jobs.now old link bytes first c.unbegun.result c.take_first.ensures.taken c.take_first.ensures.given cause c.unbegun.ensures.gives c.unbegun.ensures.says in
+    let s = unbegun_so st moments (is_some c.args.jobs.now) c.args.grant c.args.slot c.args.routes.now past c.args.jobs.now old link bytes first c.unbegun-served.result c.take_first.ensures.taken c.take_first.ensures.given cause c.unbegun-served.ensures.gives c.unbegun-served.ensures.says in
     record {
       same = s.same;
       added = s.added;
@@ -54,5 +54,5 @@ returns-in_default g c =
       cause = s.cause;
       work = s.work;
       routed = idle_routed c.args.routes.now c.args.jobs.now c.requires.idle;
-      counted = none_fell_both (g.L.Link.shown c.args.link.now).counts old.counts link.counts c.take_first.ensures.counted c.unbegun.ensures.counted;
+      counted = none_fell_both (g.L.Link.shown c.args.link.now).counts old.counts link.counts c.take_first.ensures.counted c.unbegun-served.ensures.counted;
     }
