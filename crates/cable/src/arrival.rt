@@ -12,7 +12,7 @@ use std::alloc::Global;
 use tape::Event;
 
 /// What stands in front of the bytes that crossed.
-#[derive(Debug, Drop, PartialEq, Eq)]
+#[derive(Drop)]
 pub(crate) enum Arrival {
     /// A whole frame.
     Whole(Frame),

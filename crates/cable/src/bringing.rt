@@ -29,17 +29,26 @@ pub(crate) fn wanted(answer: &Answer) -> Result<(), OutOfMemory>
 }
 
 /// Brings an event to an end: its answer.
-pub(crate) fn tell<T: Tape>(end: &mut Session<T>, event: &Event) -> Result<Answer, OutOfMemory>
-    requires fair { CanBring end.old.settings event.now }
-    requires no_draw { IsNoDrawEvent event.now }
+pub(crate) fn tell<T: Tape>(end: &mut Session<T>, event: Event) -> Result<Answer, OutOfMemory>
+    requires fair { CanBring end.old.settings event }
+    requires no_draw { IsNoDrawEvent event }
     ensures end { end.new ≡ record end.old { entries = end.new.entries; spare = end.new.spare } }
-    ensures noted { OnOk result (end.new.entries ≡
-        adds end.old.settings end.old.entries event.now) }
-    ensures answer { IfOk result (λ a. a ≡ answer_to end.old.settings end.old.entries event.now) }
+    ensures noted { OnOk result (end.new.entries ≡ adds end.old.settings end.old.entries event) }
+    ensures answer { IfOk result (λ a. a ≡ answer_to end.old.settings end.old.entries event) }
 {
-    let answer = end.step(CALLER, event);
+    let answer = end.bring(CALLER, event);
     wanted(&answer)?;
     Ok(answer)
+}
+
+// Brings an event to an end, whatever it is answered.
+fn note<T: Tape>(end: &mut Session<T>, event: Event) -> Result<(), OutOfMemory>
+    requires fair { CanBring end.old.settings event }
+    requires no_draw { IsNoDrawEvent event }
+    ensures end { end.new ≡ record end.old { entries = end.new.entries; spare = end.new.spare } }
+    ensures noted { OnOk result (end.new.entries ≡ adds end.old.settings end.old.entries event) }
+{
+    wanted(&end.bring(CALLER, event))
 }
 
 /// A client opens a connection: its answer.
@@ -51,7 +60,7 @@ pub(crate) fn connect<T: Tape>(end: &mut Session<T>) -> Result<Answer, OutOfMemo
     ensures answer { IfOk result (λ a. a ≡
         answer_to end.old.settings end.old.entries (Event.Open None false)) }
 {
-    tell(end, &Event::opening())
+    tell(end, Event::opening())
 }
 
 fn asked(call: Call) -> Event
@@ -65,13 +74,13 @@ pub(crate) fn ask<T: Tape>(
     alloc: Global,
     end: &mut Session<T>,
     call: &Call,
-) -> Result<Answer, OutOfMemory>
+) -> Result<(), OutOfMemory>
     requires { CanBeAsked call.now }
     ensures end { end.new ≡ record end.old { entries = end.new.entries; spare = end.new.spare } }
     ensures noted { OnOk result (end.new.entries ≡
         adds end.old.settings end.old.entries (Event.Asked call.now)) }
 {
-    tell(end, &asked(call.copy(alloc)?))
+    note(end, asked(call.copy(alloc)?))
 }
 
 /// The call that a line `many` makes often.
@@ -95,8 +104,7 @@ pub(crate) fn pass<T: Tape>(end: &mut Session<T>, now: u64) -> Result<(), OutOfM
     ensures noted { OnOk result (end.new.entries ≡
         adds end.old.settings end.old.entries (Event.Tick now)) }
 {
-    tell(end, &Event::Tick { now })?;
-    Ok(())
+    note(end, Event::Tick { now })
 }
 
 /// A connection is gone at an end.
@@ -105,6 +113,5 @@ pub(crate) fn cut<T: Tape>(end: &mut Session<T>, conn: u64) -> Result<(), OutOfM
     ensures noted { OnOk result (end.new.entries ≡
         adds end.old.settings end.old.entries (Event.Cut conn)) }
 {
-    tell(end, &Event::Cut { conn })?;
-    Ok(())
+    note(end, Event::Cut { conn })
 }

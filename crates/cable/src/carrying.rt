@@ -13,7 +13,7 @@ use session_core::Session;
 use tape::Tape;
 
 /// How much a carrying line carries.
-#[derive(Clone, Copy, Debug, PartialEq, Eq)]
+#[derive(Clone, Copy)]
 pub(crate) enum Most {
     /// At most so many bytes.
     Bytes(u32),

@@ -1,10 +1,10 @@
 //! One end hears what crossed to it.
 
-ghost use Rattle.std.specs.Prelude.{◌≡◌, ℕ, List, Some, false, IfOk, OnOk};
+ghost use Rattle.std.specs.Prelude.{◌≡◌, ◌++◌, ℕ, List, Some, false, IfOk, OnOk};
 ghost use Rattle.rs_wire.specs.declared.words.Side.TheVariants.{Server};
 ghost use Rattle.rs_frame.specs.declared.frame.Frame.{Frame as Meant};
 ghost use Rattle.rs_frame.specs.Spelling.{IsSpellable};
-ghost use Rattle.rs_frame.specs.Framed.{framed_all};
+ghost use Rattle.rs_frame.specs.Framed.{framed_all, framed_frame};
 ghost use Rattle.session_model.specs.Legal.{CanBring};
 ghost use Rattle.session_model.specs.Frames.{refusal};
 ghost use Rattle.session_model.specs.Joined.{only};
@@ -44,14 +44,14 @@ pub(crate) enum Known {
 }
 
 // Brings an event to an end: whether its answer leaves an entry.
-fn brings<T: Tape>(end: &mut Session<T>, event: &Event) -> Result<bool, OutOfMemory>
-    requires fair { CanBring end.old.settings event.now }
-    requires no_draw { IsNoDrawEvent event.now }
+fn brings<T: Tape>(end: &mut Session<T>, event: Event) -> Result<bool, OutOfMemory>
+    requires fair { CanBring end.old.settings event }
+    requires no_draw { IsNoDrawEvent event }
     ensures end { end.new ≡ record end.old { entries = end.new.entries; spare = end.new.spare } }
     ensures noted { OnOk result (end.new.entries ≡
-        adds end.old.settings end.old.entries event.now) }
+        adds end.old.settings end.old.entries event) }
     ensures leaves { IfOk result (λ b. b ≡
-        leaves (answer_to end.old.settings end.old.entries event.now)) }
+        leaves (answer_to end.old.settings end.old.entries event)) }
 {
     let answer = tell(end, event)?;
     Ok(answer.leaves_entry())
@@ -66,7 +66,7 @@ fn come<T: Tape>(end: &mut Session<T>, conn: u64, next: Arrival) -> Result<bool,
     ensures leaves { IfOk result (λ b. b ≡
         leaves (answer_to end.old.settings end.old.entries (event_meant conn next))) }
 {
-    brings(end, &event_of(conn, next))
+    brings(end, event_of(conn, next))
 }
 
 /// Brings all that crossed and can come: whether something did.
@@ -100,13 +100,21 @@ pub(crate) fn hear<T: Tape>(
     Ok(came)
 }
 
+// Appends a frame after its length, and lets it go.
+fn append(bytes: &mut Vec<u8>, frame: Frame) -> Result<(), OutOfMemory>
+    requires { IsSpellable frame }
+    ensures { OnOk result (bytes.new.items ≡ bytes.old.items ++ framed_frame frame) }
+{
+    frame_bytes(&frame, bytes)
+}
+
 // The bytes of what refuses a connection whose opening was answered so.
 fn refusal_bytes(alloc: Global, answer: &Answer) -> Result<Blob, OutOfMemory>
     ensures { IfOk result (λ bytes. bytes ≡ framed_all (only (refusal answer.now))) }
 {
     let mut bytes = Vec::new(alloc);
     if let Some(frame) = refusal_frame(alloc, answer)? {
-        frame_bytes(&frame, &mut bytes)?;
+        append(&mut bytes, frame)?;
     }
     Ok(Blob::from_vec(bytes))
 }
@@ -124,14 +132,14 @@ fn known_by(alloc: Global, answer: &Answer) -> Result<Known, OutOfMemory>
 }
 
 // Brings an opening: what the end knows of the connection then.
-fn opens<T: Tape>(alloc: Global, end: &mut Session<T>, event: &Event) -> Result<Known, OutOfMemory>
-    requires fair { CanBring end.old.settings event.now }
-    requires no_draw { IsNoDrawEvent event.now }
+fn opens<T: Tape>(alloc: Global, end: &mut Session<T>, event: Event) -> Result<Known, OutOfMemory>
+    requires fair { CanBring end.old.settings event }
+    requires no_draw { IsNoDrawEvent event }
     ensures end { end.new ≡ record end.old { entries = end.new.entries; spare = end.new.spare } }
     ensures noted { OnOk result (end.new.entries ≡
-        adds end.old.settings end.old.entries event.now) }
+        adds end.old.settings end.old.entries event) }
     ensures known { IfOk result (λ k. k ≡
-        known_of (answer_to end.old.settings end.old.entries event.now)) }
+        known_of (answer_to end.old.settings end.old.entries event)) }
 {
     let answer = tell(end, event)?;
     known_by(alloc, &answer)
@@ -144,7 +152,7 @@ fn open_by<T: Tape>(alloc: Global, end: &mut Session<T>, frame: Frame) -> Result
     ensures end { end.new ≡ record end.old { entries = end.new.entries; spare = end.new.spare } }
     ensures opened { IfOk result (IsOpenedBy frame end.old end.new) }
 {
-    opens(alloc, end, &Event::opened_by(frame))
+    opens(alloc, end, Event::opened_by(frame))
 }
 
 /// Brings the first frame that crossed, which opens the connection. Where it is longer than the end

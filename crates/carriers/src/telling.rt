@@ -26,20 +26,20 @@ pub fn tell<T: Tape, R: Wait>(
     rt: &R,
     connection: &Connection<T>,
     caller: &mut Caller<T>,
-    event: &Event,
+    event: Event,
 ) -> Result<Answer, Stop>
     requires of { caller.old.of ≡ connection.now }
-    requires fair { CanBring connection.now.settings event.now }
-    requires no_draw { IsNoDrawEvent event.now }
+    requires fair { CanBring connection.now.settings event }
+    requires no_draw { IsNoDrawEvent event }
     ensures same { caller.new ≡ record caller.old {
       front = caller.new.front;
       note = caller.new.note;
     } }
     ensures told { IfOk result (λ a.
-        HasTold connection.now.settings caller.old caller.new event.now a) }
+        HasTold connection.now.settings caller.old caller.new event a) }
     ensures legal { Legal caller.new.of.settings caller.new.front }
 {
-    let answer = connection.event(rt, caller, event);
+    let answer = connection.bring(rt, caller, event);
     caller.legal();
     if !answer.leaves_entry() {
         return Err(Stop::OutOfMemory);

@@ -20,7 +20,7 @@ use std::sync::Wait;
 use tape::Tape;
 
 /// What a step came to: how its turn ended, and whether the end of the call came.
-#[derive(Clone, Copy, Debug, PartialEq, Eq)]
+#[derive(Clone, Copy)]
 pub(crate) struct Stepped {
     pub(crate) turned: Turned,
     pub(crate) ended: bool,

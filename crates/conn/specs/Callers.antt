@@ -1,5 +1,5 @@
 -- What a caller knows, also in the middle of its call.
-use Rattle.std.specs.Prelude.{[], Option, None, Some}
+use Rattle.std.specs.Prelude.{false, [], Option, None, Some}
 use Rattle.conn_shared.specs.Lines.{no_settings}
 use Rattle.conn_shared.specs.Members.{Knowledge}
 
@@ -9,6 +9,7 @@ nobody = record {
   of = record {
     lock = record { words = 0; slots = 0; views_name = 0; atom = 0; block = 0; offset = 0; slot_names = [] };
     settings = no_settings;
+    tells = false;
   };
   number = 0;
   names = [];

@@ -13,7 +13,8 @@ use std::marker::Model;
 use std::sync::Arc;
 use tape::{Answer, Tape};
 
-/// A session that threads share by reference. Contracts see which connection it is, and its settings.
+/// A session that threads share by reference. Contracts see which connection it is, its settings, and
+/// whether the tape of its session shows its entries.
 #[derive(Drop)]
 pub struct Connection<T: Tape> {
     /// The session under its lock.
@@ -50,6 +51,7 @@ impl<T: Tape> Connection<T> {
     ) -> Result<(Connection<T>, Caller<T>), (Session<T>, OutOfMemory)>
         requires { session.entries ≡ [] }
         ensures settings { IfOk result (λ r. r.0.settings ≡ session.settings) }
+        ensures tells { IfOk result (λ r. r.0.tells ≡ session.tells) }
         ensures first { IfOk result (λ r. r.1 ≡ first_member r.0) }
         ensures kept { IfErr result (λ r. r.0 ≡ session) }
     {

@@ -96,6 +96,7 @@ impl<T: Tape> Connection<T> {
         ensures closed { IfOk result (λ s. caller.parts ≡ all_parts) }
         ensures entries { IfOk result (λ s. s.entries ≡ caller.front) }
         ensures settings { IfOk result (λ s. s.settings ≡ self.settings) }
+        ensures tells { IfOk result (λ s. s.tells ≡ self.tells) }
         // Each entry carries one of the caller's names.
         ensures named { IfOk result (λ s.
             (x : ℕ) → times x caller.names ≡ 0 → calls who_of x caller.front ≡ 0) }

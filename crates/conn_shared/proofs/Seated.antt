@@ -6,15 +6,16 @@ use Rattle.session_model.specs.Legal.{Fair, Legal}
 use Rattle.conn_lock.specs.Callers.{Known, longer}
 use Rattle.conn_shared.specs.declared.line.Line.{Line}
 use Rattle.conn_shared.specs.Members.{IsMember}
-use Rattle.conn_shared.specs.Lines.{entries_in, lines_with, settings_in}
+use Rattle.conn_shared.specs.Lines.{entries_in, lines_with, settings_in, tells_in}
 use Rattle.conn_shared.proofs.Lines.{entries-noted}
 
-pub seated : (g : Settings) (past : List Entry) (s : Known Line) → s.front ≡ lines_with g past → Legal g past → Fair g past → IsMember s
-seated g past s is legal fair =
+pub seated : (g : Settings) (tells : Bool) (past : List Entry) (s : Known Line) → s.front ≡ lines_with g tells past → Legal g past → Fair g past → IsMember s
+seated g tells past s is legal fair =
     let settings : settings_in s.front ≡ g = ap settings_in is in
+    let telling : tells_in s.front ≡ tells = ap tells_in is in
     let entries : entries_in s.front ≡ past = ap entries_in is ∙ entries-noted past in
     record {
-      lined = is ∙ (ap (λ h. lines_with h past) (sym settings) ∙ ap (lines_with (settings_in s.front)) (sym entries));
+      lined = is ∙ (ap (λ h. lines_with h tells past) (sym settings) ∙ (ap (λ t. lines_with (settings_in s.front) t past) (sym telling) ∙ ap (lines_with (settings_in s.front) (tells_in s.front)) (sym entries)));
       legal = subst (λ h. Legal h (entries_in s.front)) (sym settings) (subst (Legal g) (sym entries) legal);
       fair = subst (λ h. Fair h (entries_in s.front)) (sym settings) (subst (Fair g) (sym entries) fair);
     }

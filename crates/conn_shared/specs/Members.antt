@@ -1,16 +1,18 @@
 -- What a member of a shared session knows, and how its front goes on. Entries stand newest first.
-use Rattle.std.specs.Prelude.{◌≡◌, ℕ, ◌+◌, ◌⊎◌, ◌-◌, ◌^◌, List, [], ◌∷◌, ◌++◌, length, Option, None, Some}
+use Rattle.std.specs.Prelude.{◌≡◌, ℕ, Bool, ◌+◌, ◌⊎◌, ◌-◌, ◌^◌, List, [], ◌∷◌, ◌++◌, length, Option, None, Some}
 use Rattle.rs_wire.specs.declared.settings.Settings.{Settings}
 use Rattle.tape.specs.declared.entry.Entry.{Entry}
 use Rattle.session_model.specs.Legal.{Fair, Legal}
 use Rattle.conn_lock.specs.Callers.{IsOthers, Known, LockId, all_parts, calls}
 use Rattle.conn_shared.specs.declared.line.Line.{Line}
-use Rattle.conn_shared.specs.Lines.{entries_in, lines_with, settings_in, who_of}
+use Rattle.conn_shared.specs.Lines.{entries_in, lines_with, settings_in, tells_in, who_of}
 
--- which shared session it is, and the settings of the session
+-- which shared session it is, and what never changes of the session
 pub record SharedId : Type 0 where
   pub lock : LockId
   pub settings : Settings
+  -- its tape tells its entries
+  pub tells : Bool
 
 -- what a member knows
 pub record Knowledge : Type 0 where
@@ -44,7 +46,7 @@ first_member of = record {
 -- what a seat at the lock means to its member
 abbrev pub knows : Known Line → Knowledge
 knows s = record {
-  of = record { lock = s.lock; settings = settings_in s.front };
+  of = record { lock = s.lock; settings = settings_in s.front; tells = tells_in s.front };
   number = s.number;
   names = s.names;
   parts = s.parts;
@@ -56,7 +58,7 @@ knows s = record {
 
 -- the seat has seen a session's first line, and then entries that the rules allow
 pub record IsMember (s : Known Line) : Type 0 where
-  pub lined : s.front ≡ lines_with (settings_in s.front) (entries_in s.front)
+  pub lined : s.front ≡ lines_with (settings_in s.front) (tells_in s.front) (entries_in s.front)
   pub legal : Legal (settings_in s.front) (entries_in s.front)
   pub fair : Fair (settings_in s.front) (entries_in s.front)
 

@@ -3,7 +3,7 @@
 ghost use Rattle.std.specs.Prelude.{◌≡◌, ◌<◌, ◌≤◌, ◌+◌, ◌-◌, ◌↔◌, ℕ, [], ◌∷◌, ◌++◌, IfErr, IfOk, max};
 ghost use Rattle.conn_lock.specs.Callers.{all_parts, calls, longer, most_numbers, share, times};
 ghost use Rattle.conn_shared.specs.Members.{Follows, IsMember, first_member};
-ghost use Rattle.conn_shared.specs.Lines.{entries_in, settings_in, who_of};
+ghost use Rattle.conn_shared.specs.Lines.{entries_in, settings_in, tells_in, who_of};
 
 use crate::member::Member;
 use crate::shared::SharedSession;
@@ -23,6 +23,7 @@ fn shut<T: Tape>(
     ensures closed { IfOk result (λ s. seat.parts ≡ all_parts) }
     ensures entries { IfOk result (λ s. s.entries ≡ entries_in seat.front) }
     ensures settings { IfOk result (λ s. s.settings ≡ settings_in seat.front) }
+    ensures tells { IfOk result (λ s. s.tells ≡ tells_in seat.front) }
     ensures named { IfOk result (λ s.
         (x : ℕ) → times x seat.names ≡ 0 → calls who_of x (entries_in seat.front) ≡ 0) }
     ensures refused { IfErr result (λ r. seat.parts < all_parts) }
@@ -85,6 +86,8 @@ impl<T: Tape> SharedSession<T> {
         requires members { IsMember seat × IsMember other }
         requires settings { (settings_in seat.front ≡ self.now.settings)
             × (settings_in other.front ≡ self.now.settings) }
+        requires tells { (tells_in seat.front ≡ self.now.tells)
+            × (tells_in other.front ≡ self.now.tells) }
         ensures both { result ≡ record seat {
           names = seat.names ++ other.names;
           parts = seat.parts + other.parts;
@@ -92,6 +95,7 @@ impl<T: Tape> SharedSession<T> {
           found = max seat.found other.found;
         } }
         ensures settings { settings_in result.front ≡ self.now.settings }
+        ensures tells { tells_in result.front ≡ self.now.tells }
         ensures member { IsMember result }
         ensures front { entries_in result.front
             ≡ longer (entries_in seat.front) (entries_in other.front) }
@@ -135,6 +139,7 @@ impl<T: Tape> SharedSession<T> {
         ensures closed { IfOk result (λ s. member.parts ≡ all_parts) }
         ensures entries { IfOk result (λ s. s.entries ≡ member.front) }
         ensures settings { IfOk result (λ s. s.settings ≡ self.settings) }
+        ensures tells { IfOk result (λ s. s.tells ≡ self.tells) }
         // Each entry carries one of the member's names.
         ensures named { IfOk result (λ s.
             (x : ℕ) → times x member.names ≡ 0 → calls who_of x member.front ≡ 0) }
@@ -142,19 +147,11 @@ impl<T: Tape> SharedSession<T> {
         ensures refused { IfErr result (λ r. member.parts < all_parts) }
         ensures kept { IfErr result (λ r. (r.0 ≡ self) × (r.1 ≡ member)) }
     {
-        let SharedSession {
-            lock,
-            alloc,
-            settings,
-        } = self;
+        let SharedSession { lock, alloc, began } = self;
         match shut(lock, member.into_seat()) {
             Ok(session) => Ok(session),
             Err((lock, seat)) => {
-                let shared = SharedSession {
-                    lock,
-                    alloc,
-                    settings,
-                };
+                let shared = SharedSession { lock, alloc, began };
                 Err((shared, Member { seat }))
             }
         }

@@ -6,21 +6,22 @@ ghost use Rattle.conn_shared.specs.Members.{first_member};
 use crate::member::Member;
 use crate::stored::Stored;
 use conn_lock::Lock;
-use rs_wire::{Checked, OutOfMemory};
+use rs_wire::OutOfMemory;
 use session_core::Session;
 use std::alloc::Global;
 use std::marker::Model;
 use std::snapshot::Snapshot;
 use tape::Tape;
 
-/// A session that its members share by reference. Contracts see which one it is, and its settings.
+/// A session that its members share by reference. Contracts see which one it is, its settings, and
+/// whether its tape shows its entries.
 #[derive(Drop)]
 pub struct SharedSession<T: Tape> {
     pub(crate) lock: Lock<Stored<T>>,
     /// Where a call is copied that can't be answered from its own parts.
     pub(crate) alloc: Global,
-    /// What the session is set to, for contracts alone.
-    pub(crate) settings: Snapshot<Checked>,
+    /// The session as it was when it began, for contracts alone.
+    pub(crate) began: Snapshot<Session<T>>,
 }
 
 impl<T: Tape> Model for SharedSession<T> {
@@ -28,7 +29,11 @@ impl<T: Tape> Model for SharedSession<T> {
 
     ghost Value = { SharedId };
 
-    ghost view = { λ s. record { lock = s.lock; settings = s.settings.value } };
+    ghost view = { λ s. record {
+      lock = s.lock;
+      settings = s.began.value.settings;
+      tells = s.began.value.tells;
+    } };
 }
 
 impl<T: Tape> SharedSession<T> {
@@ -40,10 +45,11 @@ impl<T: Tape> SharedSession<T> {
     ) -> Result<(SharedSession<T>, Member<T>), (Session<T>, OutOfMemory)>
         requires { session.entries ≡ [] }
         ensures settings { IfOk result (λ r. r.0.settings ≡ session.settings) }
+        ensures tells { IfOk result (λ r. r.0.tells ≡ session.tells) }
         ensures first { IfOk result (λ r. r.1 ≡ first_member r.0) }
         ensures kept { IfErr result (λ r. r.0 ≡ session) }
     {
-        let settings = Snapshot::of(session.settings());
+        let began = Snapshot::of(&session);
         session.legal();
         let stored = match Stored::new(alloc, session) {
             Ok(stored) => stored,
@@ -52,11 +58,7 @@ impl<T: Tape> SharedSession<T> {
         match Lock::new(alloc, stored) {
             Err((stored, why)) => Err((stored.into_session(), why)),
             Ok((lock, seat)) => {
-                let shared = SharedSession {
-                    lock,
-                    alloc,
-                    settings,
-                };
+                let shared = SharedSession { lock, alloc, began };
                 Ok((shared, Member { seat }))
             }
         }

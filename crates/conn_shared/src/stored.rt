@@ -72,6 +72,7 @@ impl<T: Tape> Stored<T> {
         ensures step { IsStep self.old.settings who self.old.entries event.now result self.new.entries }
         ensures own { Gains who self.old.entries self.new.entries }
         ensures settings { self.new.settings ≡ self.old.settings }
+        ensures tells { self.new.tells ≡ self.old.tells }
         ensures legal { Legal self.new.settings self.new.entries }
         ensures fair { Fair self.new.settings self.new.entries }
     {
@@ -88,6 +89,7 @@ impl<T: Tape> Stored<T> {
         ensures step { IsStep self.old.settings who self.old.entries event result self.new.entries }
         ensures own { Gains who self.old.entries self.new.entries }
         ensures settings { self.new.settings ≡ self.old.settings }
+        ensures tells { self.new.tells ≡ self.old.tells }
         ensures legal { Legal self.new.settings self.new.entries }
         ensures fair { Fair self.new.settings self.new.entries }
     {
@@ -106,6 +108,7 @@ impl<T: Tape> Stored<T> {
         ensures none { result ≡ None → self.new.entries ≡ self.old.entries }
         ensures own { Gains who self.old.entries self.new.entries }
         ensures settings { self.new.settings ≡ self.old.settings }
+        ensures tells { self.new.tells ≡ self.old.tells }
         ensures legal { Legal self.new.settings self.new.entries }
         ensures fair { Fair self.new.settings self.new.entries }
     {
@@ -125,6 +128,7 @@ impl<T: Tape> Stored<T> {
         ensures untouched { IsUntouched result buffer.old buffer.new }
         ensures own { Gains who self.old.entries self.new.entries }
         ensures settings { self.new.settings ≡ self.old.settings }
+        ensures tells { self.new.tells ≡ self.old.tells }
         ensures legal { Legal self.new.settings self.new.entries }
         ensures fair { Fair self.new.settings self.new.entries }
     {

@@ -10,7 +10,7 @@ ghost use Rattle.session_core.specs.Seen.{IsNoDrawEvent};
 ghost use Rattle.tape.specs.declared.event.Event.TheVariants as events;
 ghost use Rattle.conn_shared.specs.Members.{Follows, Gains, IsMember};
 ghost use Rattle.conn_shared.specs.Calls.{AreNext, IsStep};
-ghost use Rattle.conn_shared.specs.Lines.{entries_in, lines_with, settings_in};
+ghost use Rattle.conn_shared.specs.Lines.{entries_in, lines_with, settings_in, tells_in};
 
 use crate::looked::Looked;
 use crate::shared::SharedSession;
@@ -26,13 +26,15 @@ impl<T: Tape> SharedSession<T> {
     pub(crate) fn enter<R: Wait>(&self, rt: &R, seat: Seat<Stored<T>>) -> Turn<Stored<T>>
         requires of { seat.lock ≡ self.now.lock }
         requires settings { settings_in seat.front ≡ self.now.settings }
+        requires tells { tells_in seat.front ≡ self.now.tells }
         requires member { IsMember seat }
         ensures same { result.seat ≡ record seat {
-          front = lines_with self.now.settings result.value.entries;
+          front = lines_with self.now.settings self.now.tells result.value.entries;
           note = None;
         } }
         ensures front { entries_in result.seat.front ≡ result.value.entries }
         ensures settings { result.value.settings ≡ self.now.settings }
+        ensures tells { result.value.tells ≡ self.now.tells }
         ensures follows { Follows seat.names (entries_in seat.front) result.value.entries }
     {
         self.lock.enter(rt, seat)
@@ -45,13 +47,15 @@ impl<T: Tape> SharedSession<T> {
     ) -> Result<Turn<Stored<T>>, Seat<Stored<T>>>
         requires of { seat.lock ≡ self.now.lock }
         requires settings { settings_in seat.front ≡ self.now.settings }
+        requires tells { tells_in seat.front ≡ self.now.tells }
         requires member { IsMember seat }
         ensures same { IfOk result (λ t. t.seat ≡ record seat {
-          front = lines_with self.now.settings t.value.entries;
+          front = lines_with self.now.settings self.now.tells t.value.entries;
           note = None;
         }) }
         ensures front { IfOk result (λ t. entries_in t.seat.front ≡ t.value.entries) }
         ensures settings { IfOk result (λ t. t.value.settings ≡ self.now.settings) }
+        ensures tells { IfOk result (λ t. t.value.tells ≡ self.now.tells) }
         ensures follows { IfOk result (λ t.
             Follows seat.names (entries_in seat.front) t.value.entries) }
         ensures refused { IfErr result (λ s.
@@ -66,13 +70,14 @@ impl<T: Tape> SharedSession<T> {
     fn leave(&self, turn: Turn<Stored<T>>) -> Seat<Stored<T>>
         requires of { turn.seat.lock ≡ self.now.lock }
         requires settings { turn.value.settings ≡ self.now.settings }
+        requires tells { turn.value.tells ≡ self.now.tells }
         requires was { turn.seat.front ≡
-            lines_with self.now.settings (entries_in turn.seat.front) }
+            lines_with self.now.settings self.now.tells (entries_in turn.seat.front) }
         requires own { Gains turn.seat.number (entries_in turn.seat.front) turn.value.entries }
         requires legal { Legal self.now.settings turn.value.entries }
         requires fair { Fair self.now.settings turn.value.entries }
         ensures same { result ≡ record turn.seat {
-          front = lines_with self.now.settings turn.value.entries;
+          front = lines_with self.now.settings self.now.tells turn.value.entries;
         } }
         ensures front { entries_in result.front ≡ turn.value.entries }
         ensures member { IsMember result }
@@ -85,13 +90,15 @@ impl<T: Tape> SharedSession<T> {
     pub(crate) fn step_in(&self, turn: Turn<Stored<T>>, event: &Event) -> (Seat<Stored<T>>, Answer)
         requires of { turn.seat.lock ≡ self.now.lock }
         requires settings { turn.value.settings ≡ self.now.settings }
+        requires tells { turn.value.tells ≡ self.now.tells }
         requires was { turn.seat.front ≡
-            lines_with self.now.settings (entries_in turn.seat.front) }
+            lines_with self.now.settings self.now.tells (entries_in turn.seat.front) }
         requires front { entries_in turn.seat.front ≡ turn.value.entries }
         requires fair { CanBring self.now.settings event.now }
         requires no_draw { IsNoDrawEvent event.now }
         ensures same { result.0 ≡ record turn.seat { front = result.0.front } }
         ensures settings { settings_in result.0.front ≡ self.now.settings }
+        ensures tells { tells_in result.0.front ≡ self.now.tells }
         ensures member { IsMember result.0 }
         ensures step { IsStep self.now.settings turn.seat.number turn.value.entries
             event.now result.1 (entries_in result.0.front) }
@@ -108,13 +115,15 @@ impl<T: Tape> SharedSession<T> {
     pub(crate) fn bring_in(&self, turn: Turn<Stored<T>>, event: Event) -> (Seat<Stored<T>>, Answer)
         requires of { turn.seat.lock ≡ self.now.lock }
         requires settings { turn.value.settings ≡ self.now.settings }
+        requires tells { turn.value.tells ≡ self.now.tells }
         requires was { turn.seat.front ≡
-            lines_with self.now.settings (entries_in turn.seat.front) }
+            lines_with self.now.settings self.now.tells (entries_in turn.seat.front) }
         requires front { entries_in turn.seat.front ≡ turn.value.entries }
         requires fair { CanBring self.now.settings event }
         requires no_draw { IsNoDrawEvent event }
         ensures same { result.0 ≡ record turn.seat { front = result.0.front } }
         ensures settings { settings_in result.0.front ≡ self.now.settings }
+        ensures tells { tells_in result.0.front ≡ self.now.tells }
         ensures member { IsMember result.0 }
         ensures step { IsStep self.now.settings turn.seat.number turn.value.entries
             event result.1 (entries_in result.0.front) }
@@ -135,12 +144,14 @@ impl<T: Tape> SharedSession<T> {
     ) -> (Seat<Stored<T>>, Option<Answer>)
         requires of { turn.seat.lock ≡ self.now.lock }
         requires settings { turn.value.settings ≡ self.now.settings }
+        requires tells { turn.value.tells ≡ self.now.tells }
         requires was { turn.seat.front ≡
-            lines_with self.now.settings (entries_in turn.seat.front) }
+            lines_with self.now.settings self.now.tells (entries_in turn.seat.front) }
         requires front { entries_in turn.seat.front ≡ turn.value.entries }
         requires askable { CanBeAsked call.now }
         ensures same { result.0 ≡ record turn.seat { front = result.0.front } }
         ensures settings { settings_in result.0.front ≡ self.now.settings }
+        ensures tells { tells_in result.0.front ≡ self.now.tells }
         ensures member { IsMember result.0 }
         ensures step { IfSome result.1 (λ a. IsStep self.now.settings turn.seat.number
             turn.value.entries (events.Asked call.now) a (entries_in result.0.front)) }
@@ -164,13 +175,15 @@ impl<T: Tape> SharedSession<T> {
     ) -> (Seat<Stored<T>>, Answer)
         requires of { turn.seat.lock ≡ self.now.lock }
         requires settings { turn.value.settings ≡ self.now.settings }
+        requires tells { turn.value.tells ≡ self.now.tells }
         requires was { turn.seat.front ≡
-            lines_with self.now.settings (entries_in turn.seat.front) }
+            lines_with self.now.settings self.now.tells (entries_in turn.seat.front) }
         requires front { entries_in turn.seat.front ≡ turn.value.entries }
         requires some { 0 < length buffer.old }
         requires few { length buffer.old < 2 ^ 32 }
         ensures same { result.0 ≡ record turn.seat { front = result.0.front } }
         ensures settings { settings_in result.0.front ≡ self.now.settings }
+        ensures tells { tells_in result.0.front ≡ self.now.tells }
         ensures member { IsMember result.0 }
         ensures step { IsStep self.now.settings turn.seat.number turn.value.entries
             (events.Draw conn (length buffer.old)) result.1 (entries_in result.0.front) }
@@ -188,11 +201,13 @@ impl<T: Tape> SharedSession<T> {
     pub(crate) fn look_in(&self, turn: Turn<Stored<T>>) -> (Seat<Stored<T>>, Looked)
         requires of { turn.seat.lock ≡ self.now.lock }
         requires settings { turn.value.settings ≡ self.now.settings }
+        requires tells { turn.value.tells ≡ self.now.tells }
         requires was { turn.seat.front ≡
-            lines_with self.now.settings (entries_in turn.seat.front) }
+            lines_with self.now.settings self.now.tells (entries_in turn.seat.front) }
         requires front { entries_in turn.seat.front ≡ turn.value.entries }
         ensures same { result.0 ≡ record turn.seat { front = result.0.front } }
         ensures settings { settings_in result.0.front ≡ self.now.settings }
+        ensures tells { tells_in result.0.front ≡ self.now.tells }
         ensures member { IsMember result.0 }
         ensures front { entries_in result.0.front ≡ turn.value.entries }
         ensures live { result.1.live ≡ live turn.value.entries }
@@ -209,11 +224,13 @@ impl<T: Tape> SharedSession<T> {
     pub(crate) fn hold_in(&self, turn: Turn<Stored<T>>, token: &Blob) -> (Seat<Stored<T>>, bool)
         requires of { turn.seat.lock ≡ self.now.lock }
         requires settings { turn.value.settings ≡ self.now.settings }
+        requires tells { turn.value.tells ≡ self.now.tells }
         requires was { turn.seat.front ≡
-            lines_with self.now.settings (entries_in turn.seat.front) }
+            lines_with self.now.settings self.now.tells (entries_in turn.seat.front) }
         requires front { entries_in turn.seat.front ≡ turn.value.entries }
         ensures same { result.0 ≡ record turn.seat { front = result.0.front } }
         ensures settings { settings_in result.0.front ≡ self.now.settings }
+        ensures tells { tells_in result.0.front ≡ self.now.tells }
         ensures member { IsMember result.0 }
         ensures front { entries_in result.0.front ≡ turn.value.entries }
         ensures holds { IsTrue result.1 ↔

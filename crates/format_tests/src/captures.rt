@@ -2,10 +2,9 @@
 
 use capture::{BadFrame, CaptureFault, LineFault, from_lines, to_lines};
 use rs_frame::FrameFault;
-use std::test::Fail;
 
-/// Bytes, where the first bad frame in them begins and what is wrong with it, and their lines.
-const READ: [(&[u8], Option<(u32, BadFrame)>, &[u8]); 9] = [
+/// Bytes, the first bad frame in them, and their lines.
+const READ: [(&[u8], Option<CaptureFault>, &[u8]); 9] = [
     (b"", None, b""),
     // REQUEST_N of stream 1 with 2,147,483,647.
     (
@@ -18,17 +17,37 @@ const READ: [(&[u8], Option<(u32, BadFrame)>, &[u8]); 9] = [
     // The least broken rule is named.
     (
         b"\0\0\x05\0\0\0\x01\x20",
-        Some((0, BadFrame::Breaks(FrameFault::ShortHeader))),
+        Some(CaptureFault::Frame {
+            place: 0,
+            bad: BadFrame::Breaks(FrameFault::ShortHeader),
+        }),
         b"",
     ),
     (
         b"\0\0\x0a\0\0\0\x01\x20\0\0\0\0\0",
-        Some((0, BadFrame::Breaks(FrameFault::ZeroNumber))),
+        Some(CaptureFault::Frame {
+            place: 0,
+            bad: BadFrame::Breaks(FrameFault::ZeroNumber),
+        }),
         b"",
     ),
     // A capture may end within a frame.
-    (b"\0\0\x08\0\0", Some((0, BadFrame::NotWhole)), b""),
-    (b"\0\0", Some((0, BadFrame::NotWhole)), b""),
+    (
+        b"\0\0\x08\0\0",
+        Some(CaptureFault::Frame {
+            place: 0,
+            bad: BadFrame::NotWhole,
+        }),
+        b"",
+    ),
+    (
+        b"\0\0",
+        Some(CaptureFault::Frame {
+            place: 0,
+            bad: BadFrame::NotWhole,
+        }),
+        b"",
+    ),
     // The lines before a wrong frame, here one of no bytes, are appended.
     (
         b"\0\0\x0a\0\0\0\x01\x20\0\0\0\0\x05\0\0\x06\0\0\0\x02\x24\0",
@@ -38,7 +57,10 @@ const READ: [(&[u8], Option<(u32, BadFrame)>, &[u8]); 9] = [
     (
         b"\0\0\x0a\0\0\0\x01\x20\0\0\0\0\x05\0\0\x06\0\0\0\x02\x24\0\
             \0\0\0\0\0\x06\0\0\0\x02\x24\0",
-        Some((22, BadFrame::Breaks(FrameFault::ShortHeader))),
+        Some(CaptureFault::Frame {
+            place: 22,
+            bad: BadFrame::Breaks(FrameFault::ShortHeader),
+        }),
         b"REQUEST_N 1 5\nCANCEL 2\n",
     ),
 ];
@@ -68,24 +90,21 @@ fn is_rest(whole: &[u8], wanted: &[u8]) -> bool {
 }
 
 #[test]
-fn each_frame_has_a_line(rt: HostRuntime) -> Result<(), Fail> {
-    for (bytes, bad, lines) in READ {
-        let mut out = Vec::from_slice(rt.alloc(), b"#")?;
+fn each_frame_has_a_line(rt: HostRuntime) {
+    for (bytes, wanted, lines) in READ {
+        let mut out = Vec::from_slice(rt.alloc(), b"#").expect(&rt, "there is memory");
         let fault = to_lines(rt.alloc(), bytes, &mut out).err();
-        let wanted = bad.map(|(place, bad)| CaptureFault::Frame { place, bad });
         assert_eq!(rt; fault, wanted, "{bytes:?}");
         assert!(rt; is_rest(out.as_slice(), lines), "{bytes:?}");
     }
-    Ok(())
 }
 
 #[test]
-fn each_line_gives_its_frame(rt: HostRuntime) -> Result<(), Fail> {
+fn each_line_gives_its_frame(rt: HostRuntime) {
     for (text, wanted, bytes) in WRITTEN {
-        let mut out = Vec::from_slice(rt.alloc(), b"#")?;
+        let mut out = Vec::from_slice(rt.alloc(), b"#").expect(&rt, "there is memory");
         let fault = from_lines(rt.alloc(), text, &mut out).err();
         assert_eq!(rt; fault, wanted, "{text:?}");
         assert!(rt; is_rest(out.as_slice(), bytes), "{text:?}");
     }
-    Ok(())
 }

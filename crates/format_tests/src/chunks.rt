@@ -1,24 +1,23 @@
 //! Frames out of a stream that comes in pieces.
 
+use crate::frames::decoded;
 use rs_chunk::{Front, Reader, frame_bytes, item_bytes, request_bytes, split_frame};
-use rs_frame::{Frame, FrameFault, Request, decode, spellable};
-use rs_wire::OutOfMemory;
+use rs_frame::{Frame, Request, spellable};
 use std::alloc::Global;
-use std::test::Fail;
+use std::process::Abort;
 
 #[test]
-fn a_length_cut_across_pieces_is_read(rt: HostRuntime) -> Result<(), Fail> {
+fn a_length_cut_across_pieces_is_read(rt: HostRuntime) {
     let mut reader = Reader::new(rt.alloc(), 64);
     assert!(rt; reader.feed(&[0, 0]).is_ok());
     assert!(rt; matches!(reader.front(), Front::Part));
     assert!(rt; reader.feed(&[1, 7, 0]).is_ok());
     match reader.front() {
         Front::Whole(frame) => assert!(rt; frame == [7].as_slice()),
-        _ => return Err(Fail::from("the frame is whole")),
+        _ => panic!(rt; "the frame is whole"),
     }
     reader.pass();
     assert!(rt; matches!(reader.front(), Front::Part));
-    Ok(())
 }
 
 #[test]
@@ -47,19 +46,19 @@ const WHOLE: [&[u8]; 4] = [
 ];
 
 // The frame, written from the parts of an item or a request.
-fn of_parts(alloc: Global, frame: &Frame) -> Result<Vec<u8>, OutOfMemory> {
+fn of_parts(rt: &impl Abort, alloc: Global, frame: &Frame) -> Vec<u8> {
     let mut out = Vec::new(alloc);
     if !spellable(frame) {
-        return Ok(out);
+        return out;
     }
-    match frame {
+    let written = match frame {
         Frame::Payload {
             stream,
             follows: false,
             complete,
             next: true,
             message,
-        } => item_bytes(*stream, *complete, message, &mut out)?,
+        } => item_bytes(*stream, *complete, message, &mut out),
         Frame::Request(
             Request {
                 stream,
@@ -69,28 +68,24 @@ fn of_parts(alloc: Global, frame: &Frame) -> Result<Vec<u8>, OutOfMemory> {
                 initial,
                 message,
             },
-        ) => request_bytes(*stream, *kind, initial, *complete, message, &mut out)?,
-        _ => {}
-    }
-    Ok(out)
+        ) => request_bytes(*stream, *kind, initial, *complete, message, &mut out),
+        _ => Ok(()),
+    };
+    written.expect(rt, "there is memory");
+    out
 }
 
 // Whether the frame after its length is written so again from its parts.
-fn comes_back_of_parts(alloc: Global, bytes: &[u8]) -> Result<bool, FrameFault> {
+fn comes_back_of_parts(rt: &impl Abort, alloc: Global, bytes: &[u8]) -> bool {
     let Some((frame, _)) = split_frame(bytes) else {
-        return Ok(false);
+        return false;
     };
-    let out = of_parts(alloc, &decode(alloc, frame)?)?;
-    Ok(out.as_slice() == bytes)
+    of_parts(rt, alloc, &decoded(rt, alloc, frame)).as_slice() == bytes
 }
 
 #[test]
 fn items_and_requests_are_written_from_their_parts(rt: HostRuntime) {
     for bytes in WHOLE {
-        assert_eq!(rt;
-            comes_back_of_parts(rt.alloc(), bytes),
-            Ok(true),
-            "{bytes:?}"
-        );
+        assert!(rt; comes_back_of_parts(&rt, rt.alloc(), bytes), "{bytes:?}");
     }
 }

@@ -1,12 +1,22 @@
 //! Bytes counted by hand.
 
+ghost use Rattle.rs_frame.specs.Spelling.{IsSpellable};
+
 use rs_frame::{
     Frame, FrameFault, Request, decode, encode, grammar_laws, length, resumable, rule_number,
     spellable, stream,
 };
-use rs_wire::{Blob, Kind, Message, OutOfMemory};
+use rs_wire::{Blob, Kind, Message};
 use std::alloc::Global;
-use std::test::Fail;
+use std::process::Abort;
+
+/// The frame that the bytes spell.
+pub fn decoded(rt: &impl Abort, alloc: Global, bytes: &[u8]) -> Frame
+    ensures { IsSpellable result }
+{
+    assert!(rt; bytes.len() <= 0xff_ffff);
+    decode(alloc, bytes).expect(rt, "the bytes spell a frame")
+}
 
 /// For each rule its number, and bytes of which it is the least that they break.
 const BROKEN: [(u8, &[u8]); 9] = [
@@ -75,39 +85,46 @@ const OTHER_FLAGS: [(&[u8], &[u8]); 2] = [
     (b"\0\0\0\0\x30\0\x61", b"\0\0\0\0\x31\0\x61"),
 ];
 
-fn written(alloc: Global, frame: &Frame) -> Result<Vec<u8>, OutOfMemory> {
+fn written(rt: &impl Abort, alloc: Global, frame: &Frame) -> Vec<u8> {
     let mut out = Vec::new(alloc);
     if spellable(frame) {
-        encode(frame, &mut out)?;
+        encode(frame, &mut out).expect(rt, "there is memory");
     }
-    Ok(out)
+    out
 }
 
 fn has_length(frame: &Frame, count: usize) -> bool {
     spellable(frame) && length(frame) as usize == count
 }
 
-// Whether a copy of the frame is the same, and is written as these bytes.
-fn is_written_as(alloc: Global, frame: &Frame, bytes: &[u8]) -> Result<bool, OutOfMemory> {
-    let copy = frame.copy(alloc)?;
-    let is_same = copy == *frame && has_length(&copy, bytes.len());
-    let out = written(alloc, &copy)?;
-    Ok(is_same && out.as_slice() == bytes)
+fn copied(rt: &impl Abort, alloc: Global, frame: &Frame) -> Frame {
+    frame.copy(alloc).expect(rt, "there is memory")
 }
 
-// Whether the bytes spell a frame whose canonical bytes are these.
-fn comes_back(alloc: Global, bytes: &[u8], canonical: &[u8]) -> Result<bool, FrameFault> {
-    if bytes.len() > 0xff_ffff {
-        return Ok(false);
-    }
-    let frame = decode(alloc, bytes)?;
-    Ok(is_written_as(alloc, &frame, canonical)?)
+// Whether the frame is the other, and is written as these bytes.
+fn is_written_as(
+    rt: &impl Abort,
+    alloc: Global,
+    frame: &Frame,
+    other: &Frame,
+    bytes: &[u8],
+) -> bool {
+    *frame == *other
+        && has_length(frame, bytes.len())
+        && written(rt, alloc, frame).as_slice() == bytes
+}
+
+// Whether the bytes spell a frame whose copy is the same, and has these canonical bytes.
+fn comes_back(rt: &impl Abort, alloc: Global, bytes: &[u8], canonical: &[u8]) -> bool {
+    let frame = decoded(rt, alloc, bytes);
+    let copy = copied(rt, alloc, &frame);
+    is_written_as(rt, alloc, &copy, &frame, canonical)
 }
 
 #[test]
 fn each_type_comes_back(rt: HostRuntime) {
     for bytes in CANONICAL {
-        assert_eq!(rt; comes_back(rt.alloc(), bytes, bytes), Ok(true), "{bytes:?}");
+        assert!(rt; comes_back(&rt, rt.alloc(), bytes, bytes), "{bytes:?}");
     }
     grammar_laws();
 }
@@ -115,11 +132,7 @@ fn each_type_comes_back(rt: HostRuntime) {
 #[test]
 fn flags_that_are_not_named_are_not_read(rt: HostRuntime) {
     for (bytes, canonical) in OTHER_FLAGS {
-        assert_eq!(rt;
-            comes_back(rt.alloc(), bytes, canonical),
-            Ok(true),
-            "{bytes:?}"
-        );
+        assert!(rt; comes_back(&rt, rt.alloc(), bytes, canonical), "{bytes:?}");
     }
 }
 
@@ -174,29 +187,18 @@ const READ: [Row; 5] = [
     },
 ];
 
-fn says(alloc: Global, frame: &Frame, row: &Row) -> Result<bool, Fail> {
-    let text = format!(in alloc; "{frame:?}")?;
-    Ok(
-        text.as_str() == row.says
-            && stream(frame) == row.stream
-            && resumable(frame) == row.resumable,
-    )
-}
-
-fn is_read_so(alloc: Global, row: &Row) -> Result<bool, Fail> {
-    if row.bytes.len() > 0xff_ffff {
-        return Ok(false);
-    }
-    let frame = decode(alloc, row.bytes)?;
-    says(alloc, &frame, row)
+// Whether the frame is written so for a reader, and has the stream of the row.
+fn says(rt: &impl Abort, alloc: Global, frame: &Frame, row: &Row) -> bool {
+    let text = format!(in alloc; "{frame:?}").expect(rt, "there is memory");
+    text.as_str() == row.says && stream(frame) == row.stream && resumable(frame) == row.resumable
 }
 
 #[test]
-fn bytes_are_read_by_field(rt: HostRuntime) -> Result<(), Fail> {
+fn bytes_are_read_by_field(rt: HostRuntime) {
     for row in READ {
-        assert!(rt; is_read_so(rt.alloc(), &row)?, "{}", row.says);
+        let frame = decoded(&rt, rt.alloc(), row.bytes);
+        assert!(rt; says(&rt, rt.alloc(), &frame, &row), "{}", row.says);
     }
-    Ok(())
 }
 
 #[test]

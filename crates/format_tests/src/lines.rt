@@ -1,9 +1,10 @@
 //! Frames as lines of text, and lines that are those of no frame.
 
+use crate::frames::decoded;
 use frame_text::{TextFault, line_of, read_line};
-use rs_frame::{decode, encode};
+use rs_frame::encode;
 use std::alloc::Global;
-use std::test::Fail;
+use std::process::Abort;
 
 /// The canonical bytes of frames, and their lines.
 const LINES: [(&[u8], &[u8]); 19] = [
@@ -68,34 +69,36 @@ const WRONG: [(&[u8], TextFault); 10] = [
 ];
 
 // Whether the line of the frame that the bytes spell is appended to a `>`.
-fn is_shown(alloc: Global, bytes: &[u8], line: &[u8]) -> Result<bool, Fail> {
-    if bytes.len() > 0xff_ffff {
-        return Ok(false);
-    }
-    let mut out = Vec::from_slice(alloc, b">")?;
-    let frame = decode(alloc, bytes)?;
-    line_of(&frame, &mut out)?;
+fn is_shown(rt: &impl Abort, alloc: Global, bytes: &[u8], line: &[u8]) -> bool {
+    let mut out = Vec::from_slice(alloc, b">").expect(rt, "there is memory");
+    let frame = decoded(rt, alloc, bytes);
+    line_of(&frame, &mut out).expect(rt, "there is memory");
     match out.as_slice() {
-        [b'>', rest @ ..] => Ok(rest == line),
-        _ => Ok(false),
+        [b'>', rest @ ..] => rest == line,
+        _ => false,
     }
 }
 
 // Whether the line is that of the frame with these canonical bytes.
-fn is_read(alloc: Global, line: &[u8], bytes: &[u8]) -> Result<bool, Fail> {
+fn is_read(rt: &impl Abort, alloc: Global, line: &[u8], bytes: &[u8]) -> bool {
     let mut out = Vec::new(alloc);
-    let frame = read_line(alloc, line)?;
-    encode(&frame, &mut out)?;
-    Ok(out.as_slice() == bytes)
+    let frame = read_line(alloc, line).expect(rt, "the line is that of a frame");
+    encode(&frame, &mut out).expect(rt, "there is memory");
+    out.as_slice() == bytes
 }
 
 #[test]
-fn frames_and_lines_say_the_same(rt: HostRuntime) -> Result<(), Fail> {
+fn frames_and_lines_say_the_same(rt: HostRuntime) {
     for (bytes, line) in LINES {
-        assert!(rt; is_shown(rt.alloc(), bytes, line)?, "to the line {line:?}");
-        assert!(rt; is_read(rt.alloc(), line, bytes)?, "from the line {line:?}");
+        assert!(rt;
+            is_shown(&rt, rt.alloc(), bytes, line),
+            "to the line {line:?}"
+        );
+        assert!(rt;
+            is_read(&rt, rt.alloc(), line, bytes),
+            "from the line {line:?}"
+        );
     }
-    Ok(())
 }
 
 #[test]

@@ -4,10 +4,9 @@ ghost use Rattle.std.specs.Prelude.{◌≡◌, ◌∷◌, ◌++◌, [], OnOk};
 
 use byte_queue::ByteQueue;
 use rs_wire::OutOfMemory;
-use std::test::Fail;
 
 #[test]
-fn what_was_appended_leaves_in_order(rt: HostRuntime) -> Result<(), Fail> {
+fn what_was_appended_leaves_in_order(rt: HostRuntime) {
     let mut queue = ByteQueue::new(rt.alloc());
     assert!(rt; queue.append(&[1, 2, 3]).is_ok());
     queue.drop_front(1);
@@ -18,11 +17,10 @@ fn what_was_appended_leaves_in_order(rt: HostRuntime) -> Result<(), Fail> {
     assert_eq!(rt; queue.len(), 1);
     queue.clear();
     assert_eq!(rt; queue.len(), 0);
-    Ok(())
 }
 
 #[test]
-fn what_was_reserved_is_appended_without_allocating(rt: HostRuntime) -> Result<(), Fail> {
+fn what_was_reserved_is_appended_without_allocating(rt: HostRuntime) {
     let mut queue = ByteQueue::new(rt.alloc());
     assert!(rt; queue.append(&[7; 9]).is_ok());
     assert!(rt; queue.reserve(4).is_ok());
@@ -30,7 +28,6 @@ fn what_was_reserved_is_appended_without_allocating(rt: HostRuntime) -> Result<(
     queue.append(&[1, 2]).unwrap();
     queue.append(&[3, 4]).unwrap();
     assert!(rt; queue.as_slice() == [1, 2, 3, 4].as_slice());
-    Ok(())
 }
 
 fn append_pair(queue: &mut ByteQueue, byte: u8) -> Result<(), OutOfMemory>
@@ -43,11 +40,10 @@ fn append_pair(queue: &mut ByteQueue, byte: u8) -> Result<(), OutOfMemory>
 }
 
 #[test]
-fn a_writer_appends_what_it_writes(rt: HostRuntime) -> Result<(), Fail> {
+fn a_writer_appends_what_it_writes(rt: HostRuntime) {
     let mut queue = ByteQueue::new(rt.alloc());
     assert!(rt; append_pair(&mut queue, 5).is_ok());
     assert!(rt; append_pair(&mut queue, 6).is_ok());
     queue.drop_front(1);
     assert!(rt; queue.as_slice() == [5, 6, 6].as_slice());
-    Ok(())
 }

@@ -1,12 +1,12 @@
 //! Plain values and checked settings.
 
 use rs_wire::{
-    Amount, Blob, Call, Cause, Gone, Job, Kind, Limit, Message, OutOfMemory, Refusal, Rule,
+    Amount, Blob, Call, Cause, Checked, Gone, Job, Kind, Limit, Message, Refusal, Rule,
     SettingFault, Settings, SetupFault, Side, check, is_stream_code,
 };
 use std::alloc::Global;
 use std::fmt::Display;
-use std::test::Fail;
+use std::process::Abort;
 
 #[test]
 fn amounts_are_above_zero_and_have_31_bits(rt: HostRuntime) {
@@ -39,136 +39,159 @@ fn an_error_of_a_stream_has_a_code_of_streams(rt: HostRuntime) {
     }
 }
 
-fn message(alloc: Global, metadata: Option<&[u8]>, content: &[u8]) -> Result<Message, OutOfMemory> {
+fn blob(rt: &impl Abort, alloc: Global, bytes: &[u8]) -> Blob {
+    Blob::from_slice(alloc, bytes).expect(rt, "there is memory")
+}
+
+fn message(rt: &impl Abort, alloc: Global, metadata: Option<&[u8]>, content: &[u8]) -> Message {
     let metadata = match metadata {
-        Some(bytes) => Some(Blob::from_slice(alloc, bytes)?),
+        Some(bytes) => Some(blob(rt, alloc, bytes)),
         None => None,
     };
-    Ok(Message {
+    Message {
         metadata,
-        content: Blob::from_slice(alloc, content)?,
-    })
+        content: blob(rt, alloc, content),
+    }
 }
 
 // Whether a copy is the same.
-fn is_copied(alloc: Global, call: &Call) -> Result<bool, OutOfMemory> {
-    Ok(call.copy(alloc)? == *call)
+fn is_copied(rt: &impl Abort, alloc: Global, call: &Call) -> bool {
+    let copy = call.copy(alloc).expect(rt, "there is memory");
+    copy == *call
 }
 
-fn request(alloc: Global, metadata: Option<&[u8]>) -> Result<Call, OutOfMemory> {
-    Ok(Call::Request {
+fn request(rt: &impl Abort, alloc: Global, metadata: Option<&[u8]>) -> Call {
+    Call::Request {
         kind: Kind::Fnf,
         initial: None,
-        message: message(alloc, metadata, b"hi")?,
+        message: message(rt, alloc, metadata, b"hi"),
         complete: false,
-    })
+    }
 }
 
-fn fail(alloc: Global) -> Result<Call, OutOfMemory> {
-    Ok(Call::Fail {
+fn fail(rt: &impl Abort, alloc: Global) -> Call {
+    Call::Fail {
         stream: 1,
         code: 0x201,
-        content: Blob::from_slice(alloc, b"oo")?,
-    })
+        content: blob(rt, alloc, b"oo"),
+    }
 }
 
-fn next(alloc: Global) -> Result<Call, OutOfMemory> {
-    Ok(Call::Next {
+fn next(rt: &impl Abort, alloc: Global) -> Call {
+    Call::Next {
         stream: 1,
-        message: message(alloc, None, b"b")?,
+        message: message(rt, alloc, None, b"b"),
         complete: true,
-    })
+    }
 }
 
-fn lease(alloc: Global, second: Amount) -> Result<Call, OutOfMemory> {
-    Ok(Call::Lease {
+fn lease(rt: &impl Abort, alloc: Global) -> Call {
+    let second = Amount::of(1_000).expect(rt, "an amount");
+    Call::Lease {
         ttl: second,
         count: second,
-        metadata: Some(Blob::from_slice(alloc, b"a")?),
-    })
+        metadata: Some(blob(rt, alloc, b"a")),
+    }
 }
 
-fn push(alloc: Global) -> Result<Call, OutOfMemory> {
-    Ok(Call::Push {
-        metadata: Blob::from_slice(alloc, b"ab")?,
-    })
+fn push(rt: &impl Abort, alloc: Global) -> Call {
+    Call::Push {
+        metadata: blob(rt, alloc, b"ab"),
+    }
 }
 
-fn is_pushed_copied(alloc: Global) -> Result<bool, OutOfMemory> {
-    let pushed = Job::Pushed {
-        metadata: Blob::from_slice(alloc, b"ab")?,
-    };
-    Ok(pushed.copy(alloc)? == pushed)
+fn pushed(rt: &impl Abort, alloc: Global) -> Job {
+    Job::Pushed {
+        metadata: blob(rt, alloc, b"ab"),
+    }
+}
+
+// Whether a copy of a job is the same.
+fn is_job_copied(rt: &impl Abort, alloc: Global, job: &Job) -> bool {
+    let copy = job.copy(alloc).expect(rt, "there is memory");
+    copy == *job
 }
 
 // Whether a fire-and-forget of `hi` is this call.
-fn is_plain(alloc: Global, call: &Call) -> Result<bool, OutOfMemory> {
-    Ok(Call::fire_and_forget(Blob::from_slice(alloc, b"hi")?) == *call)
+fn is_plain(rt: &impl Abort, alloc: Global, call: &Call) -> bool {
+    Call::fire_and_forget(blob(rt, alloc, b"hi")) == *call
 }
 
 #[test]
-fn calls_are_copied(rt: HostRuntime) -> Result<(), Fail> {
+fn calls_are_copied(rt: HostRuntime) {
     let alloc = rt.alloc();
-    let number = Amount::of(1_000).ok_or("no amount")?;
-    assert!(rt; is_copied(alloc, &request(alloc, Some(b"route"))?)?);
-    assert!(rt; is_copied(alloc, &fail(alloc)?)?);
-    assert!(rt; is_copied(alloc, &next(alloc)?)?);
-    assert!(rt; is_copied(alloc, &lease(alloc, number)?)?);
-    assert!(rt; is_copied(alloc, &push(alloc)?)?);
-    assert!(rt; is_copied(alloc, &Call::TakeJob)?);
-    assert!(rt; is_pushed_copied(alloc)?);
-    Ok(())
+    assert!(rt; is_copied(&rt, alloc, &request(&rt, alloc, Some(b"route"))));
+    assert!(rt; is_copied(&rt, alloc, &fail(&rt, alloc)));
+    assert!(rt; is_copied(&rt, alloc, &next(&rt, alloc)));
+    assert!(rt; is_copied(&rt, alloc, &lease(&rt, alloc)));
+    assert!(rt; is_copied(&rt, alloc, &push(&rt, alloc)));
+    assert!(rt; is_copied(&rt, alloc, &Call::TakeJob));
+    assert!(rt; is_job_copied(&rt, alloc, &pushed(&rt, alloc)));
 }
 
 #[test]
-fn a_call_is_another_than_one_with_metadata(rt: HostRuntime) -> Result<(), Fail> {
+fn a_call_is_another_than_one_with_metadata(rt: HostRuntime) {
     let alloc = rt.alloc();
-    assert!(rt; is_plain(alloc, &request(alloc, None)?)?);
-    assert!(rt; !is_plain(alloc, &request(alloc, Some(b"route"))?)?);
+    assert!(rt; is_plain(&rt, alloc, &request(&rt, alloc, None)));
+    assert!(rt; !is_plain(&rt, alloc, &request(&rt, alloc, Some(b"route"))));
     assert!(rt; Call::TakeJob != Call::Close);
-    Ok(())
 }
 
 #[test]
-fn a_message_is_measured(rt: HostRuntime) -> Result<(), Fail> {
-    assert_eq!(rt; message(rt.alloc(), Some(b"route"), b"hi")?.size(), 7);
-    Ok(())
+fn a_message_is_measured(rt: HostRuntime) {
+    assert_eq!(rt; message(&rt, rt.alloc(), Some(b"route"), b"hi").size(), 7);
+}
+
+fn usual(rt: &impl Abort, alloc: Global, side: Side) -> Settings {
+    Settings::usual(alloc, side).expect(rt, "there is memory")
+}
+
+fn checked(rt: &impl Abort, alloc: Global, side: Side) -> Checked {
+    match check(usual(rt, alloc, side)) {
+        Ok(settings) => settings,
+        Err(_) => panic!(rt; "the settings are right"),
+    }
 }
 
 #[test]
-fn the_usual_settings_are_in_range(rt: HostRuntime) -> Result<(), Fail> {
-    let client = Settings::usual(rt.alloc(), Side::Client)?;
-    let client = check(client).ok().ok_or("a fault")?;
+fn the_usual_settings_are_in_range(rt: HostRuntime) {
+    let alloc = rt.alloc();
+    let client = checked(&rt, alloc, Side::Client);
     // Twice 1,048,576, one frame of 16,777,215 with 1,024 bytes, and 14,680,064.
     assert_eq!(rt; client.out_limit(), 33_555_455);
     assert_eq!(rt; client.settings().content_mime.len(), 24);
-    let again = client.copy(rt.alloc())?;
+    let again = client.copy(alloc).expect(&rt, "there is memory");
     assert_eq!(rt; again.settings().max_streams, 1_024);
-    assert_eq!(rt;
-        Settings::usual(rt.alloc(), Side::Server)?.side,
-        Side::Server
-    );
-    Ok(())
+    assert_eq!(rt; usual(&rt, alloc, Side::Server).side, Side::Server);
+}
+
+// The fault of settings.
+fn fault_of(settings: Settings) -> Option<SettingFault> {
+    match check(settings) {
+        Ok(_) => None,
+        Err((_, fault)) => Some(fault),
+    }
 }
 
 // The fault of a client's usual settings with these in place of four of them.
 fn fault(
+    rt: &impl Abort,
     alloc: Global,
     mtu: u32,
     max_in: u32,
     last_id: u32,
     resume: bool,
-) -> Result<Option<SettingFault>, OutOfMemory> {
-    let mut settings = Settings::usual(alloc, Side::Client)?;
+) -> Option<SettingFault> {
+    let mut settings = usual(rt, alloc, Side::Client);
     settings.mtu = mtu;
     settings.max_in = max_in;
     settings.last_id = last_id;
     settings.resume = resume;
-    Ok(check(settings).err().map(|(_, fault)| fault))
+    fault_of(settings)
 }
 
 #[test]
-fn the_first_fault_is_answered(rt: HostRuntime) -> Result<(), Fail> {
+fn the_first_fault_is_answered(rt: HostRuntime) {
     let limit = SettingFault::LimitRange(Limit::MaxIn);
     for (mtu, max_in, last_id, resume, wanted) in [
         (63, 63, 2_147_483_647, false, SettingFault::MtuRange),
@@ -177,11 +200,10 @@ fn the_first_fault_is_answered(rt: HostRuntime) -> Result<(), Fail> {
         (0, 16_777_215, 2_147_483_647, true, SettingFault::TokenRange),
     ] {
         assert_eq!(rt;
-            fault(rt.alloc(), mtu, max_in, last_id, resume)?,
+            fault(&rt, rt.alloc(), mtu, max_in, last_id, resume),
             Some(wanted)
         );
     }
-    Ok(())
 }
 
 #[test]
@@ -199,20 +221,27 @@ fn a_fault_has_its_word(rt: HostRuntime) {
 }
 
 // Whether this is what is written.
-fn is_told(alloc: Global, fault: &impl Display, sentence: &str) -> Result<bool, Fail> {
-    Ok(format!(in alloc; "{fault}")?.as_str() == sentence)
+fn is_told(rt: &impl Abort, alloc: Global, fault: &impl Display, sentence: &str) -> bool {
+    let told = format!(in alloc; "{fault}").expect(rt, "there is memory");
+    told.as_str() == sentence
 }
 
 #[test]
-fn a_fault_has_its_sentence(rt: HostRuntime) -> Result<(), Fail> {
+fn a_fault_has_its_sentence(rt: HostRuntime) {
     let alloc = rt.alloc();
     let broken = Refusal::Closed(Cause::Broken(Rule::StreamId(3)));
     let sentence = "the session is closed: the peer broke a rule: \
         a request came on stream 3, which is not the peer's next";
-    assert!(rt; is_told(alloc, &broken, sentence)?);
+    assert!(rt; is_told(&rt, alloc, &broken, sentence));
     let sentence = "the peer's lease is over since 150 ms";
-    assert!(rt; is_told(alloc, &Refusal::LeaseOver(150), sentence)?);
+    assert!(rt; is_told(&rt, alloc, &Refusal::LeaseOver(150), sentence));
     let sentence = "max_in is out of its range";
-    assert!(rt; is_told(alloc, &SettingFault::LimitRange(Limit::MaxIn), sentence)?);
-    Ok(())
+    assert!(rt;
+        is_told(
+            &rt,
+            alloc,
+            &SettingFault::LimitRange(Limit::MaxIn),
+            sentence
+        )
+    );
 }

@@ -4,7 +4,6 @@ use plain_text::{
     cut_line, first_line, hex_size, is_hex_word, read_hex, read_number, write_hex, write_number,
     write_number_word, write_text, write_word,
 };
-use std::test::Fail;
 
 /// Words, and the number from 1 to 99 that they say.
 const NUMBERS: [(&[u8], Option<u64>); 9] = [
@@ -47,18 +46,17 @@ fn bytes_have_one_word(rt: HostRuntime) {
 }
 
 #[test]
-fn a_word_of_bytes_is_read(rt: HostRuntime) -> Result<(), Fail> {
+fn a_word_of_bytes_is_read(rt: HostRuntime) {
     assert!(rt; is_hex_word(b"0aff", b'.') && is_hex_word(b".", b'.'));
     assert_eq!(rt; hex_size(b"0aff", b'.'), 2);
-    let bytes = read_hex(rt.alloc(), b"0aff", b'.').map_err(|_| "memory")?;
+    let bytes = read_hex(rt.alloc(), b"0aff", b'.').expect(&rt, "there is memory");
     assert!(rt; bytes.as_slice() == [10, 255].as_slice());
-    let none = read_hex(rt.alloc(), b".", b'.').map_err(|_| "memory")?;
+    let none = read_hex(rt.alloc(), b".", b'.').expect(&rt, "there is memory");
     assert!(rt; none.is_empty());
-    Ok(())
 }
 
 #[test]
-fn words_are_appended(rt: HostRuntime) -> Result<(), Fail> {
+fn words_are_appended(rt: HostRuntime) {
     let mut out = Vec::new(rt.alloc());
     assert!(rt; write_text(&mut out, "made").is_ok());
     assert!(rt; write_word(&mut out, "of").is_ok());
@@ -67,7 +65,6 @@ fn words_are_appended(rt: HostRuntime) -> Result<(), Fail> {
     assert!(rt; write_hex(&mut out, &[10, 255], b'-').is_ok());
     assert!(rt; write_hex(&mut out, &[], b'-').is_ok());
     assert!(rt; out.as_slice() == b"made of 1677721600aff-".as_slice());
-    Ok(())
 }
 
 // Whether the text is cut into this line and this rest.

@@ -112,6 +112,6 @@ pub(crate) fn tick<T: Tape, K: Clock, R: Wait>(
         result caller.new.front }
 {
     let now = clock.now();
-    let answer = connection.event(rt, caller, &Event::Tick { now });
+    let answer = connection.bring(rt, caller, Event::Tick { now });
     brought_by(&answer)
 }

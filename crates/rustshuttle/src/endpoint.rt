@@ -105,13 +105,13 @@ impl<T: Tape> Endpoint<T> {
     }
 
     // Answers an event, which is no draw.
-    fn tell(&mut self, event: &Event) -> Answer
-        requires fair { CanBring self.old.session.settings event.now }
-        requires no_draw { IsNoDrawEvent event.now }
-        ensures answered { HasAnswered event.now result self.old.session self.new.session }
+    fn tell(&mut self, event: Event) -> Answer
+        requires fair { CanBring self.old.session.settings event }
+        requires no_draw { IsNoDrawEvent event }
+        ensures answered { HasAnswered event result self.old.session self.new.session }
         ensures rest { self.new ≡ record self.old { session = self.new.session } }
     {
-        self.session.step(CALLER, event)
+        self.session.bring(CALLER, event)
     }
 
     /// A client opens a connection: `Opened` with its number where it may. What came on the former
@@ -125,7 +125,7 @@ impl<T: Tape> Endpoint<T> {
             connection_after result self.old.connection }
         ensures rest { self.new.rest ≡ rest_after result self.old.rest }
     {
-        let answer = self.tell(&Event::opening());
+        let answer = self.tell(Event::opening());
         if let Answer::Opened(conn) = &answer {
             self.connection = Some(*conn);
             self.clear();
@@ -160,7 +160,7 @@ impl<T: Tape> Endpoint<T> {
             × (self.new.rest ≡ self.old.rest) }
     {
         let conn = self.connection?;
-        Some(self.tell(&Event::Cut { conn }))
+        Some(self.tell(Event::Cut { conn }))
     }
 
     /// Bytes came on the connection, in a piece of any size. Where there is no memory for them none
@@ -276,7 +276,7 @@ impl<T: Tape> Endpoint<T> {
             self.old.session self.new.session }
         ensures rest { self.new ≡ record self.old { session = self.new.session } }
     {
-        self.tell(&Event::Tick { now })
+        self.tell(Event::Tick { now })
     }
 
     /// The moment, in milliseconds, at which the next [`tick`](Endpoint::tick) does something; none

@@ -75,7 +75,7 @@ fn cut_live<R: Wait, T: Tape>(rt: &R, connection: &Connection<T>, caller: &mut C
     ensures goes { GoesOn IsEnding caller.old caller.new.front }
 {
     let conn = connection.look(rt, caller).live;
-    connection.event(rt, caller, &Event::Cut { conn });
+    connection.bring(rt, caller, Event::Cut { conn });
 }
 
 // Whether a connection's queue is full.

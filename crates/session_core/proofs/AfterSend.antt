@@ -1,5 +1,5 @@
--- A request or a payload that goes out in one frame, once it is applied.
-use Rattle.std.proofs.Common.{◌≡◌, ◌+◌, ◌-◌, ◌++◌, ◌<◌, ◌≤◌, ◌^◌, ◌∷◌, [], ℕ, Bool, add-zero, List, drop, length, Option, Some, IfSome, refl, ap, sym, subst, ◌∙◌, arith}
+-- A call that goes out in one frame, once it is applied.
+use Rattle.std.proofs.Common.{◌≡◌, ◌+◌, ◌-◌, ◌++◌, ◌<◌, ◌≤◌, ◌^◌, ◌∷◌, [], ℕ, Bool, true, false, add-zero, List, drop, length, Option, Some, IfSome, refl, ap, sym, subst, ◌∙◌, arith}
 use Rattle.rs_wire.specs.declared.settings.Settings.{Settings}
 use Rattle.rs_wire.specs.declared.call.Call.{Call}
 use Rattle.rs_wire.specs.declared.call.Call.TheVariants as call
@@ -10,22 +10,25 @@ use Rattle.tape.specs.declared.entry.Entry.{Entry}
 use Rattle.tape.specs.declared.event.Event.TheVariants as event
 use Rattle.stream_model.specs.declared.arrival.Arrival.{Arrival}
 use Rattle.stream_model.specs.Arriving.{said}
-use Rattle.interactions.specs.Seen.{Seen, acted, known_to}
-use Rattle.reassembly.specs.Gathering.{ReassemblyView}
+use Rattle.stream_model.specs.Marks.{Mark}
+use Rattle.fragment.specs.Joining.{Gathered}
+use Rattle.interactions.specs.Seen.{Seen, acted, known_to, stream_of_call}
+use Rattle.reassembly.specs.Gathering.{ReassemblyView, gathered_at}
 use Rattle.rs_frame.specs.Spelling.{canonical}
 use Rattle.replay_buffer.specs.Held.{Buffer, HasSpare, end_of}
 use Rattle.session_model.specs.declared.facts.Counted.{Counted}
 use Rattle.session_model.specs.Frames.{if_agreed, makes, spoken}
 use Rattle.session_model.specs.Legal.{IsFair}
 use Rattle.session_model.specs.Life.{agrees_leases, agrees_resumption}
+use Rattle.session_model.specs.Streams.{gathers, marks_in}
 use Rattle.session_core.specs.declared.state.State.{State}
 use Rattle.session_core.specs.After.{IsAfter, IsApplied, more_counted}
 use Rattle.session_core.specs.Fits.{Fits, facts_of}
-use Rattle.session_core.specs.Gathering.{IsOfHeard}
+use Rattle.session_core.specs.Gathering.{IsOfHeard, is_that, touches}
 use Rattle.session_core.specs.Kept.{HoldsMore}
 use Rattle.session_core.specs.Leasing.{LetsStart, covers_next, lease_after}
 use Rattle.session_core.specs.Prepared.{left_in_line, with_line}
-use Rattle.session_core.specs.Sending.{CanKeepLast, IsLastOf, IsMessageOn, LetsGo, MaySend, Sends, answer_on, own_next, spoken_after}
+use Rattle.session_core.specs.Sending.{CanKeepLast, IsCallOn, IsLastOf, LetsGo, MaySend, Sends, answer_on, own_next, spoken_after}
 use Rattle.session_core.specs.Speaking.{Acts, CanSay, FindsRoom, speaks_on, with_room}
 use Rattle.session_model.proofs.Spelled.{makes_fit}
 use Rattle.session_core.specs.Sound.{IsSound}
@@ -37,43 +40,66 @@ use Rattle.session_core.proofs.Sums.{none_counted}
 use Rattle.session_core.proofs.SentOnce.{is_spoken, sent_answer, sent_means}
 use Rattle.session_core.proofs.Soundness.{end_below, starts_of}
 
-finds_room : (next : ℕ) (asked : Call) (on : ℕ) → IsMessageOn next asked on → FindsRoom (speaks_on (answer_on asked on) (event.Asked asked)) (Some on)
+finds_room : (next : ℕ) (asked : Call) (on : ℕ) → IsCallOn next asked on → FindsRoom (speaks_on (answer_on asked on) (event.Asked asked)) (Some on)
 finds_room next (call.Request kind initial message complete) on is = refl
 finds_room next (call.Next n message complete) on is = ap Some is
+finds_room next (call.Done n) on is = ap Some is
+finds_room next (call.Grant n amount) on is = ap Some is
+finds_room next (call.Cancel n) on is = ap Some is
+finds_room next (call.Fail n code content) on is = ap Some is
 finds_room next asked on is = absurd is
 
-acts_so : (v : Seen) (next : ℕ) (asked : Call) (on : ℕ) (what : Option Arrival) → IsMessageOn next asked on → CanSay v (answer_on asked on) (event.Asked asked) what → Acts v asked
+acts_so : (v : Seen) (next : ℕ) (asked : Call) (on : ℕ) (what : Option Arrival) → IsCallOn next asked on → CanSay v (answer_on asked on) (event.Asked asked) what → Acts v asked
 acts_so v next (call.Request kind initial message complete) on what is says = says.acts
 acts_so v next (call.Next n message complete) on what is says = says
+acts_so v next (call.Done n) on what is says = says
+acts_so v next (call.Grant n amount) on what is says = says
+acts_so v next (call.Cancel n) on what is says = says
+acts_so v next (call.Fail n code content) on what is says = says
 acts_so v next asked on what is says = absurd is
 
-pub sent_acts : (g : Settings) (s : State) (past : List Entry) (asked : Call) (on : ℕ) → Fits g s past → length past < 2 ^ 63 → IsFair g (event.Asked asked) → IsMessageOn (own_next s.streams) asked on → MaySend g s asked
+pub sent_acts : (g : Settings) (s : State) (past : List Entry) (asked : Call) (on : ℕ) → Fits g s past → length past < 2 ^ 63 → IsFair g (event.Asked asked) → IsCallOn (own_next s.streams) asked on → MaySend g s asked
     → Acts (with_room s (Some on) s.parts s.replay.spare).streams asked
 sent_acts g s past asked on fits short fair is may =
     acts_so (with_room s (Some on) s.parts s.replay.spare).streams (own_next s.streams) asked on _ is
     (can_say g s past (Some on) s.parts s.replay.spare (event.Asked asked) (answer_on asked on) fits short fair (sent_means g s asked on fits.limits_are is may) (finds_room (own_next s.streams) asked on is))
 
+-- what a call says is what the marks of its entry are
+said_there : (v : Seen) (covered : Bool) (held : ℕ → Gathered) (asked : Call) (on : ℕ) → IsCallOn (own_next v) asked on → said (stream_of_call v asked) asked ≡ marks_in covered held (answer_on asked on) (event.Asked asked)
+said_there v covered held (call.Request kind initial message complete) on is = ap (λ (id : ℕ). said id (call.Request kind initial message complete)) (sym is)
+said_there v covered held asked on is = refl
+
+-- and it touches that stream
+touched : (next : ℕ) (asked : Call) (on : ℕ) → IsCallOn next asked on → touches (answer_on asked on) (event.Asked asked) ≡ Some on
+touched next (call.Request kind initial message complete) on is = refl
+touched next (call.Next n message complete) on is = ap Some (sym is)
+touched next (call.Done n) on is = ap Some (sym is)
+touched next (call.Grant n amount) on is = ap Some (sym is)
+touched next (call.Cancel n) on is = ap Some (sym is)
+touched next (call.Fail n code content) on is = ap Some (sym is)
+touched next asked on is = absurd is
+
+still_gathered : (asked : Call) (on s : ℕ) (held : Gathered) → held ≡ gathers (answer_on asked on) (event.Asked asked) s held
+still_gathered (call.Request kind initial message complete) on s held = refl
+still_gathered asked on s held = refl
+
 -- what is said on its stream, of which nothing is taken in
-sent_goes : (old : State) (covered : Bool) (asked : Call) (on : ℕ) (parts : ReassemblyView) → IsMessageOn (own_next old.streams) asked on → IsOfHeard (known_to old.streams) old.parts
+sent_goes : (old : State) (covered : Bool) (asked : Call) (on : ℕ) (parts : ReassemblyView) → IsCallOn (own_next old.streams) asked on → IsOfHeard (known_to old.streams) old.parts
     → LetsGo (known_to (acted old.streams asked)) on old.parts parts
     → Goes old.streams.limits.max_streams old.streams.marks (acted old.streams asked).marks covered (answer_on asked on) (event.Asked asked) old.parts old.parts parts
-sent_goes old covered (call.Request kind initial message complete) on parts is heard go = record {
-  said = ap (λ (id : ℕ). said id (call.Request kind initial message complete) ++ old.streams.marks) (sym is);
-  before = heard;
-  taken = λ i. refl;
-  others = λ i off. refl;
-  let_go = record { heard = go.heard; over = go.over; others = go.others };
-}
-sent_goes old covered (call.Next n message complete) on parts is heard go =
-    let gone : LetsGo (known_to (acted old.streams (call.Next n message complete))) n old.parts parts = subst (λ (k : ℕ). LetsGo (known_to (acted old.streams (call.Next n message complete))) k old.parts parts) is go in
+sent_goes old covered asked on parts is heard go =
+    let there = touched (own_next old.streams) asked on is in
     record {
-      said = refl;
+      said = ap (λ (ms : List Mark). ms ++ old.streams.marks) (said_there old.streams covered (gathered_at old.parts) asked on is);
       before = heard;
-      taken = λ i. refl;
-      others = λ i off. refl;
-      let_go = record { heard = gone.heard; over = gone.over; others = gone.others };
+      taken = λ s. still_gathered asked on s (gathered_at old.parts s);
+      others = λ s off. refl;
+      let_go = record {
+        heard = go.heard;
+        over = λ s here none. go.over s (subst (λ (o : Option ℕ). is_that o s ≡ true) there here) none;
+        others = λ s off. go.others s (subst (λ (o : Option ℕ). is_that o s ≡ false) there off);
+      };
     }
-sent_goes old covered asked on parts is heard go = absurd is
 
 -- one frame more of that length is counted
 one_more : (t : Counted) (ms : List Frame) (n : ℕ) → length ms ≡ 1 → pos ms ≡ n → record { frames = t.frames + 1; position = t.position + n } ≡ more_counted t ms
@@ -82,7 +108,7 @@ one_more t ms n one long =
     ∙ ap (λ (p : ℕ). record { frames = t.frames + length ms; position = t.position + p }) (sym long)
 
 -- what it leaves
-sent_applied : (g : Settings) (old : State) (asked : Call) (on n : ℕ) (parts : ReassemblyView) (replay : Buffer) (lease : Option Terms) → IsMessageOn (own_next old.streams) asked on → IsOfHeard (known_to old.streams) old.parts
+sent_applied : (g : Settings) (old : State) (asked : Call) (on n : ℕ) (parts : ReassemblyView) (replay : Buffer) (lease : Option Terms) → IsCallOn (own_next old.streams) asked on → IsOfHeard (known_to old.streams) old.parts
     → length (makes g (covers_next g old) (known_to old.streams) (answer_on asked on) (event.Asked asked)) ≡ 1
     → pos (makes g (covers_next g old) (known_to old.streams) (answer_on asked on) (event.Asked asked)) ≡ n
     → HoldsMore old.replay.held (if_agreed (agrees_resumption g old.setup) (makes g (covers_next g old) (known_to old.streams) (answer_on asked on) (event.Asked asked))) 0 replay.held
@@ -90,8 +116,12 @@ sent_applied : (g : Settings) (old : State) (asked : Call) (on n : ℕ) (parts :
     → ((id now : ℕ) → lease ≡ lease_after (agrees_leases g old.setup) now (answer_on asked id) (event.Asked asked) old.lease)
     → LetsGo (known_to (acted old.streams asked)) on old.parts parts
     → IsApplied g old (event.Asked asked) (answer_on asked on) (spoken_after old asked n parts replay lease)
-sent_applied g old (call.Request kind initial message complete) on n parts replay lease is heard one long holds hold leased go =
-    let asked = call.Request kind initial message complete in
+sent_applied g old (call.Push metadata) on n parts replay lease is heard one long holds hold leased go = absurd is
+sent_applied g old (call.Lease ttl count metadata) on n parts replay lease is heard one long holds hold leased go = absurd is
+sent_applied g old (call.Take s) on n parts replay lease is heard one long holds hold leased go = absurd is
+sent_applied g old call.TakeJob on n parts replay lease is heard one long holds hold leased go = absurd is
+sent_applied g old call.Close on n parts replay lease is heard one long holds hold leased go = absurd is
+sent_applied g old asked on n parts replay lease is heard one long holds hold leased go =
     let goes = sent_goes old (covers_next g old) asked on parts is heard go in
     record {
       openings = sym (add-zero old.openings);
@@ -112,35 +142,12 @@ sent_applied g old (call.Request kind initial message complete) on n parts repla
       lease = leased on old.timer.moment;
       granted = refl;
     }
-sent_applied g old (call.Next s message complete) on n parts replay lease is heard one long holds hold leased go =
-    let asked = call.Next s message complete in
-    let goes = sent_goes old (covers_next g old) asked on parts is heard go in
-    record {
-      openings = sym (add-zero old.openings);
-      live = refl;
-      carrying = refl;
-      begun = or_false old.begun;
-      setup = or_none old.setup;
-      closed = or_none old.closed;
-      made = one_more old.made _ n one long;
-      handled = none_counted old.handled;
-      held = holds;
-      hold = hold;
-      marks = goes.said;
-      limits = refl;
-      unfinished = kept_parts _ _ _ _ _ _ _ _ _ goes;
-      heard = still_heard _ _ _ _ _ _ _ _ _ goes;
-      timer = refl;
-      lease = leased on old.timer.moment;
-      granted = refl;
-    }
-sent_applied g old asked on n parts replay lease is heard one long holds hold leased go = absurd is
 
 stays_lined : (asked : Call) (on n : ℕ) (queue : List ℕ) → queue ≡ left_in_line (answer_on asked on) n queue
 stays_lined (call.Request kind initial message complete) on n queue = refl
 stays_lined asked on n queue = refl
 
-pub sent_after : (g : Settings) (s : State) (past : List Entry) (mid new : State) (asked : Call) (on n : ℕ) (keeps leases : Bool) → Fits g s past → IsMessageOn (own_next s.streams) asked on → Sends g s asked on n
+pub sent_after : (g : Settings) (s : State) (past : List Entry) (mid new : State) (asked : Call) (on n : ℕ) (keeps leases : Bool) → Fits g s past → IsCallOn (own_next s.streams) asked on → Sends g s asked on n
     → keeps ≡ agrees_resumption g s.setup → leases ≡ agrees_leases g s.setup
     → mid ≡ with_room (with_line g s (event.Asked asked) (answer_on asked on)) (Some on) s.parts mid.replay.spare
     → IfSome (spoken (known_to s.streams) on asked) (IsLastOf mid.queue n)
@@ -170,7 +177,7 @@ sent_after g s past mid new asked on n keeps leases fits is sends kept leased li
     (subst (IsApplied g old e a) (sym spoke) applied) (ap (λ (k : State). k.queue) spoke ∙ stays_lined asked on (length s.queue) (with_line g s e a).queue)
 
 -- the frame can be kept
-pub sent_keeps : (g : Settings) (s : State) (past : List Entry) (told : Option (List Entry)) (count : ℕ) (mid : State) (asked : Call) (on n : ℕ) → IsSound g s past told count → IsMessageOn (own_next s.streams) asked on
+pub sent_keeps : (g : Settings) (s : State) (past : List Entry) (told : Option (List Entry)) (count : ℕ) (mid : State) (asked : Call) (on n : ℕ) → IsSound g s past told count → IsCallOn (own_next s.streams) asked on
     → Sends g s asked on n → mid ≡ with_room (with_line g s (event.Asked asked) (answer_on asked on)) (Some on) s.parts mid.replay.spare
     → IfSome (spoken (known_to s.streams) on asked) (IsLastOf mid.queue n) → HasSpare mid.replay.spare n → CanKeepLast mid.replay mid.queue n
 sent_keeps g s past told count mid asked on n sound is sends lined last spare =
@@ -188,7 +195,7 @@ same_lets agreed (call.Request kind initial message complete) on id lease lets =
 same_lets agreed asked on id lease lets = lets
 
 -- the lease lets a request start
-pub sent_lets : (g : Settings) (s : State) (past : List Entry) (told : Option (List Entry)) (count : ℕ) (mid : State) (asked : Call) (on n : ℕ) (leases : Bool) → IsSound g s past told count → IsMessageOn (own_next s.streams) asked on
+pub sent_lets : (g : Settings) (s : State) (past : List Entry) (told : Option (List Entry)) (count : ℕ) (mid : State) (asked : Call) (on n : ℕ) (leases : Bool) → IsSound g s past told count → IsCallOn (own_next s.streams) asked on
     → Sends g s asked on n → leases ≡ agrees_leases g s.setup → mid ≡ with_room (with_line g s (event.Asked asked) (answer_on asked on)) (Some on) s.parts mid.replay.spare
     → (id : ℕ) → LetsStart leases (answer_on asked id) mid.lease
 sent_lets g s past told count mid asked on n leases sound is sends leased lined id =

@@ -1,4 +1,4 @@
--- A request or a payload that goes out in one frame: its answer, its frame, and the frame in line.
+-- A call that goes out in one frame: its answer, its frame, and the frame in line.
 use Rattle.std.proofs.Common.{rules, ◌≡◌, ◌++◌, ◌<◌, ◌^◌, ◌==◌, ◌||◌, ℕ, Bool, true, false, cond, List, [], ◌∷◌, length, take, Option, Some, None, IfSome, is_some, option_to_list, refl, ap, sym, subst, ◌∙◌}
 use Rattle.std.specs.Prelude.{nat_le, nat_lt}
 use Rattle.rs_wire.specs.Settings.{IsChecked}
@@ -17,6 +17,7 @@ use Rattle.tape.specs.declared.answer.Answer.{Answer}
 use Rattle.tape.specs.declared.answer.Answer.TheVariants as answer
 use Rattle.stream_model.specs.declared.stream.Limits.{Limits}
 use Rattle.stream_model.specs.Known.{Known, next_id}
+use Rattle.stream_model.specs.Arriving.{no_message}
 use Rattle.interactions.specs.Answers.{next_within}
 use Rattle.interactions.specs.Seen.{Seen, known_to}
 use Rattle.replay_buffer.specs.Held.{Buffer, Spare}
@@ -31,7 +32,7 @@ use Rattle.session_core.specs.Leasing.{covers_next}
 use Rattle.session_core.specs.Line.{line_of}
 use Rattle.session_core.specs.Outgoing.{CanGo, frame_made}
 use Rattle.session_core.specs.Prepared.{lined_on, with_line}
-use Rattle.session_core.specs.Sending.{GoesOut, IsMessageOn, MaySend, Sends, answer_on, frame_on, is_last, own_next}
+use Rattle.session_core.specs.Sending.{GoesOut, IsCallOn, MaySend, Sends, answer_on, frame_on, is_last, own_next}
 use Rattle.session_core.specs.Speaking.{with_room}
 use Rattle.session_core.proofs.Framed.{fits_alone}
 use Rattle.session_core.proofs.Soundness.{answer_of}
@@ -58,17 +59,25 @@ next_own v o is = subst (λ (k : Option ℕ). IfSome k (λ on. on ≡ own_next v
 -- ---- the answer
 
 -- it means what any such answer means
-pub sent_means : (g : Settings) (s : State) (asked : Call) (on : ℕ) → AreLimits g s → IsMessageOn (own_next s.streams) asked on → MaySend g s asked → Means g (facts_of s) (event.Asked asked) (answer_on asked on)
+pub sent_means : (g : Settings) (s : State) (asked : Call) (on : ℕ) → AreLimits g s → IsCallOn (own_next s.streams) asked on → MaySend g s asked → Means g (facts_of s) (event.Asked asked) (answer_on asked on)
 sent_means g s (call.Request kind initial message complete) on limits is may = record { next = is ∙ ap (λ (l : Limits). next_id l.side (known_to s.streams)) limits; accepted = may.accepted }
 sent_means g s (call.Next n message complete) on limits is may = may.accepted
+sent_means g s (call.Done n) on limits is may = may.accepted
+sent_means g s (call.Grant n amount) on limits is may = may.accepted
+sent_means g s (call.Cancel n) on limits is may = may.accepted
+sent_means g s (call.Fail n code content) on limits is may = may.accepted
 sent_means g s asked on limits is may = absurd is
 
-answer_accepted : (g : Settings) (s : State) (asked : Call) (on : ℕ) → AreLimits g s → IsMessageOn (own_next s.streams) asked on → answer_on asked on ≡ accepted g (facts_of s) asked
+answer_accepted : (g : Settings) (s : State) (asked : Call) (on : ℕ) → AreLimits g s → IsCallOn (own_next s.streams) asked on → answer_on asked on ≡ accepted g (facts_of s) asked
 answer_accepted g s (call.Request kind initial message complete) on limits is = ap answer.Started (is ∙ ap (λ (l : Limits). next_id l.side (known_to s.streams)) limits)
 answer_accepted g s (call.Next n message complete) on limits is = refl
+answer_accepted g s (call.Done n) on limits is = refl
+answer_accepted g s (call.Grant n amount) on limits is = refl
+answer_accepted g s (call.Cancel n) on limits is = refl
+answer_accepted g s (call.Fail n code content) on limits is = refl
 answer_accepted g s asked on limits is = absurd is
 
-pub sent_answer : (g : Settings) (s : State) (past : List Entry) (asked : Call) (on : ℕ) → Fits g s past → IsMessageOn (own_next s.streams) asked on → MaySend g s asked
+pub sent_answer : (g : Settings) (s : State) (past : List Entry) (asked : Call) (on : ℕ) → Fits g s past → IsCallOn (own_next s.streams) asked on → MaySend g s asked
     → answer_on asked on ≡ answer_to g past (event.Asked asked)
 sent_answer g s past asked on fits is may =
     answer_of g s past (event.Asked asked) (answer_on asked on) fits
@@ -90,10 +99,14 @@ made_as g covered t (call.Request kind initial message complete) on = refl
 made_as g covered t asked on = refl
 
 -- what is written is that frame
-pub frame_spoken : (t : Known) (next : ℕ) (asked : Call) (on : ℕ) (last : Bool) → IsMessageOn next asked on → last ≡ is_last t asked → frame_on on last asked ≡ spoken t on asked
+pub frame_spoken : (t : Known) (next : ℕ) (asked : Call) (on : ℕ) (last : Bool) → IsCallOn next asked on → last ≡ is_last t asked → frame_on on last asked ≡ spoken t on asked
 frame_spoken t next (call.Request kind initial message complete) on last is so = ap (λ (b : Bool). Some (request_frame on kind initial message b)) so
 frame_spoken t next (call.Next n message complete) on last is so =
     ap (λ (k : ℕ). Some (frame.Payload k false last true message)) is ∙ ap (λ (b : Bool). Some (frame.Payload n false b true message)) so
+frame_spoken t next (call.Done n) on last is so = ap (λ (k : ℕ). Some (frame.Payload k false true false no_message)) is
+frame_spoken t next (call.Grant n amount) on last is so = ap (λ (k : ℕ). Some (frame.RequestN k amount)) is
+frame_spoken t next (call.Cancel n) on last is so = ap (λ (k : ℕ). Some (frame.Cancel k)) is
+frame_spoken t next (call.Fail n code content) on last is so = ap (λ (k : ℕ). Some (frame.Error k code content)) is
 frame_spoken t next asked on last is so = absurd is
 
 spelled_where : (o : Option Frame) → IfSome o CanGo → IfSome o IsSpellable
@@ -101,7 +114,7 @@ spelled_where None goes = tt
 spelled_where (Some f) goes = goes.0
 
 pub sent_spellable : (g : Settings) (s : State) (asked : Call) (on : ℕ) → IsChecked g → (known_to s.streams).even < 2 ^ 31 → (known_to s.streams).odd < 2 ^ 31 → IsFair g (event.Asked asked) → AreLimits g s
-    → IsMessageOn (own_next s.streams) asked on → MaySend g s asked → IfSome (spoken (known_to s.streams) on asked) IsSpellable
+    → IsCallOn (own_next s.streams) asked on → MaySend g s asked → IfSome (spoken (known_to s.streams) on asked) IsSpellable
 sent_spellable g s asked on checked even odd fair limits is may =
     spelled_where (spoken (known_to s.streams) on asked)
     (subst (λ (o : Option Frame). IfSome o CanGo) (frame_as (known_to s.streams) asked on)
@@ -116,9 +129,13 @@ pub sent_made : (g : Settings) (s : State) (asked : Call) (on mtu n : ℕ) → I
     → makes g (covers_next g s) (known_to s.streams) (answer_on asked on) (event.Asked asked) ≡ option_to_list (spoken (known_to s.streams) on asked)
 sent_made g s asked on mtu n long limit alone = made_as g (covers_next g s) (known_to s.streams) asked on ∙ alone_where g (spoken (known_to s.streams) on asked) mtu n long limit alone
 
-pub is_spoken : (t : Known) (next : ℕ) (asked : Call) (on : ℕ) → IsMessageOn next asked on → is_some (spoken t on asked) ≡ true
+pub is_spoken : (t : Known) (next : ℕ) (asked : Call) (on : ℕ) → IsCallOn next asked on → is_some (spoken t on asked) ≡ true
 is_spoken t next (call.Request kind initial message complete) on is = refl
 is_spoken t next (call.Next n message complete) on is = refl
+is_spoken t next (call.Done n) on is = refl
+is_spoken t next (call.Grant n amount) on is = refl
+is_spoken t next (call.Cancel n) on is = refl
+is_spoken t next (call.Fail n code content) on is = refl
 is_spoken t next asked on is = absurd is
 
 one_where : (o : Option Frame) → is_some o ≡ true → length (option_to_list o) ≡ 1
@@ -129,7 +146,7 @@ long_where : (o : Option Frame) (n : ℕ) → is_some o ≡ true → IfSome o (�
 long_where None n some long = absurd (cc)
 long_where (Some f) n some long = pos_one f ∙ sym long
 
-pub sent_sends : (g : Settings) (s : State) (asked : Call) (on n : ℕ) → IsMessageOn (own_next s.streams) asked on → MaySend g s asked → IfSome (spoken (known_to s.streams) on asked) (λ f. n ≡ length_of f)
+pub sent_sends : (g : Settings) (s : State) (asked : Call) (on n : ℕ) → IsCallOn (own_next s.streams) asked on → MaySend g s asked → IfSome (spoken (known_to s.streams) on asked) (λ f. n ≡ length_of f)
     → makes g (covers_next g s) (known_to s.streams) (answer_on asked on) (event.Asked asked) ≡ option_to_list (spoken (known_to s.streams) on asked) → Sends g s asked on n
 sent_sends g s asked on n is may long made =
     let some = is_spoken (known_to s.streams) (own_next s.streams) asked on is in
@@ -143,17 +160,21 @@ sent_sends g s asked on n is may long made =
 -- ---- in line
 
 -- nothing else is put in line
-line_alone : (g : Settings) (s : State) (next : ℕ) (asked : Call) (on : ℕ) → IsMessageOn next asked on
+line_alone : (g : Settings) (s : State) (next : ℕ) (asked : Call) (on : ℕ) → IsCallOn next asked on
     → line_of g s (answer_on asked on) (event.Asked asked) ≡ framed_all (if_carrying s.carrying (makes g (covers_next g s) (known_to s.streams) (answer_on asked on) (event.Asked asked)))
 line_alone g s next (call.Request kind initial message complete) on is = refl
 line_alone g s next (call.Next n message complete) on is = refl
+line_alone g s next (call.Done n) on is = refl
+line_alone g s next (call.Grant n amount) on is = refl
+line_alone g s next (call.Cancel n) on is = refl
+line_alone g s next (call.Fail n code content) on is = refl
 line_alone g s next asked on is = absurd is
 
 still_live : (asked : Call) (on live : ℕ) → live_after (answer_on asked on) live ≡ live
 still_live (call.Request kind initial message complete) on live = refl
 still_live asked on live = refl
 
-sent_lined : (g : Settings) (s : State) (asked : Call) (on : ℕ) → IsMessageOn (own_next s.streams) asked on → GoesOut s
+sent_lined : (g : Settings) (s : State) (asked : Call) (on : ℕ) → IsCallOn (own_next s.streams) asked on → GoesOut s
     → makes g (covers_next g s) (known_to s.streams) (answer_on asked on) (event.Asked asked) ≡ option_to_list (spoken (known_to s.streams) on asked)
     → framed_all (option_to_list (spoken (known_to s.streams) on asked)) ≡ lined_on (live_after (answer_on asked on) s.live) (line_of g s (answer_on asked on) (event.Asked asked))
 sent_lined g s asked on is out made =
@@ -166,7 +187,7 @@ sent_lined g s asked on is out made =
     ∙ (ap (λ (b : Bool). cond {A = List ℕ} b (line_of g s a e) []) (sym out.connected)
     ∙ ap (λ (n : ℕ). lined_on n (line_of g s a e)) (sym (still_live asked on s.live)))))
 
-pub sent_in_line : (g : Settings) (s : State) (asked : Call) (on : ℕ) (queue : List ℕ) (streams : Seen) (replay : Buffer) → IsMessageOn (own_next s.streams) asked on → GoesOut s
+pub sent_in_line : (g : Settings) (s : State) (asked : Call) (on : ℕ) (queue : List ℕ) (streams : Seen) (replay : Buffer) → IsCallOn (own_next s.streams) asked on → GoesOut s
     → makes g (covers_next g s) (known_to s.streams) (answer_on asked on) (event.Asked asked) ≡ option_to_list (spoken (known_to s.streams) on asked)
     → queue ≡ s.queue ++ framed_all (option_to_list (spoken (known_to s.streams) on asked)) → streams ≡ record s.streams { ready = Some on } → replay ≡ record s.replay { spare = replay.spare }
     → record s { streams = streams; queue = queue; replay = replay } ≡ with_room (with_line g s (event.Asked asked) (answer_on asked on)) (Some on) s.parts replay.spare

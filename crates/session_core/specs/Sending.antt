@@ -11,6 +11,7 @@ use Rattle.tape.specs.declared.event.Event.TheVariants as event
 use Rattle.tape.specs.declared.answer.Answer.{Answer}
 use Rattle.tape.specs.declared.answer.Answer.TheVariants as answer
 use Rattle.stream_model.specs.Known.{Known, hears_on, is_open_response, next_id}
+use Rattle.stream_model.specs.Arriving.{no_message}
 use Rattle.interactions.specs.Seen.{Seen, acted, known_to}
 use Rattle.reassembly.specs.Gathering.{ReassemblyView, gathered_at, has_part_at}
 use Rattle.replay_buffer.specs.Held.{Buffer, HasSpare, end_of}
@@ -36,13 +37,17 @@ pub record MaySend (g : Settings) (s : State) (asked : Call) : Type 0 where
 abbrev pub own_next : Seen → ℕ
 own_next v = next_id v.limits.side (known_to v)
 
--- a request or a payload, on that stream: a request on the next one of this end
-abbrev pub IsMessageOn : (next : ℕ) → Call → ℕ → Type 0
-IsMessageOn next (call.Request kind initial message complete) on = on ≡ next
-IsMessageOn next (call.Next s message complete) on = on ≡ s
-IsMessageOn next _ on = ⊥
+-- a call that says something on that stream: a request on the next one of this end
+abbrev pub IsCallOn : (next : ℕ) → Call → ℕ → Type 0
+IsCallOn next (call.Request kind initial message complete) on = on ≡ next
+IsCallOn next (call.Next s message complete) on = on ≡ s
+IsCallOn next (call.Done s) on = on ≡ s
+IsCallOn next (call.Grant s n) on = on ≡ s
+IsCallOn next (call.Cancel s) on = on ≡ s
+IsCallOn next (call.Fail s code content) on = on ≡ s
+IsCallOn next _ on = ⊥
 
--- the answer to a request or a payload on that stream: a request starts it
+-- the answer to such a call: a request starts its stream
 abbrev pub answer_on : Call → ℕ → Answer
 answer_on (call.Request kind initial message complete) on = answer.Started on
 answer_on _ on = answer.Done
@@ -53,13 +58,17 @@ is_last t (call.Request kind initial message complete) = complete
 is_last t (call.Next s message complete) = complete || is_open_response (t.kept s)
 is_last t _ = false
 
--- the frame of a request or a payload on that stream, which says so or not
+-- the frame of a call on that stream, in which a request or a payload says whether it is the last of this end
 abbrev pub frame_on : ℕ → Bool → Call → Option Frame
 frame_on on last (call.Request kind initial message complete) = Some (request_frame on kind initial message last)
 frame_on on last (call.Next s message complete) = Some (frame.Payload on false last true message)
+frame_on on last (call.Done s) = Some (frame.Payload on false true false no_message)
+frame_on on last (call.Grant s n) = Some (frame.RequestN on n)
+frame_on on last (call.Cancel s) = Some (frame.Cancel on)
+frame_on on last (call.Fail s code content) = Some (frame.Error on code content)
 frame_on on last _ = None
 
--- a request or a payload on that stream makes one frame, of that length
+-- a call on that stream makes one frame, of that length
 pub record Sends (g : Settings) (s : State) (asked : Call) (on n : ℕ) : Type 0 where
   pub may : MaySend g s asked
   pub alone : makes g (covers_next g s) (known_to s.streams) (answer_on asked on) (event.Asked asked) ≡ option_to_list (spoken (known_to s.streams) on asked)

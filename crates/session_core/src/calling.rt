@@ -31,9 +31,8 @@ fn carries_bytes(call: &Call) -> bool
 }
 
 impl<T: Tape> Session<T> {
-    // The answer to a call that has a way of its own, in which nothing of it is copied: a take
-    // where something waits, or what goes out in one frame. `None` of any other call: nothing has
-    // changed.
+    // The answer to a call that has a way of its own, in which the call is not copied: a take where
+    // something waits, or what goes out in one frame. `None` of any other call: nothing has changed.
     #[inline(always)]
     pub(crate) fn ask_shortly(&mut self, who: u32, call: &Call) -> Option<Answer>
         requires askable { CanBeAsked call.now }
@@ -51,8 +50,13 @@ impl<T: Tape> Session<T> {
         match call {
             Call::Take { stream } => self.take(who, *stream),
             Call::TakeJob => self.take_job(who),
-            Call::Request { .. } | Call::Next { .. } => self.send(who, call),
-            _ => None,
+            Call::Request { .. }
+            | Call::Next { .. }
+            | Call::Done { .. }
+            | Call::Grant { .. }
+            | Call::Cancel { .. }
+            | Call::Fail { .. } => self.send(who, call),
+            Call::Push { .. } | Call::Lease { .. } | Call::Close => None,
         }
     }
 
@@ -77,11 +81,11 @@ impl<T: Tape> Session<T> {
     }
 
     /// Answers a call as [`Session::step`] answers the event of it. Of a call that goes a short way
-    /// (a take where something waits, and a request or a payload that goes out in one frame)
-    /// nothing is copied but what a tape keeps; a call without bytes is copied here. `None` comes
-    /// of any other call: it carries bytes, which have to be copied. Nothing has changed then; the
-    /// caller copies the call, outside of its turn where the session is shared, and `step` answers
-    /// the copy. At a full tape `None` never comes.
+    /// (a take where something waits, and what is said on a stream in one frame) nothing is copied
+    /// but what a tape keeps and the content of an error; a call without bytes is copied here.
+    /// `None` comes of any other call: it carries bytes, which have to be copied. Nothing has
+    /// changed then; the caller copies the call, outside of its turn where the session is shared,
+    /// and `step` answers the copy. At a full tape `None` never comes.
     #[inline(always)]
     pub fn ask(&mut self, who: u32, call: &Call) -> Option<Answer>
         requires askable { CanBeAsked call.now }

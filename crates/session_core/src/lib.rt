@@ -60,8 +60,8 @@
 //! - Apply: `life`, the openings, the live connection, the SETUP and the end; `counting`, the
 //!   positions; `kept`, the frames that are held for a resumption; `leasing`, the leases; `timing`,
 //!   the timer; `gathering`, the parts of messages; `speak`, the streams.
-//! - Short ways: `calling`, of any call; `taking`, of what waits; `sending`, of a request or a
-//!   payload in one frame; `bringing` and `hearing`, of a message that comes whole; `parting`, of a
+//! - Short ways: `calling`, of any call; `taking`, of what waits; `sending`, of what a call says on a
+//!   stream in one frame; `bringing` and `hearing`, of a message that comes whole; `parting`, of a
 //!   cut.
 //! - Shown: `counts`, of frames and their positions; `amounts`, the range of what an event grants;
 //!   `refusal`, the frame that refuses a connection.

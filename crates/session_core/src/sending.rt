@@ -1,4 +1,5 @@
-//! Calls that go out in one frame, which is written from the call's own parts.
+//! Calls that go out in one frame: that of a request or a payload is written from the call's own
+//! parts.
 
 ghost use Rattle.std.specs.Prelude.{◌≡◌, ◌≢◌, ◌≤◌, ◌+◌, ◌-◌, ◌++◌, ◌<◌, ◌^◌, ◌∷◌, [], ℕ, None, Some, IfOk, IfSome, OnErr, OnOk, drop, false, true, length, option_to_list};
 ghost use Rattle.rs_wire.specs.Calls.{CanBeAsked};
@@ -18,22 +19,25 @@ ghost use Rattle.session_core.specs.Kept.{HoldsMore};
 ghost use Rattle.session_core.specs.Leasing.{LetsStart, lease_after};
 ghost use Rattle.session_core.specs.Prepared.{with_line};
 ghost use Rattle.session_core.specs.Seen.{IsOrOutOfMemory, entries_after};
-ghost use Rattle.session_core.specs.Sending.{CanKeepLast, IsLastOf, IsMessageOn, LetsGo, MaySend, Sends, answer_on, frame_on, is_last, own_next, spoken_after};
+ghost use Rattle.session_core.specs.Sending.{CanKeepLast, IsCallOn, IsLastOf, LetsGo, MaySend, Sends, answer_on, frame_on, is_last, own_next, spoken_after};
 ghost use Rattle.session_core.specs.Speaking.{Acts, with_room};
 
 use crate::amounts::call_amounts_fit;
 use crate::asked::refused_call;
 use crate::gathering::let_stream_go;
 use crate::life::{agrees_leases, agrees_resumption};
+use crate::outgoing::nothing_more;
 use crate::queue::Queue;
 use crate::session::Session;
-use crate::sizes::{fits, mtu};
-use crate::speak::completes;
+use crate::sizes::{HEADER, NUMBER, fits, mtu};
+use crate::speak::{completes, named};
 use crate::state::State;
 use interactions::Streams;
 use lease::Lease;
 use replay_buffer::Replay;
+use rs_frame::Frame;
 use rs_wire::{Call, Checked, OutOfMemory};
+use std::alloc::Global;
 use tape::{Answer, Tape};
 
 // What a session agreed to that a call has to heed.
@@ -65,16 +69,15 @@ fn may_send(settings: &Checked, state: &State, call: &Call) -> bool
     state.carrying && state.live != 0 && refused_call(settings, state, call).is_none()
 }
 
-// The stream of a request or a payload: of a request the next of this end. `None` of any other
+// The stream on which a call says something: of a request the next of this end. `None` of any other
 // call, and where the ids are spent.
 #[tactic(auto, using(crate::proofs::SentOnce::next_own))]
 fn stream_of(streams: &Streams, call: &Call) -> Option<u32>
-    ensures { IfSome result (λ on. IsMessageOn (own_next streams.now) call.now on) }
+    ensures { IfSome result (λ on. IsCallOn (own_next streams.now) call.now on) }
 {
     match call {
         Call::Request { .. } => streams.next_id(),
-        Call::Next { stream, .. } => Some(*stream),
-        _ => None,
+        _ => named(call),
     }
 }
 
@@ -93,7 +96,7 @@ fn is_last(streams: &Streams, call: &Call) -> bool
     }
 }
 
-// How many bytes the frame of a request or a payload has; 0 of any other call, which has none.
+// How many bytes the frame of a call on a stream has; 0 of any other call, which has none.
 fn frame_length(on: u32, last: bool, call: &Call) -> u32
     requires { IfSome (frame_on on last call.now) IsSpellable }
     ensures { IfSome (frame_on on last call.now) (λ f. result ≡ length_of f) }
@@ -106,12 +109,21 @@ fn frame_length(on: u32, last: bool, call: &Call) -> u32
             ..
         } => rs_frame::request_length(on, *kind, initial, last, message),
         Call::Next { message, .. } => rs_frame::item_length(on, last, message),
+        Call::Done { .. } | Call::Cancel { .. } => HEADER,
+        Call::Grant { .. } => HEADER + NUMBER,
+        Call::Fail { content, .. } => HEADER + NUMBER + content.len() as u32,
         _ => 0,
     }
 }
 
-// Puts the frame of a request or a payload in line; nothing of any other call.
-fn append_frame(queue: &mut Queue, on: u32, last: bool, call: &Call) -> Result<(), OutOfMemory>
+// Puts the frame of a call on a stream in line; nothing of any other call.
+fn append_frame(
+    alloc: Global,
+    queue: &mut Queue,
+    on: u32,
+    last: bool,
+    call: &Call,
+) -> Result<(), OutOfMemory>
     requires { IfSome (frame_on on last call.now) IsSpellable }
     ensures ok { OnOk result (queue.new ≡ queue.old ++
         framed_all (option_to_list (frame_on on last call.now))) }
@@ -125,11 +137,19 @@ fn append_frame(queue: &mut Queue, on: u32, last: bool, call: &Call) -> Result<(
             ..
         } => queue.append_request(on, *kind, initial, last, message),
         Call::Next { message, .. } => queue.append_item(on, last, message),
+        Call::Done { .. } => queue.append(&[nothing_more(alloc, on)]),
+        Call::Grant { n, .. } => queue.append(&[Frame::RequestN { stream: on, n: *n }]),
+        Call::Cancel { .. } => queue.append(&[Frame::Cancel { stream: on }]),
+        Call::Fail { code, content, .. } => queue.append(&[Frame::Error {
+            stream: on,
+            code: *code,
+            content: content.copy(alloc)?,
+        }]),
         _ => Ok(()),
     }
 }
 
-// The answer to a request or a payload on that stream: a request starts it.
+// The answer to a call on that stream: a request starts it.
 fn answer_on(call: &Call, on: u32) -> Answer
     ensures { result ≡ answer_on call.now on }
 {
@@ -181,12 +201,13 @@ impl State {
     // length. Where frames are kept, memory is reserved for it.
     fn line_call(
         &mut self,
+        alloc: Global,
         settings: &Checked,
         call: &Call,
         on: u32,
         keeps: bool,
     ) -> Result<Option<u32>, OutOfMemory>
-        requires message { IsMessageOn (own_next self.old.streams) call.now on }
+        requires stream { IsCallOn (own_next self.old.streams) call.now on }
         requires checked { IsChecked settings.now }
         requires fair { IsFair settings.now (events.Asked call.now) }
         requires room { HasRoom self.old }
@@ -217,7 +238,7 @@ impl State {
         }
         self.streams.reserve(on)?;
         reserve_one(&mut self.replay, count, keeps)?;
-        append_frame(&mut self.queue, on, last, call)?;
+        append_frame(alloc, &mut self.queue, on, last, call)?;
         Ok(Some(count))
     }
 
@@ -254,8 +275,9 @@ impl State {
 }
 
 impl<T: Tape> Session<T> {
-    /// Sends a request or a payload that goes out in one frame, which is kept where resumption is
-    /// agreed. `None` where the call isn't such a one, or is refused: nothing has changed.
+    /// Sends what a call says on a stream, where it goes out in one frame, which is kept where
+    /// resumption is agreed. `None` where the call isn't such a one, or is refused: nothing has
+    /// changed.
     #[inline(always)]
     pub(crate) fn send(&mut self, who: u32, call: &Call) -> Option<Answer>
         requires askable { CanBeAsked call.now }
@@ -277,7 +299,7 @@ impl<T: Tape> Session<T> {
         let agreed = agreed_by(&self.settings, &self.state);
         let count = match self
             .state
-            .line_call(&self.settings, call, on, agreed.resumption)
+            .line_call(self.alloc, &self.settings, call, on, agreed.resumption)
         {
             Ok(Some(count)) => count,
             Ok(None) => return None,

@@ -16,10 +16,10 @@ use fragment::{SplitSize, split_size};
 use rs_wire::{Amount, Blob, Call, Checked, Message};
 
 /// The bytes of a frame's header.
-const HEADER: u32 = 6;
+pub const HEADER: u32 = 6;
 
 /// The bytes of a code, of an initial n, of the n of REQUEST_N, and of each number of LEASE.
-const NUMBER: u32 = 4;
+pub const NUMBER: u32 = 4;
 
 /// The bytes of the position of a KEEPALIVE.
 const POSITION: u32 = 8;

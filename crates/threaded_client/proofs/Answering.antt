@@ -7,7 +7,7 @@ use Rattle.link_model.specs.Carrying.{Between}
 use Rattle.cable_script.specs.declared.line.Line.{Line}
 use Rattle.cable_script.specs.declared.line.Line.TheVariants as line
 use Rattle.ring.specs.Parts.{cuts, ends}
-use Rattle.threaded_model.specs.Threaded.{act, joins_after}
+use Rattle.threaded_model.specs.Threaded.{act, made_by}
 use Rattle.carriers.specs.Moves.{mark_for}
 use Rattle.carriers.proofs.Items.{IsPlain}
 use Rattle.threaded_client.specs.Carrying.{IsSound, conn_of}
@@ -39,10 +39,10 @@ pub idle_open : (p : Option Between) → is_some p ≡ true → act (conn_of p) 
 idle_open None h = absurd (cc h)
 idle_open (Some b) h = refl
 
--- an opening that is not accepted joins no ends
-pub refused_joins : (a : Answer) → ((c : ℕ) → a ≡ answer.Opened c → ⊥) → joins_after None line.Open a ≡ None
-refused_joins (answer.Opened c) h = absurd (h c refl)
-refused_joins _ h = refl
+-- an answer that made a connection opened it
+pub made_opened : (a : Answer) (c : ℕ) → made_by a ≡ Some c → a ≡ answer.Opened c
+made_opened (answer.Opened d) c h = cc h
+made_opened _ c h = absurd (cc h)
 
 -- no connection joins the ends
 pub none_joins : (p : Option Between) → is_some p ≡ false → p ≡ None

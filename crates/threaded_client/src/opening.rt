@@ -1,16 +1,21 @@
 //! Connections are opened and cut, and moments told.
 
-ghost use Rattle.std.specs.Prelude.{◌≡◌, ◌<◌, ◌^◌, ◌++◌, ◌∷◌, [], List, false, IfOk, OnOk};
+ghost use Rattle.std.specs.Prelude.{◌≡◌, ◌<◌, ◌^◌, ◌++◌, ◌∷◌, [], List, None, false, IfOk, OnOk};
 ghost use Rattle.rtrb.specs.Ring.{SameConsumer, SameProducer, received, sent};
 ghost use Rattle.rs_wire.specs.declared.words.Side.TheVariants.{Client};
 ghost use Rattle.cable_script.specs.declared.line.Line.{Line};
 ghost use Rattle.cable_script.specs.declared.line.Line.TheVariants as line;
 ghost use Rattle.ring.specs.declared.item.Mark.TheVariants as marks;
+ghost use Rattle.tape.specs.declared.answer.Answer.{Answer as Answered};
+ghost use Rattle.tape.specs.declared.event.Event.TheVariants as events;
+ghost use Rattle.session_model.specs.Legal.{Legal};
+ghost use Rattle.threaded_model.specs.Threaded.{made_by};
+ghost use Rattle.carriers.specs.Moves.{HasTold};
 ghost use Rattle.threaded_client.specs.Carrying.{IsCarrying, IsSound};
 
 use crate::carrier::ClientCarrier;
 use carriers::{lose, push_mark, tell};
-use conn::Connection;
+use conn::{Caller, Connection};
 use pump::Pump;
 use ring::{Mark, Stop};
 use rs_chunk::Reader;
@@ -45,6 +50,36 @@ fn is_cut(mark: Mark) -> Result<(), Stop>
     }
 }
 
+// The number of an opening that was accepted.
+fn number_of(answer: &Answer) -> Option<u64>
+    ensures { result ≡ made_by answer.now }
+{
+    match answer {
+        Answer::Opened(conn) => Some(*conn),
+        _ => None,
+    }
+}
+
+// Brings an opening: the number of the connection, where it is accepted.
+fn bring_opening<T: Tape, R: Wait>(
+    rt: &R,
+    connection: &Connection<T>,
+    caller: &mut Caller<T>,
+) -> Result<Option<u64>, Stop>
+    requires of { caller.old.of ≡ connection.now }
+    requires client { connection.now.settings.side ≡ Client }
+    ensures same { caller.new ≡ record caller.old {
+      front = caller.new.front;
+      note = caller.new.note;
+    } }
+    ensures told { IfOk result (λ made. (a : Answered) × (made_by a ≡ made) × HasTold
+        connection.now.settings caller.old caller.new (events.Open None false) a) }
+    ensures legal { Legal caller.new.of.settings caller.new.front }
+{
+    let answer = tell(rt, connection, caller, Event::opening())?;
+    Ok(number_of(&answer))
+}
+
 impl<T: Tape> ClientCarrier<T> {
     /// Opens a connection, where none joins the ends.
     pub fn open<R: Wait>(
@@ -71,8 +106,7 @@ impl<T: Tape> ClientCarrier<T> {
         if self.pump.is_some() {
             return Ok(());
         }
-        let answer = tell(rt, connection, &mut self.caller, &Event::opening())?;
-        let Answer::Opened(conn) = answer else {
+        let Some(conn) = bring_opening(rt, connection, &mut self.caller)? else {
             return Ok(());
         };
         self.conn = conn;
@@ -102,14 +136,15 @@ impl<T: Tape> ClientCarrier<T> {
             (received self.old.from) → IsCarrying self.new.caller (done ++ line.Cut ∷ []) self.new.pump
             (sent self.new.out) (received self.new.from)) }
     {
-        let Some(pump) = self.pump.take() else {
+        let Some(pump) = &mut self.pump else {
             return push_mark(rt, &mut self.out, Mark::Line);
         };
-        let mut pump = pump;
         let conn = self.conn;
-        tell(rt, connection, &mut self.caller, &Event::Cut { conn })?;
+        tell(rt, connection, &mut self.caller, Event::Cut { conn })?;
         push_mark(rt, &mut self.out, Mark::Cut)?;
-        is_cut(lose(rt, alloc, &mut pump, &mut self.from)?)
+        let mark = lose(rt, alloc, pump, &mut self.from)?;
+        self.pump = None;
+        is_cut(mark)
     }
 
     /// Tells a moment, in milliseconds.
@@ -133,7 +168,7 @@ impl<T: Tape> ClientCarrier<T> {
             (received self.old.from) → IsCarrying self.new.caller (done ++ line.Tick now ∷ []) self.new.pump
             (sent self.new.out) (received self.new.from)) }
     {
-        tell(rt, connection, &mut self.caller, &Event::Tick { now })?;
+        tell(rt, connection, &mut self.caller, Event::Tick { now })?;
         Ok(())
     }
 }

@@ -58,7 +58,7 @@ impl<T: Tape> ServerCarrier<T> {
         if connection.look(rt, &mut self.caller).live != conn {
             return Ok(());
         }
-        tell(rt, connection, &mut self.caller, &Event::Cut { conn })?;
+        tell(rt, connection, &mut self.caller, Event::Cut { conn })?;
         Ok(())
     }
 
@@ -153,7 +153,7 @@ impl<T: Tape> ServerCarrier<T> {
             (received self.old.from) → IsCarrying self.new.caller (lines ++ l ∷ []) self.new.knows
             (sent self.new.out) (received self.new.from)) }
     {
-        tell(rt, connection, &mut self.caller, &Event::Tick { now })?;
+        tell(rt, connection, &mut self.caller, Event::Tick { now })?;
         Ok(())
     }
 

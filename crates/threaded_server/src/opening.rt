@@ -1,8 +1,9 @@
 //! The first frame of a connection.
 
-ghost use Rattle.std.specs.Prelude.{◌≡◌, ◌<◌, ◌^◌, [], false, IfOk, IfSome, None, Some};
+ghost use Rattle.std.specs.Prelude.{◌≡◌, ◌<◌, ◌^◌, ◌++◌, [], false, IfOk, IfSome, None, OnOk, Some};
 ghost use Rattle.rs_wire.specs.declared.words.Side.TheVariants.{Server};
-ghost use Rattle.rs_frame.specs.Framed.{framed_all};
+ghost use Rattle.rs_frame.specs.Framed.{framed_all, framed_frame};
+ghost use Rattle.rs_frame.specs.Spelling.{IsSpellable};
 ghost use Rattle.rs_chunk.specs.Stream.{IsWhole};
 ghost use Rattle.session_model.specs.Frames.{refusal};
 ghost use Rattle.session_model.specs.Joined.{only};
@@ -53,13 +54,21 @@ fn number_of(answer: &Answer) -> Option<u64>
     }
 }
 
+// Appends a frame after its length, and lets it go.
+fn append(bytes: &mut Vec<u8>, frame: Frame) -> Result<(), OutOfMemory>
+    requires { IsSpellable frame }
+    ensures { OnOk result (bytes.new.items ≡ bytes.old.items ++ framed_frame frame) }
+{
+    frame_bytes(&frame, bytes)
+}
+
 // The bytes of a refusal, after their length.
 fn refusal_bytes(alloc: Global, answer: &Answer) -> Result<Blob, OutOfMemory>
     ensures { IfOk result (λ bytes. bytes ≡ framed_all (only (refusal answer.now))) }
 {
     let mut bytes = Vec::new(alloc);
     if let Some(frame) = refusal_frame(alloc, answer)? {
-        frame_bytes(&frame, &mut bytes)?;
+        append(&mut bytes, frame)?;
     }
     Ok(Blob::from_vec(bytes))
 }
@@ -103,19 +112,19 @@ fn open_by<T: Tape, R: Wait>(
     alloc: Global,
     connection: &Connection<T>,
     caller: &mut Caller<T>,
-    event: &Event,
+    event: Event,
     rest: Reader,
 ) -> Result<Knows, Stop>
     requires of { caller.old.of ≡ connection.now }
-    requires fair { CanBring connection.now.settings event.now }
-    requires no_draw { IsNoDrawEvent event.now }
+    requires fair { CanBring connection.now.settings event }
+    requires no_draw { IsNoDrawEvent event }
     requires short { rest.max_in < 2 ^ 24 }
     ensures same { caller.new ≡ record caller.old {
       front = caller.new.front;
       note = caller.new.note;
     } }
     ensures opened { IfOk result
-        (HasOpened connection.now.settings caller.old caller.new event.now rest) }
+        (HasOpened connection.now.settings caller.old caller.new event rest) }
 {
     let answer = tell(rt, connection, caller, event)?;
     knows_by(alloc, &answer, rest)
@@ -140,8 +149,7 @@ fn open_by_frame<T: Tape, R: Wait>(
     ensures opened { IfOk result (HasOpened connection.now.settings caller.old caller.new
         (events.Open (Some frame) false) rest) }
 {
-    let event = Event::opened_by(frame);
-    open_by(rt, alloc, connection, caller, &event, rest)
+    open_by(rt, alloc, connection, caller, Event::opened_by(frame), rest)
 }
 
 // The bytes after the first frame. The reader is not used any more.

@@ -17,7 +17,7 @@ use std::sync::Wait;
 use tape::{Answer, Tape};
 
 /// How far a job went on.
-#[derive(Debug, Drop)]
+#[derive(Drop)]
 pub enum Going {
     /// It is done; its replies had this many items.
     Served(u64),

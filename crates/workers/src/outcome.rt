@@ -7,7 +7,7 @@ use rs_wire::{Blob, Delivery, Job, Kind, Message, Refusal};
 use tape::Answer;
 
 /// What the answer to a reply says of the job.
-#[derive(Clone, Copy, Debug, PartialEq, Eq)]
+#[derive(Clone, Copy)]
 pub enum Outcome {
     /// The reply is accepted.
     Accepted,
@@ -20,7 +20,7 @@ pub enum Outcome {
 }
 
 /// What a Take gave.
-#[derive(Debug, Drop)]
+#[derive(Drop)]
 pub enum Taken {
     /// An item of this content.
     Item(Blob),
@@ -35,7 +35,7 @@ pub enum Taken {
 }
 
 /// What a TakeJob gave.
-#[derive(Debug, Drop)]
+#[derive(Drop)]
 pub enum Found {
     /// A request.
     Asked {

@@ -17,7 +17,7 @@ use std::alloc::Global;
 const NO_ROUTE: u32 = 0x201;
 
 /// What a job says next.
-#[derive(Debug, Drop)]
+#[derive(Drop)]
 pub enum Plan {
     /// This reply, which may be the last one.
     Say {

@@ -26,7 +26,7 @@ use std::sync::Wait;
 use tape::{Answer, Tape};
 
 /// What a step of a job did.
-#[derive(Debug, Drop)]
+#[derive(Drop)]
 pub enum Step {
     /// The job goes on. Its reply had so many bytes, where one was accepted.
     Went(u64),

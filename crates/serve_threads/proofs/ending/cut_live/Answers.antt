@@ -9,5 +9,5 @@ returns-clause-goes g c =
     let me = c.args.caller.now in
     let mid = c.look-conn.new.caller in
     let on : IsOn me mid = search rules in
-    goes_both IsEnding me mid c.event.new.caller.front on (goes_follows IsEnding me mid.front c.look-conn.ensures.follows)
-    (goes_called IsEnding c.args.connection.now.settings mid (event.Cut c.look-conn.result.live) c.event.result c.event.new.caller.front tt c.event.ensures.called)
+    goes_both IsEnding me mid c.bring.new.caller.front on (goes_follows IsEnding me mid.front c.look-conn.ensures.follows)
+    (goes_called IsEnding c.args.connection.now.settings mid (event.Cut c.look-conn.result.live) c.bring.result c.bring.new.caller.front tt c.bring.ensures.called)

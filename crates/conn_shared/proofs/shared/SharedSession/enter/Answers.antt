@@ -5,7 +5,7 @@ use Rattle.conn_shared.proofs.Lines.{entries-noted, went_on}
 use Rattle.conn_shared.proofs.shared.SharedSession.enter.Goals as goal
 
 pub returns-clause-follows : goal.returns-clause-follows
-returns-clause-follows g c = (went_on _ _ _ c.enter.result.value (subst (λ f. Follows number_of c.args.seat.names f (lines_of c.enter.result.value)) c.requires.member.lined c.enter.ensures.front)).follows
+returns-clause-follows g c = (went_on _ _ _ _ c.enter.result.value (subst (λ f. Follows number_of c.args.seat.names f (lines_of c.enter.result.value)) c.requires.member.lined c.enter.ensures.front)).follows
 
 pub returns-clause-front : goal.returns-clause-front
-returns-clause-front g c = ap entries_in {x = c.enter.result.seat.front} {y = lines_with c.args.self.now.settings c.enter.result.value.entries} (search rules) ∙ entries-noted c.enter.result.value.entries
+returns-clause-front g c = ap entries_in {x = c.enter.result.seat.front} {y = lines_with c.args.self.now.settings c.args.self.now.tells c.enter.result.value.entries} (search rules) ∙ entries-noted c.enter.result.value.entries

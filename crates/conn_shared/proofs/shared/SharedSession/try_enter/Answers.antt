@@ -11,4 +11,4 @@ returns-clause-front g c = IfOk-weaker c.try_enter.result _ _ (λ t is. ap (λ s
 pub returns-clause-follows : goal.returns-clause-follows
 returns-clause-follows g c =
     let seat = c.args.seat in
-    IfOk-weaker c.try_enter.result _ _ (λ t f. (went_on _ seat.names (entries_in seat.front) t.value (subst (λ front. Follows number_of seat.names front (lines_of t.value)) c.requires.member.lined f)).follows) c.try_enter.ensures.front
+    IfOk-weaker c.try_enter.result _ _ (λ t f. (went_on _ _ seat.names (entries_in seat.front) t.value (subst (λ front. Follows number_of seat.names front (lines_of t.value)) c.requires.member.lined f)).follows) c.try_enter.ensures.front

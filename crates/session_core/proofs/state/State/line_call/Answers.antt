@@ -12,16 +12,16 @@ use Rattle.session_core.proofs.state.State.line_call.Goals as goal
 pub frame_length-count-requires : goal.frame_length-count-requires
 frame_length-count-requires c =
     let s = c.args.self.now in
-    let spoke = frame_spoken (known_to s.streams) (own_next s.streams) c.args.call.now c.args.on c.is_last-last.result c.requires.message c.is_last-last.ensures in
+    let spoke = frame_spoken (known_to s.streams) (own_next s.streams) c.args.call.now c.args.on c.is_last-last.result c.requires.stream c.is_last-last.ensures in
     subst (λ (o : Option Frame). IfSome o IsSpellable) (sym spoke)
-    (sent_spellable c.args.settings.now s c.args.call.now c.args.on c.requires.checked c.fair.ensures.even c.fair.ensures.odd c.requires.fair c.requires.limits c.requires.message (c.may_send.ensures (search rules)))
+    (sent_spellable c.args.settings.now s c.args.call.now c.args.on c.requires.checked c.fair.ensures.even c.fair.ensures.odd c.requires.fair c.requires.limits c.requires.stream (c.may_send.ensures (search rules)))
 
 pub append_frame-requires : goal.append_frame-requires
 append_frame-requires c =
     let s = c.args.self.now in
-    let spoke = frame_spoken (known_to s.streams) (own_next s.streams) c.args.call.now c.args.on c.is_last-last.result c.requires.message c.is_last-last.ensures in
+    let spoke = frame_spoken (known_to s.streams) (own_next s.streams) c.args.call.now c.args.on c.is_last-last.result c.requires.stream c.is_last-last.ensures in
     subst (λ (o : Option Frame). IfSome o IsSpellable) (sym spoke)
-    (sent_spellable c.args.settings.now s c.args.call.now c.args.on c.requires.checked c.fair.ensures.even c.fair.ensures.odd c.requires.fair c.requires.limits c.requires.message (c.may_send.ensures (search rules)))
+    (sent_spellable c.args.settings.now s c.args.call.now c.args.on c.requires.checked c.fair.ensures.even c.fair.ensures.odd c.requires.fair c.requires.limits c.requires.stream (c.may_send.ensures (search rules)))
 
 pub returns-clause-sends : goal.returns-clause-sends
 returns-clause-sends c =
@@ -30,10 +30,10 @@ returns-clause-sends c =
     let asked = c.args.call.now in
     let on = c.args.on in
     let n = c.frame_length-count.result in
-    let spoke = frame_spoken (known_to s.streams) (own_next s.streams) asked on c.is_last-last.result c.requires.message c.is_last-last.ensures in
+    let spoke = frame_spoken (known_to s.streams) (own_next s.streams) asked on c.is_last-last.result c.requires.stream c.is_last-last.ensures in
     let long = subst (λ (o : Option Frame). IfSome o (λ f. n ≡ length_of f)) spoke c.frame_length-count.ensures in
     let made = sent_made g s asked on c.mtu.result n long c.mtu.ensures.value (λ f is. c.fits.ensures f is (search rules)) in
-    sent_sends g s asked on n c.requires.message (c.may_send.ensures (search rules)) long made
+    sent_sends g s asked on n c.requires.stream (c.may_send.ensures (search rules)) long made
 
 pub returns-clause-lined : goal.returns-clause-lined
 returns-clause-lined c =
@@ -43,11 +43,11 @@ returns-clause-lined c =
     let on = c.args.on in
     let n = c.frame_length-count.result in
     let may = c.may_send.ensures (search rules) in
-    let spoke = frame_spoken (known_to s.streams) (own_next s.streams) asked on c.is_last-last.result c.requires.message c.is_last-last.ensures in
+    let spoke = frame_spoken (known_to s.streams) (own_next s.streams) asked on c.is_last-last.result c.requires.stream c.is_last-last.ensures in
     let long = subst (λ (o : Option Frame). IfSome o (λ f. n ≡ length_of f)) spoke c.frame_length-count.ensures in
     let made = sent_made g s asked on c.mtu.result n long c.mtu.ensures.value (λ f is. c.fits.ensures f is (search rules)) in
     let queue = c.in_ok-append_frame.ensures.ok ∙ ap (λ (o : Option Frame). s.queue ++ framed_all (option_to_list o)) spoke in
-    sent_in_line g s asked on c.append_frame.new.queue c.reserve.new.self c.reserve_one.new.replay c.requires.message may.out made queue c.in_ok-reserve.ensures.after c.reserve_one.ensures.same
+    sent_in_line g s asked on c.append_frame.new.queue c.reserve.new.self c.reserve_one.new.replay c.requires.stream may.out made queue c.in_ok-reserve.ensures.after c.reserve_one.ensures.same
 
 pub returns-clause-last : goal.returns-clause-last
 returns-clause-last c =
@@ -56,8 +56,8 @@ returns-clause-last c =
     let asked = c.args.call.now in
     let on = c.args.on in
     let n = c.frame_length-count.result in
-    let spoke = frame_spoken (known_to s.streams) (own_next s.streams) asked on c.is_last-last.result c.requires.message c.is_last-last.ensures in
+    let spoke = frame_spoken (known_to s.streams) (own_next s.streams) asked on c.is_last-last.result c.requires.stream c.is_last-last.ensures in
     let long = subst (λ (o : Option Frame). IfSome o (λ f. n ≡ length_of f)) spoke c.frame_length-count.ensures in
     let queue = c.in_ok-append_frame.ensures.ok ∙ ap (λ (o : Option Frame). s.queue ++ framed_all (option_to_list o)) spoke in
     last_where (spoken (known_to s.streams) on asked) c.append_frame.new.queue s.queue n queue long
-    (sent_spellable g s asked on c.requires.checked c.fair.ensures.even c.fair.ensures.odd c.requires.fair c.requires.limits c.requires.message (c.may_send.ensures (search rules)))
+    (sent_spellable g s asked on c.requires.checked c.fair.ensures.even c.fair.ensures.odd c.requires.fair c.requires.limits c.requires.stream (c.may_send.ensures (search rules)))

@@ -1,4 +1,4 @@
-use Rattle.std.proofs.Common.{◌≡◌, ◌∙◌, ◌++◌, ◌∷◌, [], ℕ, false, Option, Some, None, refl, subst, sym}
+use Rattle.std.proofs.Common.{◌≡◌, ◌++◌, ◌∷◌, [], ℕ, false, Option, Some, None, refl, subst, sym}
 use Rattle.rtrb.specs.Ring.{received, sent}
 use Rattle.ring.specs.declared.item.Mark.{Mark}
 use Rattle.ring.specs.declared.item.Mark.TheVariants as mark
@@ -14,9 +14,9 @@ use Rattle.threaded_client.proofs.carrier.ClientCarrier.cut.Goals as goal
 pub returns-in_default-clause-kept : goal.returns-in_default-clause-kept
 returns-in_default-clause-kept g c =
     let me = c.args.self.now in
-    let none : me.pump ≡ None = sym c.take.ensures.value ∙ c.in_default.is in
+    let none : me.pump ≡ None = c.in_default.is in
     on_ok_one c.push_mark.result (λ ok done k.
-    subst (λ (p : Option Between). IsCarrying me.caller (done ++ line.Cut ∷ []) p (sent c.push_mark.new.out) (received me.from)) (sym c.take.ensures.after)
+    subst (λ (p : Option Between). IsCarrying me.caller (done ++ line.Cut ∷ []) p (sent c.push_mark.new.out) (received me.from)) (sym none)
     (carrying_idle me.caller done None line.Cut (sent c.push_mark.new.out) (received me.from) refl
     (carrying_marked me.caller done None mark.Line (sent me.out) (sent c.push_mark.new.out) (received me.from) ok (plain_for false) (subst (λ (p : Option Between). IsCarrying me.caller done p (sent me.out) (received me.from)) none k)))) c.push_mark.ensures.ok
 
@@ -24,11 +24,10 @@ pub returns-clause-kept : goal.returns-clause-kept
 returns-clause-kept g c =
     let me = c.args.self.now in
     let b = c.in-Some.pump in
-    let some : me.pump ≡ Some b = sym c.take.ensures.value ∙ c.in-Some.is in
+    let some : me.pump ≡ Some b = c.in-Some.is in
     let conn : b.conn ≡ me.conn = sound_conn c.args.connection.now.settings me.conn me.pump b some c.requires.sound in
     on_ok_one c.is_cut.result (λ is done k.
-    subst (λ (p : Option Between). IsCarrying c.tell.new.caller (done ++ line.Cut ∷ []) p (sent c.push_mark-2.new.out) (received c.lose.new.from)) (sym c.take.ensures.after)
-    (carrying_cut c.args.connection.now.settings me.caller c.tell.new.caller c.in_ok-tell.field-0 done b c.lose.new.pump (sent me.out) (sent c.push_mark-2.new.out) (received me.from) (received c.lose.new.from) c.tell.ensures.same
+    carrying_cut c.args.connection.now.settings me.caller c.tell.new.caller c.in_ok-tell.field-0 done b c.lose.new.pump (sent me.out) (sent c.push_mark-2.new.out) (received me.from) (received c.lose.new.from) c.tell.ensures.same
     (subst (λ (n : ℕ). HasTold c.args.connection.now.settings me.caller c.tell.new.caller (event.Cut n) c.in_ok-tell.field-0) (sym conn) c.in_ok-tell.ensures.told)
-    c.in_ok-push_mark.ensures.ok (subst (λ (m : Mark). HasLost b c.lose.new.pump m (received me.from) (received c.lose.new.from)) is c.in_ok-lose.ensures.lost)
-    (subst (λ (p : Option Between). IsCarrying me.caller done p (sent me.out) (received me.from)) some k))) c.is_cut.ensures
+    c.in_ok-push_mark.ensures.ok (subst (λ (m : Mark). HasLost b c.lose.new.pump m (received me.from) (received c.lose.new.from)) is c.in_ok-mark.ensures.lost)
+    (subst (λ (p : Option Between). IsCarrying me.caller done p (sent me.out) (received me.from)) some k)) c.is_cut.ensures

@@ -1,6 +1,5 @@
 use Rattle.std.proofs.Common.{◌≡◌, ◌∙◌, ◌++◌, ◌∷◌, [], ℕ, false, Option, Some, None, ap, subst, sym}
 use Rattle.rtrb.specs.Ring.{received, sent}
-use Rattle.tape.specs.declared.event.Event.{Event}
 use Rattle.tape.specs.declared.answer.Answer.{Answer}
 use Rattle.tape.specs.declared.event.Event.TheVariants as event
 use Rattle.conn_shared.specs.Members.{SharedId}
@@ -8,7 +7,7 @@ use Rattle.cable_script.specs.declared.line.Line.TheVariants as line
 use Rattle.link_model.specs.Carrying.{Between}
 use Rattle.carriers.specs.Moves.{HasTold}
 use Rattle.threaded_client.specs.Carrying.{IsCarrying}
-use Rattle.threaded_client.proofs.Answering.{idle_open, none_joins, refused_joins}
+use Rattle.threaded_client.proofs.Answering.{idle_open, made_opened, none_joins}
 use Rattle.threaded_client.proofs.Acting.{new_pump}
 use Rattle.threaded_client.proofs.Carrying.{carrying_idle, carrying_opened, carrying_refused}
 use Rattle.threaded_client.proofs.carrier.ClientCarrier.open.Goals as goal
@@ -21,21 +20,23 @@ returns-then-is_some-clause-kept g c done k =
 pub returns-in_default-clause-kept : goal.returns-in_default-clause-kept
 returns-in_default-clause-kept g c done k =
     let me = c.args.self.now in
+    let now = c.bring_opening.new.caller in
+    let t = c.in_ok-conn.ensures.told in
     let none : me.pump ≡ None = none_joins me.pump (sym c.is_some.ensures ∙ c.if-is_some.false) in
-    subst (λ (p : Option Between). IsCarrying c.tell.new.caller (done ++ line.Open ∷ []) p (sent me.out) (received me.from)) (sym none)
-    (carrying_refused c.args.connection.now.settings me.caller c.tell.new.caller c.in_ok-answer.answer done (sent me.out) (received me.from) c.tell.ensures.same
-    (subst (λ (e : Event). HasTold c.args.connection.now.settings me.caller c.tell.new.caller e c.in_ok-answer.answer) c.opening.ensures c.in_ok-answer.ensures.told)
-    (refused_joins c.in_ok-answer.answer c.in_default.not-Opened) (subst (λ (p : Option Between). IsCarrying me.caller done p (sent me.out) (received me.from)) none k))
+    subst (λ (p : Option Between). IsCarrying now (done ++ line.Open ∷ []) p (sent me.out) (received me.from)) (sym none)
+    (carrying_refused c.args.connection.now.settings me.caller now t.0 done (sent me.out) (received me.from) c.bring_opening.ensures.same t.2 (t.1 ∙ c.in_default.is)
+    (subst (λ (p : Option Between). IsCarrying me.caller done p (sent me.out) (received me.from)) none k))
 
 pub returns-clause-kept : goal.returns-clause-kept
 returns-clause-kept g c done k =
     let me = c.args.self.now in
-    let conn = c.in-Opened.conn in
+    let now = c.bring_opening.new.caller in
+    let conn = c.in-Some.conn in
+    let t = c.in_ok-conn.ensures.told in
     let none : me.pump ≡ None = none_joins me.pump (sym c.is_some.ensures ∙ c.if-is_some.false) in
     let most : c.max_in.result ≡ me.caller.of.settings.max_in = c.max_in.ensures.value ∙ ap (λ (o : SharedId). o.settings.max_in) (sym c.requires.of) in
     let pump : c.in_ok-pump_for.field-0 ≡ new_pump me.caller.of.settings conn = c.in_ok-pump_for.ensures ∙ ap (λ (n : ℕ). record { conn = conn; left = []; rest = []; max_in = n; bad = false }) most in
-    subst (λ (b : Between). IsCarrying c.tell.new.caller (done ++ line.Open ∷ []) (Some b) (sent me.out) (received me.from)) (sym pump)
-    (carrying_opened c.args.connection.now.settings me.caller c.tell.new.caller conn done (sent me.out) (received me.from) c.tell.ensures.same
-    (subst (λ (a : Answer). HasTold c.args.connection.now.settings me.caller c.tell.new.caller (event.Open None false) a) c.in-Opened.is
-    (subst (λ (e : Event). HasTold c.args.connection.now.settings me.caller c.tell.new.caller e c.in_ok-answer.answer) c.opening.ensures c.in_ok-answer.ensures.told))
-    c.tell.ensures.legal (subst (λ (p : Option Between). IsCarrying me.caller done p (sent me.out) (received me.from)) none k))
+    subst (λ (b : Between). IsCarrying now (done ++ line.Open ∷ []) (Some b) (sent me.out) (received me.from)) (sym pump)
+    (carrying_opened c.args.connection.now.settings me.caller now conn done (sent me.out) (received me.from) c.bring_opening.ensures.same
+    (subst (λ (a : Answer). HasTold c.args.connection.now.settings me.caller now (event.Open None false) a) (made_opened t.0 conn (t.1 ∙ c.in-Some.is)) t.2)
+    c.bring_opening.ensures.legal (subst (λ (p : Option Between). IsCarrying me.caller done p (sent me.out) (received me.from)) none k))
