@@ -1,12 +1,11 @@
 use Rattle.std.proofs.Common.{rules, ◌≡◌, ◌<◌, ◌^◌, ◌∙◌, true, false, is_some, refl, sym, ap, subst}
-use Rattle.conn_shared.specs.Members.{Knowledge}
 use Rattle.pump.specs.Turns.{GoesOn, IsPumped, MovesAlone, Spares, is_last}
 use Rattle.pump.proofs.Adding.{goes_as, goes_both, goes_continues, goes_none, on_both}
 use Rattle.pump.proofs.Going.{kept_goes, turn_goes}
 use Rattle.pump.proofs.Outcomes.{no_more, none_fell, none_fell_both, ran_for, read_wider}
 use Rattle.server.specs.Attending.{IsAttended, IsHelped}
 use Rattle.server.proofs.Helped.{ended_for, helped_attended, helped_quiet, helped_spares, late_of, pumped_attended}
-use Rattle.server.proofs.Kept.{pumped_idle, work_both, work_kept, work_kept_on, work_on}
+use Rattle.server.proofs.Kept.{on_names, on_number, pumped_idle, work_both, work_kept, work_kept_on, work_on}
 use Rattle.server.proofs.Moving.{IsOnTime, grown_both, on_time_first, on_time_helped, on_time_last, on_time_turn, own_before}
 use Rattle.server.proofs.Ticking.{IsNoTick}
 use Rattle.server.proofs.attending.attend.Goals as goal
@@ -50,8 +49,8 @@ loop-preserved g c =
     let st = c.args.connection.now.settings in
     let short : c.loop.pump.max_in < 2 ^ 24 = subst (λ n. n < 2 ^ 24) (sym i.4) c.requires.short in
     let going : is_last c.turn-turned.result ≡ false = search rules in
-    let named_was : was.names ≡ me.names = ap (λ (x : Knowledge). x.names) i.0 in
-    let named_mid : mid.names ≡ me.names = ap (λ (x : Knowledge). x.names) on_mid in
+    let named_was : was.names ≡ me.names = on_names me was i.0 in
+    let named_mid : mid.names ≡ me.names = on_names me mid on_mid in
     let own_mid : MovesAlone now conn → MovesAlone mid conn = λ own. own_before mid now conn c.help.ensures.same (goes_continues P mid now.front helped) own in
     let own_was : MovesAlone mid conn → MovesAlone was conn = λ own. own_before was mid conn c.turn-turned.ensures.same (goes_continues P was mid.front turned) own in
     let on_time : MovesAlone mid conn → IsOnTime st me.names me.front mid s t c.turn-turned.new.self = λ own.
@@ -102,7 +101,7 @@ returns-then-not-goes_on-clause-cause g c =
     let t = g.L.Link.shown c.turn-turned.new.link in
     let last : is_last c.turn-turned.result ≡ true = search rules in
     ended_for st moments me c.turn-turned.new.caller.front s t c.turn-turned.new.self c.turn-turned.result last
-    (ran_for st moments 0 me was c.turn-turned.new.caller.front s (g.L.Link.shown c.loop.link) t c.turn-turned.new.self c.turn-turned.result (ap (λ (x : Knowledge). x.number) i.0) last (goes_continues P me was.front i.2) i.5 c.turn-turned.ensures.cause)
+    (ran_for st moments 0 me was c.turn-turned.new.caller.front s (g.L.Link.shown c.loop.link) t c.turn-turned.new.self c.turn-turned.result (on_number me was i.0) last (goes_continues P me was.front i.2) i.5 c.turn-turned.ensures.cause)
 
 pub returns-then-not-goes_on-clause-read : goal.returns-then-not-goes_on-clause-read
 returns-then-not-goes_on-clause-read g c late =
@@ -111,7 +110,7 @@ returns-then-not-goes_on-clause-read g c late =
     let was = c.loop.caller in
     let moments = g.K.Clock.moments c.args.host.now.clock.now in
     let P = IsAttended moments (is_some c.args.jobs.now) c.args.pump.now.conn in
-    read_wider c.args.connection.now.settings me was c.turn-turned.new.self c.turn-turned.new.caller.front (ap (λ (x : Knowledge). x.names) i.0) (goes_continues P me was.front i.2) (c.turn-turned.ensures.read late)
+    read_wider c.args.connection.now.settings me was c.turn-turned.new.self c.turn-turned.new.caller.front (on_names me was i.0) (goes_continues P me was.front i.2) (c.turn-turned.ensures.read late)
 
 pub returns-then-not-goes_on-clause-work : goal.returns-then-not-goes_on-clause-work
 returns-then-not-goes_on-clause-work g c =
@@ -136,7 +135,7 @@ returns-then-not-goes_on-clause-ticks g c own =
     let turn = c.turn-turned.ensures.turned in
     let on = goes_continues (IsPumped moments c.loop.pump.conn) was now.front (turn_goes st moments was c.loop.pump.conn _ turn.left now.front turn.turn) in
     on_time_last st moments me.names me.front was now.front (g.L.Link.shown c.args.link.now) (g.L.Link.shown c.loop.link) (g.L.Link.shown c.turn-turned.new.link) c.loop.pump c.turn-turned.result
-    (ap (λ (x : Knowledge). x.names) i.0) c.turn-turned.ensures.counted turn (i.9 (own_before was now conn c.turn-turned.ensures.same on own))
+    (on_names me was i.0) c.turn-turned.ensures.counted turn (i.9 (own_before was now conn c.turn-turned.ensures.same on own))
 
 pub returns-then-not-goes_on-clause-taken : goal.returns-then-not-goes_on-clause-taken
 returns-then-not-goes_on-clause-taken g c =
