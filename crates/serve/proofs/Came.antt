@@ -20,8 +20,8 @@ use Rattle.serve_slots.proofs.Lists.{all_first, all_second, pair_long}
 use Rattle.serve_slots.proofs.Parts.{held_append, held_row}
 use Rattle.serve_threads.specs.Asking.{AreAccepted, out_after, repeated}
 use Rattle.serve_threads.specs.Ending.{rows_of}
-use Rattle.serve_told.specs.Links.{is_memory, lacks_memory, link_in, links_of, ran_out, some_lack}
-use Rattle.serve.specs.Links.{answer_in, answers_of, fault_of, is_failed, some_failed}
+use Rattle.serve_told.specs.Links.{answer_in, answers_of, is_memory, lacks_memory, link_in, links_of, ran_out, some_lack}
+use Rattle.serve.specs.Links.{fault_of, is_failed, some_failed}
 use Rattle.serve_threads.specs.Threads.{IsMissed, IsServed, IsVacant}
 use Rattle.serve_threads.specs.declared.guest.Guest.{Guest}
 use Rattle.serve.specs.declared.plan.ServeFault.TheVariants as serve_fault

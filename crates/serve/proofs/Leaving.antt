@@ -14,6 +14,7 @@ use Rattle.serve_slots.proofs.Lists.{all_append, pair_long}
 use Rattle.serve_slots.proofs.Parts.{first_all, none_left}
 use Rattle.serve_laws.specs.Serving.{HasServed}
 use Rattle.serve_links.specs.Callers.{lease_of}
+use Rattle.serve_told.specs.Answers.{AreAnswered}
 use Rattle.serve_told.proofs.Whole.{served}
 use Rattle.serve.specs.Links.{LeavesLinks, LeavesNet, NetShown, fault_in}
 use Rattle.serve.specs.Whole.{IsLawful, Leaves, Serves}
@@ -33,6 +34,8 @@ pub nothing_left : (g : Settings) (plan : ServePlan) (routes : List Listed) (mom
 nothing_left g plan routes moments many net lasts = record {
   links = [];
   leaves = record { accepts = 0; few = (omega arith, omega arith); asks = append_none net.asked; got_back = append_none net.back; out_is = inl refl };
+  answers = [];
+  list = tt;
   whole = tt;
   told = λ none. absurd (none refl);
 }
@@ -88,10 +91,11 @@ module _ (g : Settings) (plan : ServePlan) (routes : List Listed) (moments : Opt
 
   -- where all connections were made, and memory did not run out
   pub has_served : length ids ≡ plan.connections → shelf' ≡ shelf → fault_in result ≢ Some serve_fault.OutOfMemory
-      → HasServed g (lease_of plan.grant) plan.ws plan.connections routes moments links.links shelf shelf'' net.asked net'.asked net.back net'.back net.out net'.out
+      → (has : HasServed g (lease_of plan.grant) plan.ws plan.connections routes moments links.links shelf shelf'' net.asked net'.asked net.back net'.back net.out net'.out)
+      × AreAnswered g moments plan.grant has.tapes has.rows links.links links.answers
   has_served each same none =
       let n = left in
-      served g moments (lease_of plan.grant) plan.ws plan.connections routes links.links ms shelf shelf'' net.asked net'.asked net.back net'.back net.out net'.out (links.told none whole) (each_last ∙ each)
+      served g moments plan.grant plan.ws plan.connections routes links.links links.answers ms shelf shelf'' net.asked net'.asked net.back net'.back net.out net'.out (links.told none whole) (each_last ∙ each)
       (subst (λ (l : List (Option (List Entry))). GotBackAs (fronts_of ms) l shelf'') same got) n.accepts n.few n.asks n.got_back n.out_is
 
   leaves_all : shelf' ≡ shelf → Leaves g plan shelf shelf'' net net'
@@ -117,9 +121,10 @@ serves_made : (g : Settings) (plan : ServePlan) (routes : List Listed) (moments 
     → AreCallersOf ids ms → HaveSettings g ids → length ids ≤ plan.connections → GotBackAs (fronts_of ms) shelf' shelf'' → AllByRecursion IsWhole ms → LeavesLinks g plan routes moments (length ids) net net' ms result
     → length ids ≡ plan.connections → shelf' ≡ shelf → Serves g plan routes moments shelf shelf'' net net' result
 serves_made g plan routes moments ids ms shelf shelf' shelf'' net net' (Ok list) of settings few got whole links each same =
-    (links.links, has_served g plan routes moments ids ms shelf shelf' shelf'' net net' (Ok list) of settings few got whole links each same (λ is. cc), links.whole.0 ∙ each, links.whole.1 ∙ each)
+    let has = has_served g plan routes moments ids ms shelf shelf' shelf'' net net' (Ok list) of settings few got whole links each same (λ is. cc) in
+    (links.links, has.0, links.whole.0 ∙ each, links.whole.1 ∙ each, subst (λ (l : List Served). AreAnswered g moments plan.grant has.0.tapes has.0.rows links.links l) (sym links.list) has.1)
 serves_made g plan routes moments ids ms shelf shelf' shelf'' net net' (Err serve_fault.Net) of settings few got whole links each same =
-    (links.links, has_served g plan routes moments ids ms shelf shelf' shelf'' net net' (Err serve_fault.Net) of settings few got whole links each same (λ is. cc))
+    (links.links, (has_served g plan routes moments ids ms shelf shelf' shelf'' net net' (Err serve_fault.Net) of settings few got whole links each same (λ is. cc)).0)
 serves_made g plan routes moments ids ms shelf shelf' shelf'' net net' (Err serve_fault.OutOfMemory) of settings few got whole links each same =
     leaves_all g plan routes moments ids ms shelf shelf' shelf'' net net' (Err serve_fault.OutOfMemory) of settings few got whole links same
 

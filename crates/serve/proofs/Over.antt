@@ -15,15 +15,14 @@ use Rattle.server.specs.Serving.{Outcome}
 use Rattle.server.specs.declared.served.Served.{Served}
 use Rattle.serve_slots.specs.Callers.{AreCallersOf, HaveAll, IsAtSlot, Placed, TookIn, all_placed, held, placed}
 use Rattle.serve_slots.specs.Tapes.{HasAll, IsWhole}
-use Rattle.serve_links.specs.Callers.{lease_of}
 use Rattle.serve_slots.proofs.Lists.{all_first, all_second, all_snoc, of_at, of_set, pair_long}
 use Rattle.serve_slots.proofs.Parts.{held_append, none_left, took_all}
 use Rattle.serve_threads.specs.Asking.{AreAccepted}
 use Rattle.serve_threads.specs.Ending.{AllServeRest, CanEnd, HasEnded, HaveCome, rows_of}
 use Rattle.serve_told.specs.Told.{Tells}
 use Rattle.serve_told.proofs.Whole.{told}
-use Rattle.serve_told.specs.Links.{lacks_memory, link_in, links_of, some_lack, is_memory, ran_out}
-use Rattle.serve.specs.Links.{LeavesLinks, NetShown, net_of, answers_of, fault_in, fault_of, is_failed, some_failed, answer_in}
+use Rattle.serve_told.specs.Links.{answer_in, answers_of, lacks_memory, link_in, links_of, some_lack, is_memory, ran_out}
+use Rattle.serve.specs.Links.{LeavesLinks, NetShown, net_of, fault_in, fault_of, is_failed, some_failed}
 use Rattle.serve_threads.specs.Making.{AreInOrder, AreMade, HaveWorkers, IsRow, working}
 use Rattle.serve_threads.specs.Threads.{IsDone, IsMissed, IsReady, IsServed, IsVacant}
 use Rattle.serve_threads.specs.declared.guest.Guest.{Guest}
@@ -194,7 +193,7 @@ module _ {N L T : Type 0} (shown : L → Shown) (g : Settings) (ids : List Share
   pub links_left : (many : ℕ) (net' : NetShown) (result : Result (List Served) ServeFault) → length places ≡ many
       → net'.asked ≡ asked m → net'.back ≡ option_map (λ (was : List Shown). was ++ links_of shown now) (back m) → net'.out + length (links_of shown now) ≡ out m
       → IfOk result (λ (list : List Served). list ≡ answers_of now) → fault_in result ≡ fault_of now
-      → (lasts : List Knowledge) → (some_lack now ≡ false → AllByRecursion IsWhole lasts → Tells g moments (lease_of plan.grant) routes (links_of shown now) lasts)
+      → (lasts : List Knowledge) → (some_lack now ≡ false → AllByRecursion IsWhole lasts → Tells g moments plan.grant routes (links_of shown now) (answers_of now) lasts)
       → LeavesLinks g plan routes moments many (net_of asked back out faults n) net' lasts result
   links_left many net' result each asks backs outs list fault lasts tells = record {
     links = links_of shown now;
@@ -206,6 +205,8 @@ module _ {N L T : Type 0} (shown : L → Shown) (g : Settings) (ids : List Share
       out_is = out_back come.came many (out n) net'.out (let c = come.few in omega arith)
           (let a : length (links_of shown now) ≡ length (links_of shown left) = ap length (alike_links shown left now alike) in let b = come.links in let e = come.out_is in omega arith);
     };
+    answers = answers_of now;
+    list = list;
     whole = by result list fault;
     told = λ none. tells (lack_none now (λ out. none (fault ∙ out)));
   }

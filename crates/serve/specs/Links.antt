@@ -10,10 +10,8 @@ use Rattle.outside.specs.declared.net.NetFault.{NetFault}
 use Rattle.outside.specs.declared.net.NetFault.TheVariants as faults
 use Rattle.conn_shared.specs.Members.{Knowledge}
 use Rattle.handlers.specs.Listed.{Listed}
-use Rattle.server.specs.Serving.{Outcome}
 use Rattle.server.specs.declared.served.Served.{Served}
 use Rattle.serve_slots.specs.Tapes.{IsWhole}
-use Rattle.serve_links.specs.Callers.{lease_of}
 use Rattle.serve_threads.specs.Asking.{repeated}
 use Rattle.serve_threads.specs.declared.guest.Guest.{Guest}
 use Rattle.serve_told.specs.Links.{some_lack}
@@ -23,15 +21,6 @@ use Rattle.serve.specs.declared.plan.ServeFault.TheVariants as serve_fault
 use Rattle.serve.specs.declared.plan.ServePlan.{ServePlan}
 
 -- ---- places
-
-abbrev pub answer_in : Option Outcome → List Served
-answer_in None = []
-answer_in (Some outcome) = outcome.0 ∷ []
-
--- how they were served
-abbrev pub answers_of : {L T : Type 0} → List (Guest L T) → List Served
-answers_of [] = []
-answers_of (p ∷ places) = answer_in p.answer ++ answers_of places
 
 abbrev pub is_failed : Option NetFault → Bool
 is_failed (Some faults.Failed) = true
@@ -75,10 +64,13 @@ pub record LeavesNet (ws : Bool) (many : ℕ) (links : List Shown) (net net' : N
   -- none is kept, where the count of those that are out did not come to its end
   pub out_is : (net'.out ≡ net.out) ⊎ (2 ^ 64 - 1 ≤ net.out + many)
 
--- And where no fault is answered there are so many links, each with an answer; and where memory did not run out it is known what the last callers of the
+-- And where no fault is answered there are so many links, each with its answer; and where memory did not run out it is known what the last callers of the
 -- slots tell, once all entries of each tape are theirs.
 pub record LeavesLinks (g : Settings) (plan : ServePlan) (routes : List Listed) (moments : Option (List ℕ)) (many : ℕ) (net net' : NetShown) (lasts : List Knowledge) (result : Result (List Served) ServeFault) : Type 0 where
   pub links : List Shown
   pub leaves : LeavesNet plan.ws many links net net'
+  -- how the links were served
+  pub answers : List Served
+  pub list : IfOk result (λ (list : List Served). list ≡ answers)
   pub whole : IfOk result (λ (list : List Served). (length links ≡ many) × (length list ≡ many))
-  pub told : fault_in result ≢ Some serve_fault.OutOfMemory → AllByRecursion IsWhole lasts → Tells g moments (lease_of plan.grant) routes links lasts
+  pub told : fault_in result ≢ Some serve_fault.OutOfMemory → AllByRecursion IsWhole lasts → Tells g moments plan.grant routes links answers lasts

@@ -5,8 +5,8 @@ ghost use Rattle.std.specs.Prelude.{◌≡◌, ◌≤◌, ◌+◌, ◌++◌, len
 ghost use Rattle.std.specs.List.{AllByRecursion};
 ghost use Rattle.std.specs.Option.{option_map};
 ghost use Rattle.serve_slots.specs.Callers.{AreCallersOf, IsAtSlot, TookIn};
-ghost use Rattle.serve_told.specs.Links.{lacks_memory, link_in, links_of, some_lack};
-ghost use Rattle.serve.specs.Links.{answers_of, fault_of, some_failed};
+ghost use Rattle.serve_told.specs.Links.{answers_of, lacks_memory, link_in, links_of, some_lack};
+ghost use Rattle.serve.specs.Links.{fault_of, some_failed};
 ghost use Rattle.serve_threads.specs.Making.{working};
 
 use crate::plan::ServeFault;

@@ -10,8 +10,8 @@ ghost use Rattle.serve_slots.specs.Tapes.{HasAll};
 ghost use Rattle.serve_threads.specs.Ending.{rows_of};
 ghost use Rattle.serve_threads.specs.Making.{AreInOrder, AreMade, HaveWorkers, working};
 ghost use Rattle.serve_threads.specs.Threads.{IsReady, IsVacant};
-ghost use Rattle.serve_told.specs.Links.{links_of};
-ghost use Rattle.serve.specs.Links.{LeavesLinks, answers_of, fault_in, fault_of, net_of};
+ghost use Rattle.serve_told.specs.Links.{answers_of, links_of};
+ghost use Rattle.serve.specs.Links.{LeavesLinks, fault_in, fault_of, net_of};
 ghost use Rattle.serve.specs.Whole.{Serves};
 ghost use Rattle.serve.specs.declared.plan.ServeFault.TheVariants as serve_fault;
 
@@ -265,7 +265,7 @@ where
     requires server { settings.now.side ≡ Server }
     requires connections { (1 ≤ plan.now.connections) × (plan.now.connections ≤ 64) }
     requires workers { (1 ≤ plan.now.workers) × (plan.now.workers ≤ 16) }
-    // The tapes and the links that were put back, and what the net was asked.
+    // The tapes and the links that were put back, what the net was asked, and how each link was served.
     ensures serves { Serves settings.now plan.now routes.now (K.moments clock.now)
         (H.back shelf.old) (H.back shelf.new) (net_of N.asked N.back N.out N.faults net.old)
         (net_of N.asked N.back N.out N.faults net.new) result }

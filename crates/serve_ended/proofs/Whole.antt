@@ -50,7 +50,7 @@ row_is (link ∷ links) [] k row is = absurd (cc)
 row_is (link ∷ links) (r ∷ places) zero row is = (link, r, refl, refl, cc)
 row_is (link ∷ links) (r ∷ places) (suc k) row is = row_is links places k row is
 
-is_row : (links : List Shown) (places : List (List Knowledge)) (k : ℕ) (link : Shown) (callers : List Knowledge) → slice_get links k ≡ Some link → slice_get places k ≡ Some callers → slice_get (rows_of links places) k ≡ Some (numbers callers)
+pub is_row : (links : List Shown) (places : List (List Knowledge)) (k : ℕ) (link : Shown) (callers : List Knowledge) → slice_get links k ≡ Some link → slice_get places k ≡ Some callers → slice_get (rows_of links places) k ≡ Some (numbers callers)
 is_row [] places k link callers is at = absurd (cc)
 is_row (l ∷ links) [] k link callers is at = absurd (cc)
 is_row (l ∷ links) (r ∷ places) zero link callers is at = ap (λ (x : List Knowledge). Some (numbers x)) (cc)

@@ -21,7 +21,7 @@ use Rattle.serve_threads.specs.Ending.{AllServeRest, HasEnded, IsEmptied, Swappe
 use Rattle.serve_threads.specs.Making.{AreInOrder}
 use Rattle.serve_threads.specs.Threads.{IsMissed, IsNewCaller as IsUnused, IsServed as WasServed, IsVacant}
 use Rattle.serve_threads.specs.declared.guest.Guest.{Guest}
-use Rattle.serve_told.specs.Links.{is_memory, is_out_of_memory, lacks_memory, link_in, links_of, ran_out, some_lack}
+use Rattle.serve_told.specs.Links.{answer_in, answers_of, is_memory, is_out_of_memory, lacks_memory, link_in, links_of, ran_out, some_lack}
 
 -- ---- callers
 
@@ -80,39 +80,43 @@ module _ {L T : Type 0} where
 
   -- ---- how a place is left
 
-  -- a link was served there, which is the one at that place of the list, or none came, and then no more did
-  abbrev pub WasLeft : (L → Shown) → Settings → Option (List ℕ) → Option ℕ → List Listed → List Shown → ℕ → Guest L T → Guest L T → Type 0
-  WasLeft shown g moments grant routes links k p q =
-      ((s : WasServed shown g moments grant routes p q) × (slice_get links k ≡ Some (shown s.link)))
+  -- a link was served there, which is the one at that place of the list, as its answer is, or none came, and then no more did
+  abbrev pub WasLeft : (L → Shown) → Settings → Option (List ℕ) → Option ℕ → List Listed → List Shown → List Served → ℕ → Guest L T → Guest L T → Type 0
+  WasLeft shown g moments grant routes links answers k p q =
+      ((s : WasServed shown g moments grant routes p q) × (slice_get links k ≡ Some (shown s.link)) × (slice_get answers k ≡ Some s.outcome.0))
       ⊎ ((slice_get links k ≡ None) × (q.row ≡ p.row) × (q.work ≡ p.work))
 
   module _ (shown : L → Shown) (g : Settings) (ids : List SharedId) (moments : Option (List ℕ)) (grant : Option ℕ) (routes : List Listed) where
-    left_next : (x : Shown) (links : List Shown) (k : ℕ) (p q : Guest L T) → WasLeft shown g moments grant routes links k p q → WasLeft shown g moments grant routes (x ∷ links) (suc k) p q
-    left_next x links k p q (inl s) = inl s
-    left_next x links k p q (inr s) = inr s
+    left_next : (x : Shown) (y : Served) (links : List Shown) (answers : List Served) (k : ℕ) (p q : Guest L T) → WasLeft shown g moments grant routes links answers k p q → WasLeft shown g moments grant routes (x ∷ links) (y ∷ answers) (suc k) p q
+    left_next x y links answers k p q (inl s) = inl s
+    left_next x y links answers k p q (inr s) = inr s
 
-    left_later : (o : Option L) (link : L) (links : List Shown) (k : ℕ) (p q : Guest L T) → o ≡ Some link → WasLeft shown g moments grant routes links k p q → WasLeft shown g moments grant routes (link_in shown o ++ links) (suc k) p q
-    left_later o link links k p q is left = subst (λ (x : Option L). WasLeft shown g moments grant routes (link_in shown x ++ links) (suc k) p q) (sym is) (left_next (shown link) links k p q left)
+    left_later : (a b : Guest L T) (s : WasServed shown g moments grant routes a b) (links : List Shown) (answers : List Served) (k : ℕ) (p q : Guest L T) → WasLeft shown g moments grant routes links answers k p q
+        → WasLeft shown g moments grant routes (link_in shown b.link ++ links) (answer_in b.answer ++ answers) (suc k) p q
+    left_later a b s links answers k p q left =
+        subst (λ (x : Option L). WasLeft shown g moments grant routes (link_in shown x ++ links) (answer_in b.answer ++ answers) (suc k) p q) (sym s.link_is)
+        (subst (λ (y : Option Outcome). WasLeft shown g moments grant routes (shown s.link ∷ links) (answer_in y ++ answers) (suc k) p q) (sym s.answer_is) (left_next (shown s.link) s.outcome.0 links answers k p q left))
 
-    left_here : (links : List Shown) (p q : Guest L T) (s : WasServed shown g moments grant routes p q) → WasLeft shown g moments grant routes (link_in shown q.link ++ links) 0 p q
-    left_here links p q s = inl (s, ap (λ (o : Option L). slice_get (link_in shown o ++ links) 0) s.link_is)
+    left_here : (links : List Shown) (answers : List Served) (p q : Guest L T) (s : WasServed shown g moments grant routes p q) → WasLeft shown g moments grant routes (link_in shown q.link ++ links) (answer_in q.answer ++ answers) 0 p q
+    left_here links answers p q s =
+        inl (s, ap (λ (o : Option L). slice_get (link_in shown o ++ links) 0) s.link_is, ap (λ (o : Option Outcome). slice_get (answer_in o ++ answers) 0) s.answer_is)
 
     vacant_links : (ps : List (Guest L T)) → AllByRecursion (IsVacant g ids) ps → links_of shown ps ≡ []
     vacant_links [] v = refl
     vacant_links (p ∷ ps) v = ap (λ (o : Option L). link_in shown o ++ links_of shown ps) v.0.none ∙ vacant_links ps v.1
 
-    all_left_at : (ps qs : List (Guest L T)) (k : ℕ) (q : Guest L T) → Pairwise (WasServed shown g moments grant routes) ps qs → slice_get qs k ≡ Some q → (p : Guest L T) × (slice_get ps k ≡ Some p) × WasLeft shown g moments grant routes (links_of shown qs) k p q
+    all_left_at : (ps qs : List (Guest L T)) (k : ℕ) (q : Guest L T) → Pairwise (WasServed shown g moments grant routes) ps qs → slice_get qs k ≡ Some q → (p : Guest L T) × (slice_get ps k ≡ Some p) × WasLeft shown g moments grant routes (links_of shown qs) (answers_of qs) k p q
     all_left_at [] [] k q d is = absurd (cc)
     all_left_at [] (b ∷ qs) k q d is = absurd d
     all_left_at (a ∷ ps) [] k q d is = absurd d
-    all_left_at (a ∷ ps) (b ∷ qs) zero q d is = (a, refl, subst (λ (x : Guest L T). WasLeft shown g moments grant routes (links_of shown (b ∷ qs)) 0 a x) (let e : b ≡ q = cc in e) (left_here (links_of shown qs) a b d.0))
+    all_left_at (a ∷ ps) (b ∷ qs) zero q d is = (a, refl, subst (λ (x : Guest L T). WasLeft shown g moments grant routes (links_of shown (b ∷ qs)) (answers_of (b ∷ qs)) 0 a x) (let e : b ≡ q = cc in e) (left_here (links_of shown qs) (answers_of qs) a b d.0))
     all_left_at (a ∷ ps) (b ∷ qs) (suc k) q d is =
         let h = all_left_at ps qs k q d.1 is in
-        (h.0, h.1, left_later b.link d.0.link (links_of shown qs) k h.0 q d.0.link_is h.2)
+        (h.0, h.1, left_later a b d.0 (links_of shown qs) (answers_of qs) k h.0 q h.2)
 
     some_left_at : (ps qs : List (Guest L T)) (place place' : Guest L T) (rest : List (Guest L T)) (k : ℕ) (q : Guest L T) → Pairwise (WasServed shown g moments grant routes) ps qs → AllByRecursion (IsVacant g ids) rest
         → place'.link ≡ None → place'.row ≡ place.row → place'.work ≡ place.work → slice_get (qs ++ place' ∷ rest) k ≡ Some q
-        → (p : Guest L T) × (slice_get (ps ++ place ∷ rest) k ≡ Some p) × WasLeft shown g moments grant routes (links_of shown (qs ++ place' ∷ rest)) k p q
+        → (p : Guest L T) × (slice_get (ps ++ place ∷ rest) k ≡ Some p) × WasLeft shown g moments grant routes (links_of shown (qs ++ place' ∷ rest)) (answers_of (qs ++ place' ∷ rest)) k p q
     some_left_at [] [] place place' rest k q d v none row work is = by k is
       where
         no_links : links_of shown (place' ∷ rest) ≡ []
@@ -121,31 +125,31 @@ module _ {L T : Type 0} where
         nothing : (j : ℕ) → slice_get (links_of shown (place' ∷ rest)) j ≡ None
         nothing j = ap (λ (l : List Shown). slice_get l j) no_links
 
-        by : (j : ℕ) → slice_get (place' ∷ rest) j ≡ Some q → (p : Guest L T) × (slice_get (place ∷ rest) j ≡ Some p) × WasLeft shown g moments grant routes (links_of shown (place' ∷ rest)) j p q
+        by : (j : ℕ) → slice_get (place' ∷ rest) j ≡ Some q → (p : Guest L T) × (slice_get (place ∷ rest) j ≡ Some p) × WasLeft shown g moments grant routes (links_of shown (place' ∷ rest)) (answers_of (place' ∷ rest)) j p q
         by zero here = let e : place' ≡ q = cc in (place, refl, inr (nothing 0, sym (ap (λ (x : Guest L T). x.row) e) ∙ row, sym (ap (λ (x : Guest L T). x.work) e) ∙ work))
         by (suc j) there = (q, there, inr (nothing (suc j), refl, refl))
     some_left_at [] (b ∷ qs) place place' rest k q d v none row work is = absurd d
     some_left_at (a ∷ ps) [] place place' rest k q d v none row work is = absurd d
     some_left_at (a ∷ ps) (b ∷ qs) place place' rest zero q d v none row work is =
-        (a, refl, subst (λ (x : Guest L T). WasLeft shown g moments grant routes (links_of shown (b ∷ qs ++ place' ∷ rest)) 0 a x) (let e : b ≡ q = cc in e) (left_here (links_of shown (qs ++ place' ∷ rest)) a b d.0))
+        (a, refl, subst (λ (x : Guest L T). WasLeft shown g moments grant routes (links_of shown (b ∷ qs ++ place' ∷ rest)) (answers_of (b ∷ qs ++ place' ∷ rest)) 0 a x) (let e : b ≡ q = cc in e) (left_here (links_of shown (qs ++ place' ∷ rest)) (answers_of (qs ++ place' ∷ rest)) a b d.0))
     some_left_at (a ∷ ps) (b ∷ qs) place place' rest (suc k) q d v none row work is =
         let h = some_left_at ps qs place place' rest k q d.1 v none row work is in
-        (h.0, h.1, left_later b.link d.0.link (links_of shown (qs ++ place' ∷ rest)) k h.0 q d.0.link_is h.2)
+        (h.0, h.1, left_later a b d.0 (links_of shown (qs ++ place' ∷ rest)) (answers_of (qs ++ place' ∷ rest)) k h.0 q h.2)
 
     module _ {N : Type 0} (asked : N → Option (List Ask)) (back : N → Option (List Shown)) (out faults : N → ℕ) (ws : Bool) (n m : N) (places left : List (Guest L T)) (vacant : AllByRecursion (IsVacant g ids) places)
         (done : AreServed (AreAccepted asked back out faults ws) (WasServed shown g moments grant routes) (IsMissed asked back out faults ws) n m places left) where
-      pub left_at : (k : ℕ) (q : Guest L T) → slice_get left k ≡ Some q → (p : Guest L T) × (slice_get places k ≡ Some p) × WasLeft shown g moments grant routes (links_of shown left) k p q
+      pub left_at : (k : ℕ) (q : Guest L T) → slice_get left k ≡ Some q → (p : Guest L T) × (slice_get places k ≡ Some p) × WasLeft shown g moments grant routes (links_of shown left) (answers_of left) k p q
       left_at k q is = by done
         where
           by : AreServed (AreAccepted asked back out faults ws) (WasServed shown g moments grant routes) (IsMissed asked back out faults ws) n m places left
-              → (p : Guest L T) × (slice_get places k ≡ Some p) × WasLeft shown g moments grant routes (links_of shown left) k p q
+              → (p : Guest L T) × (slice_get places k ≡ Some p) × WasLeft shown g moments grant routes (links_of shown left) (answers_of left) k p q
           by (inl a) = all_left_at places left k q a.each is
           by (inr u) =
               let rest = all_second (IsVacant g ids) u.before (u.place ∷ u.rest) (subst (AllByRecursion (IsVacant g ids)) u.were vacant) in
               let h = some_left_at u.before u.before' u.place u.place' u.rest k q u.each rest.1
               (ap (λ (x : Guest L T). x.link) u.misses.missed ∙ rest.0.none) (ap (λ (x : Guest L T). x.row) u.misses.missed) (ap (λ (x : Guest L T). x.work) u.misses.missed)
               (subst (λ (l : List (Guest L T)). slice_get l k ≡ Some q) u.are is) in
-              (h.0, subst (λ (l : List (Guest L T)). slice_get l k ≡ Some h.0) (sym u.were) h.1, subst (λ (l : List (Guest L T)). WasLeft shown g moments grant routes (links_of shown l) k h.0 q) (sym u.are) h.2)
+              (h.0, subst (λ (l : List (Guest L T)). slice_get l k ≡ Some h.0) (sym u.were) h.1, subst (λ (l : List (Guest L T)). WasLeft shown g moments grant routes (links_of shown l) (answers_of l) k h.0 q) (sym u.are) h.2)
 
       pub left_long : length left ≡ length places
       left_long = by done
@@ -207,6 +211,12 @@ module _ {L T : Type 0} where
   alike_links shown (p ∷ ps) [] a = absurd a
   alike_links shown (p ∷ ps) (q ∷ qs) a = ap (λ (o : Option L). link_in shown o ++ links_of shown qs) a.0.0 ∙ ap (λ (l : List Shown). link_in shown p.link ++ l) (alike_links shown ps qs a.1)
 
+  alike_answers : (ps qs : List (Guest L T)) → AreAlike ps qs → answers_of qs ≡ answers_of ps
+  alike_answers [] [] a = refl
+  alike_answers [] (q ∷ qs) a = absurd a
+  alike_answers (p ∷ ps) [] a = absurd a
+  alike_answers (p ∷ ps) (q ∷ qs) a = ap (λ (o : Option Outcome). answer_in o ++ answers_of qs) a.0.1 ∙ ap (λ (l : List Served). answer_in p.answer ++ l) (alike_answers ps qs a.1)
+
   alike_lack : (ps qs : List (Guest L T)) → AreAlike ps qs → some_lack qs ≡ some_lack ps
   alike_lack [] [] a = refl
   alike_lack [] (q ∷ qs) a = absurd a
@@ -219,6 +229,10 @@ module _ {L T : Type 0} where
     pub ended_links : (shown : L → Shown) → links_of shown qs ≡ links_of shown ps
     ended_links shown = alike_links shown ended.empty qs (alike_rest routes ended.closed ended.empty ns qs ended.served)
         ∙ (alike_links shown ended.given ended.empty (alike_emptied ended.given ended.empty ended.emptied) ∙ alike_links shown ps ended.given (alike_swapped 0 ms ps ended.own ended.given ended.swapped))
+
+    pub ended_answers : answers_of qs ≡ answers_of ps
+    ended_answers = alike_answers ended.empty qs (alike_rest routes ended.closed ended.empty ns qs ended.served)
+        ∙ (alike_answers ended.given ended.empty (alike_emptied ended.given ended.empty ended.emptied) ∙ alike_answers ps ended.given (alike_swapped 0 ms ps ended.own ended.given ended.swapped))
 
     pub ended_lack : some_lack qs ≡ some_lack ps
     ended_lack = alike_lack ended.empty qs (alike_rest routes ended.closed ended.empty ns qs ended.served)

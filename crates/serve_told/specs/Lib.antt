@@ -1,2 +1,3 @@
 pub mod Links
+pub mod Answers
 pub mod Told

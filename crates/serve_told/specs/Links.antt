@@ -1,4 +1,4 @@
--- The links that places have, and whether memory ran out at one.
+-- The links that places have, how they were served, and whether memory ran out at one.
 use Rattle.std.specs.Prelude.{◌||◌, Bool, true, false, List, [], ◌∷◌, ◌++◌, Option, Some, None}
 use Rattle.outside.specs.Links.{Shown}
 use Rattle.outside.specs.declared.net.NetFault.{NetFault}
@@ -16,6 +16,15 @@ link_in shown (Some link) = shown link ∷ []
 abbrev pub links_of : {L T : Type 0} → (L → Shown) → List (Guest L T) → List Shown
 links_of shown [] = []
 links_of shown (p ∷ places) = link_in shown p.link ++ links_of shown places
+
+abbrev pub answer_in : Option Outcome → List Served
+answer_in None = []
+answer_in (Some outcome) = outcome.0 ∷ []
+
+-- how they were served
+abbrev pub answers_of : {L T : Type 0} → List (Guest L T) → List Served
+answers_of [] = []
+answers_of (p ∷ places) = answer_in p.answer ++ answers_of places
 
 abbrev pub is_memory : Option NetFault → Bool
 is_memory (Some faults.OutOfMemory) = true

@@ -11,8 +11,8 @@ use Rattle.serve_slots.proofs.Lists.{pair_long}
 use Rattle.serve_threads.specs.Making.{working}
 use Rattle.serve_threads.specs.declared.guest.Guest.{Guest}
 use Rattle.serve_threads.specs.declared.worker.Worker.{Worker}
-use Rattle.serve_told.specs.Links.{links_of}
-use Rattle.serve.specs.Links.{LeavesLinks, answers_of, fault_of, net_of}
+use Rattle.serve_told.specs.Links.{answers_of, links_of}
+use Rattle.serve.specs.Links.{LeavesLinks, fault_of, net_of}
 use Rattle.serve.proofs.Over.{lent_whole, ran_at, ran_cause, ran_counted, ran_enough, ran_from, ran_links, ran_long, ran_of, ran_parts, ran_workers}
 use Rattle.serve.proofs.whole.serve_at.Goals as goal
 

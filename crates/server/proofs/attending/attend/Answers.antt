@@ -1,4 +1,4 @@
-use Rattle.std.proofs.Common.{rules, ◌≡◌, ◌<◌, ◌^◌, ◌∙◌, true, false, is_some, refl, sym, ap, subst}
+use Rattle.std.proofs.Common.{rules, ◌≡◌, ◌<◌, ◌^◌, ◌∙◌, true, false, is_some, refl, sym, subst}
 use Rattle.pump.specs.Turns.{GoesOn, IsPumped, MovesAlone, Spares, is_last}
 use Rattle.pump.proofs.Adding.{goes_as, goes_both, goes_continues, goes_none, on_both}
 use Rattle.pump.proofs.Going.{kept_goes, turn_goes}

@@ -1,8 +1,4 @@
-use Rattle.std.proofs.Common.{rules, ◌≡◌, ◌∙◌, List, [], is_some, Option, Some, None, IfSome, refl, sym, ap, subst}
-use Rattle.handlers.specs.Listed.{Listed}
-use Rattle.workers.specs.declared.job.OpenJob.{OpenJob}
-use Rattle.workers.specs.Serving.{AreRouted}
-use Rattle.server.specs.Attending.{AreRoutedIn}
+use Rattle.std.proofs.Common.{rules, ◌≡◌, ◌∙◌, is_some, Some, refl, sym, ap, subst}
 use Rattle.tape.specs.declared.answer.Answer.{Answer}
 use Rattle.tape.specs.declared.answer.Answer.TheVariants as answer
 use Rattle.server.specs.declared.served.Served.{Served}
