@@ -80,6 +80,14 @@ const RESUMED: Row = Row {
     ..REFUSED
 };
 
+/// The same at the slot of [`BEGUN`], after a fire-and-forget of 8 bytes.
+const RESUMED_AFTER_FNF: Row = Row {
+    plan: Plan { slot: 1, ..PLAIN },
+    opened: Some((0, 2)),
+    end: b"\x00\x08",
+    ..RESUMED
+};
+
 /// A RESUME of a token that no session has. The ERROR has 15 bytes after its length.
 const UNKNOWN: Row = Row {
     first: RESUME,
@@ -89,7 +97,32 @@ const UNKNOWN: Row = Row {
     ..REFUSED
 };
 
-// The link of a SETUP and a fire-and-forget fails at this call, and another one asks to resume.
+// The link of a SETUP and a fire-and-forget, which fails at this call. The first call takes both
+// frames: where it fails no SETUP came.
+fn failing(call: u64) -> Row {
+    let (served, opened) = if call == 1 {
+        (Served::LinkFault, None)
+    } else {
+        (Served::Parted, Some((0, 1)))
+    };
+    Row {
+        then: FNF,
+        fails: call,
+        served,
+        opened,
+        ..BEGUN
+    }
+}
+
+// The link that asks then to resume.
+fn resuming(call: u64) -> &'static Row {
+    if call == 1 {
+        &UNKNOWN
+    } else {
+        &RESUMED_AFTER_FNF
+    }
+}
+
 fn fail_and_resume<R: Abort + Wait, T: Tape>(
     rt: &R,
     alloc: Global,
@@ -102,33 +135,9 @@ fn fail_and_resume<R: Abort + Wait, T: Tape>(
     requires server { shared.now.settings.side ≡ Server }
     requires three { length connections.now ≡ 3 }
 {
-    let came = Row {
-        then: FNF,
-        fails: call,
-        ..BEGUN
-    };
-    let (first, second) = if call == 1 {
-        // The first call takes both frames: where it fails no SETUP came.
-        let failed = Row {
-            served: Served::LinkFault,
-            opened: None,
-            ..came
-        };
-        (failed, UNKNOWN)
-    } else {
-        (came, RESUMED_AFTER_FNF)
-    };
-    play(rt, alloc, connections, callers, shared, &first);
-    play(rt, alloc, connections, callers, shared, &second);
+    play(rt, alloc, connections, callers, shared, &failing(call));
+    play(rt, alloc, connections, callers, shared, resuming(call));
 }
-
-/// The fire-and-forget of 8 bytes was handled.
-const RESUMED_AFTER_FNF: Row = Row {
-    plan: Plan { slot: 1, ..PLAIN },
-    opened: Some((0, 2)),
-    end: b"\x00\x08",
-    ..RESUMED
-};
 
 fn fail_at_each_call<R: Abort + Wait, H: Shelf>(rt: &R, alloc: Global, shelf: &mut H)
 where
