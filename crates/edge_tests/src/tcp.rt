@@ -6,12 +6,15 @@ use outside::{Given, Link, Taken};
 use std::alloc::Global;
 use std::net::{Ipv4Addr, Net, SocketAddr, TcpListener, TcpStream};
 use std::process::Abort;
-use std::sync::Arc;
+use std::sync::{Arc, Wait};
 use std::test::Fail;
 use std::thread::{Threads, join};
-use std::time::Duration;
+use std::time::{self, Duration};
 use std::{io, thread};
 use tcp_end::TcpEnd;
+
+/// What is given at once to a link until it stalls.
+const PAGE: [u8; 4096] = [7; 4096];
 
 /// How often two ends answer each other.
 const ROUNDS: u64 = 100;
@@ -81,60 +84,72 @@ fn two_ends_answer_each_other(rt: HostRuntime) -> Result<(), Fail> {
     Ok(())
 }
 
+// Gives until the link stalls, since the far end takes nothing. How many bytes it took.
+fn fill<R: Abort>(rt: &R, link: &mut TcpEnd) -> u64 {
+    let mut given = 0u64;
+    for _ in 0..100_000 {
+        match link.give(&PAGE) {
+            Given::Took(count) => given = given.saturating_add(count as u64),
+            Given::Lull => return given,
+            Given::Failed => break,
+        }
+    }
+    panic!(rt; "a link whose far end takes nothing stalls")
+}
+
+// Takes so many bytes. How many came.
+fn drain(link: &mut TcpEnd, given: u64) -> u64 {
+    let mut large = [0; 65536];
+    let mut taken = 0u64;
+    for _ in 0..100_000 {
+        if taken >= given {
+            break;
+        }
+        if let Taken::Took(count) = link.take(&mut large) {
+            taken = taken.saturating_add(count as u64);
+        }
+    }
+    taken
+}
+
+// What a link takes last, whose far end went away.
+fn take_last(link: &mut TcpEnd) -> Taken {
+    let mut buffer = [0; 8];
+    for _ in 0..10 {
+        let taken = link.take(&mut buffer);
+        if taken != Taken::Lull {
+            return taken;
+        }
+    }
+    Taken::Lull
+}
+
+// Whether a link fails, whose far end went away.
+fn gives_no_more<R: Wait + time::Clock>(rt: &R, link: &mut TcpEnd) -> bool {
+    for _ in 0..10 {
+        if link.give(&PAGE) == Given::Failed {
+            return true;
+        }
+        thread::sleep(rt, Duration::from_millis(1));
+    }
+    false
+}
+
 #[test]
 fn what_cannot_move_lulls_and_what_is_over_ends(rt: HostRuntime) -> Result<(), Fail> {
     let (mut near, mut far) = two_ends(&rt, rt.alloc())?;
     let mut buffer = [0; 8];
     assert!(rt; near.take(&mut buffer) == Taken::Lull);
 
-    // The far end takes nothing, so the near one stalls in the end, and then there is room again.
-    let piece = [7; 4096];
-    let mut given = 0u64;
-    let mut stalled = false;
-    for _ in 0..100_000 {
-        match near.give(&piece) {
-            Given::Took(count) => given = given.saturating_add(count as u64),
-            Given::Lull => {
-                stalled = true;
-                break;
-            }
-            Given::Failed => break,
-        }
-    }
-    assert!(rt; stalled);
-    let mut taken = 0u64;
-    let mut large = [0; 65536];
-    for _ in 0..100_000 {
-        if taken >= given {
-            break;
-        }
-        if let Taken::Took(count) = far.take(&mut large) {
-            taken = taken.saturating_add(count as u64);
-        }
-    }
-    assert_eq!(rt; taken, given);
+    // The near end stalls, and then there is room again.
+    let given = fill(&rt, &mut near);
+    assert_eq!(rt; drain(&mut far, given), given);
     assert!(rt; near.take(&mut buffer) == Taken::Lull);
-    assert!(rt; matches!(near.give(&piece), Given::Took(_)));
+    assert!(rt; matches!(near.give(&PAGE), Given::Took(_)));
 
-    // The far end goes away.
     drop(far);
-    let mut last = Taken::Lull;
-    for _ in 0..10 {
-        last = near.take(&mut buffer);
-        if last != Taken::Lull {
-            break;
-        }
-    }
-    assert!(rt; matches!(last, Taken::End | Taken::Failed));
-    let mut gave = Given::Lull;
-    for _ in 0..10 {
-        gave = near.give(&piece);
-        if gave == Given::Failed {
-            break;
-        }
-        thread::sleep(&rt, Duration::from_millis(1));
-    }
-    assert!(rt; gave == Given::Failed);
+    assert!(rt; matches!(take_last(&mut near), Taken::End | Taken::Failed));
+    assert!(rt; gives_no_more(&rt, &mut near));
     Ok(())
 }
 

@@ -1,29 +1,17 @@
 //! How links end that a server serves: by their first bytes, and by those after a SETUP.
 
-ghost use Rattle.std.specs.Prelude.{◌≡◌, ◌<◌, length};
-ghost use Rattle.rs_wire.specs.declared.words.Side.TheVariants.{Server};
-ghost use Rattle.server.specs.Opening.{AreOf};
-
-use super::slots::{PLAIN, Plan, Shared, link, make_shared, serve, slots};
+use super::rows::{OPENED, REFUSED, Row, play};
+use super::slots::{PLAIN, Plan, make_shared, slots};
 use super::tokens::{RESUME, RESUMING_SETUP};
-use conn::{Caller, Connection};
 use outside::After;
 use rs_wire::{Cause, Gone, Rule, SetupFault};
 use server::Served;
 use std::alloc::Global;
 use std::process::Abort;
 use std::sync::Wait;
-use tape::{BlankShelf, KeptShelf, Shelf, Tape};
+use tape::{BlankShelf, KeptShelf, Shelf};
 
-/// A SETUP of version 1.0 after its length, with a keepalive of 20,000 and a lifetime of 90,000
-/// milliseconds, without a token and without leases.
-const SETUP: &[u8] = b"\
-    \x00\x00\x44\
-    \x00\x00\x00\x00\x04\x00\x00\x01\x00\x00\x00\x00\x4e\x20\x00\x01\x5f\x90\
-    \x18application/octet-stream\
-    \x18application/octet-stream";
-
-/// The same of a client that asks for leases.
+/// A SETUP of a client that asks for leases, and else as [`SETUP`].
 const LEASING_SETUP: &[u8] = b"\
     \x00\x00\x44\
     \x00\x00\x00\x00\x04\x40\x00\x01\x00\x00\x00\x00\x4e\x20\x00\x01\x5f\x90\
@@ -38,45 +26,6 @@ const ECHOED: &[u8] = b"\x00\x00\x08\x00\x00\x00\x01\x28\x60hi";
 
 /// A LEASE of 5 requests for 60,000 milliseconds.
 const LEASE: &[u8] = b"\x00\x00\x0e\x00\x00\x00\x00\x08\x00\x00\x00\xea\x60\x00\x00\x00\x05";
-
-/// A link, and how it is served.
-#[derive(Clone, Copy)]
-struct Row {
-    /// The server resumes, and has leases.
-    resume: bool,
-    lease: bool,
-    /// What comes first, and what comes then.
-    first: &'static [u8],
-    then: &'static [u8],
-    after: After,
-    plan: Plan,
-    served: Served,
-    opened: Option<(u32, u64)>,
-    /// How many bytes the link is given, and how they end.
-    given: usize,
-    end: &'static [u8],
-}
-
-/// A link to a server that neither resumes nor has leases, and that is not opened.
-const REFUSED: Row = Row {
-    resume: false,
-    lease: false,
-    first: b"",
-    then: b"",
-    after: After::Lulls,
-    plan: PLAIN,
-    served: Served::End,
-    opened: None,
-    given: 0,
-    end: b"",
-};
-
-/// One that opens the first slot by a SETUP.
-const OPENED: Row = Row {
-    first: SETUP,
-    opened: Some((0, 1)),
-    ..REFUSED
-};
 
 const ROWS: &[Row] = &[
     // The first frame is a CANCEL: the ERROR has 19 bytes after its length.
@@ -195,37 +144,6 @@ const ROWS: &[Row] = &[
         ..OPENED
     },
 ];
-
-fn play<R: Abort + Wait, T: Tape>(
-    rt: &R,
-    alloc: Global,
-    connections: &[Connection<T>],
-    callers: &mut [Caller<T>],
-    shared: &Shared,
-    row: &Row,
-)
-    requires of { AreOf shared.now.settings connections.now callers.old }
-    requires server { shared.now.settings.side ≡ Server }
-    requires three { length connections.now ≡ 3 }
-{
-    let mut bytes = Vec::from_slice(alloc, row.first).expect(rt, "there is memory");
-    assert!(rt; bytes.extend_from_slice(row.then).is_ok());
-    let mut link = link(rt, alloc, &bytes, row.after, 0);
-    assert!(rt; row.plan.slot < 3);
-    serve(
-        rt,
-        alloc,
-        connections,
-        callers,
-        shared,
-        row.plan,
-        &mut link,
-        row.served,
-        row.opened,
-    );
-    assert!(rt; link.given().len() == row.given);
-    assert!(rt; link.given().ends_with(row.end));
-}
 
 fn play_all<R: Abort + Wait, H: Shelf>(rt: &R, alloc: Global, shelf: &mut H)
 where

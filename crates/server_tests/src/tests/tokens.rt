@@ -4,7 +4,8 @@ ghost use Rattle.std.specs.Prelude.{◌≡◌, length};
 ghost use Rattle.rs_wire.specs.declared.words.Side.TheVariants.{Server};
 ghost use Rattle.server.specs.Opening.{AreOf};
 
-use super::slots::{PLAIN, Plan, Shared, blob, link, make_shared, serve, slots};
+use super::rows::{self, Row, play};
+use super::slots::{PLAIN, Plan, Shared, blob, make_shared, slots};
 use conn::{Caller, Connection};
 use outside::After;
 use rs_wire::{Gone, SetupFault};
@@ -46,18 +47,82 @@ const FNF: &[u8] = b"\x00\x00\x08\x00\x00\x00\x01\x14\x00hi";
 /// How many calls the link of a SETUP and a fire-and-forget gets before it ends.
 const CALLS: u64 = 7;
 
-fn at(slot: u32, moments: &'static [u64]) -> Plan
-    ensures { result.slot ≡ slot }
-{
-    Plan {
-        slot,
-        moments,
-        ..PLAIN
+/// A link to a server that resumes, which then ends.
+const REFUSED: Row = Row {
+    resume: true,
+    after: After::Ends,
+    ..rows::REFUSED
+};
+
+/// A SETUP with `tok1`: its link is given nothing.
+const BEGUN: Row = Row {
+    first: RESUMING_SETUP,
+    served: Served::Parted,
+    opened: Some((0, 1)),
+    ..REFUSED
+};
+
+/// A SETUP with the token of another slot's session. The ERROR has 21 bytes after its length.
+const TAKEN: Row = Row {
+    first: RESUMING_SETUP,
+    served: Served::SetupRefused(SetupFault::TokenTaken),
+    given: 24,
+    end: b"token-taken",
+    ..REFUSED
+};
+
+/// A RESUME that is accepted. The RESUME_OK has 14 bytes after its length, and says at their end how
+/// many bytes of frames were handled.
+const RESUMED: Row = Row {
+    first: RESUME,
+    served: Served::Parted,
+    given: 17,
+    ..REFUSED
+};
+
+/// The same at the slot of [`BEGUN`], after a fire-and-forget of 8 bytes.
+const RESUMED_AFTER_FNF: Row = Row {
+    plan: Plan { slot: 1, ..PLAIN },
+    opened: Some((0, 2)),
+    end: b"\x00\x08",
+    ..RESUMED
+};
+
+/// A RESUME of a token that no session has. The ERROR has 15 bytes after its length.
+const UNKNOWN: Row = Row {
+    first: RESUME,
+    served: Served::ResumeRefused(Gone::Token),
+    given: 18,
+    end: b"token",
+    ..REFUSED
+};
+
+// The link of a SETUP and a fire-and-forget, which fails at this call. The first call takes both
+// frames: where it fails no SETUP came.
+fn failing(call: u64) -> Row {
+    let (served, opened) = if call == 1 {
+        (Served::LinkFault, None)
+    } else {
+        (Served::Parted, Some((0, 1)))
+    };
+    Row {
+        then: FNF,
+        fails: call,
+        served,
+        opened,
+        ..BEGUN
     }
 }
 
-// The link of a SETUP and a fire-and-forget fails at this call. How it is served, and how the link is
-// that resumes.
+// The link that asks then to resume.
+fn resuming(call: u64) -> &'static Row {
+    if call == 1 {
+        &UNKNOWN
+    } else {
+        &RESUMED_AFTER_FNF
+    }
+}
+
 fn fail_and_resume<R: Abort + Wait, T: Tape>(
     rt: &R,
     alloc: Global,
@@ -70,59 +135,8 @@ fn fail_and_resume<R: Abort + Wait, T: Tape>(
     requires server { shared.now.settings.side ≡ Server }
     requires three { length connections.now ≡ 3 }
 {
-    let mut bytes = Vec::from_slice(alloc, RESUMING_SETUP).expect(rt, "there is memory");
-    assert!(rt; bytes.extend_from_slice(FNF).is_ok());
-    assert!(rt; bytes.len() == 88);
-    let mut first = link(rt, alloc, &bytes, After::Ends, call);
-    let mut second = link(rt, alloc, RESUME, After::Ends, 0);
-    // The first call takes both frames: where it fails no SETUP came.
-    if call == 1 {
-        serve(
-            rt,
-            alloc,
-            connections,
-            callers,
-            shared,
-            PLAIN,
-            &mut first,
-            Served::LinkFault,
-            None,
-        );
-        serve(
-            rt,
-            alloc,
-            connections,
-            callers,
-            shared,
-            at(1, &[0]),
-            &mut second,
-            Served::ResumeRefused(Gone::Token),
-            None,
-        );
-    } else {
-        serve(
-            rt,
-            alloc,
-            connections,
-            callers,
-            shared,
-            PLAIN,
-            &mut first,
-            Served::Parted,
-            Some((0, 1)),
-        );
-        serve(
-            rt,
-            alloc,
-            connections,
-            callers,
-            shared,
-            at(1, &[0]),
-            &mut second,
-            Served::Parted,
-            Some((0, 2)),
-        );
-    }
+    play(rt, alloc, connections, callers, shared, &failing(call));
+    play(rt, alloc, connections, callers, shared, resuming(call));
 }
 
 fn fail_at_each_call<R: Abort + Wait, H: Shelf>(rt: &R, alloc: Global, shelf: &mut H)
@@ -143,7 +157,36 @@ fn a_link_that_fails_at_any_call_is_resumed_where_its_setup_came(rt: HostRuntime
     fail_at_each_call(&rt, alloc, &mut BlankShelf::new(alloc));
 }
 
-// One token, on the links of three slots.
+/// One token, on the links of three slots, one after the other.
+const SHARED: &[Row] = &[
+    Row {
+        plan: Plan { slot: 1, ..PLAIN },
+        opened: Some((1, 1)),
+        ..BEGUN
+    },
+    // Another session can't have it, whether its slot is before or after.
+    TAKEN,
+    Row {
+        plan: Plan { slot: 2, ..PLAIN },
+        ..TAKEN
+    },
+    // It is resumed at its own slot, from any.
+    Row {
+        plan: Plan { slot: 2, ..PLAIN },
+        opened: Some((1, 2)),
+        end: b"\x00\x00",
+        ..RESUMED
+    },
+    // A minute later the session is forgotten.
+    Row {
+        plan: Plan {
+            moments: &[0, 60_000],
+            ..PLAIN
+        },
+        ..UNKNOWN
+    },
+];
+
 fn share_token<R: Abort + Wait, T: Tape>(
     rt: &R,
     alloc: Global,
@@ -155,70 +198,9 @@ fn share_token<R: Abort + Wait, T: Tape>(
     requires server { shared.now.settings.side ≡ Server }
     requires three { length connections.now ≡ 3 }
 {
-    let mut first = link(rt, alloc, RESUMING_SETUP, After::Ends, 0);
-    serve(
-        rt,
-        alloc,
-        connections,
-        callers,
-        shared,
-        at(1, &[0]),
-        &mut first,
-        Served::Parted,
-        Some((1, 1)),
-    );
-    // Another session can't have it, whether its slot is before or after.
-    let mut second = link(rt, alloc, RESUMING_SETUP, After::Ends, 0);
-    serve(
-        rt,
-        alloc,
-        connections,
-        callers,
-        shared,
-        at(0, &[0]),
-        &mut second,
-        Served::SetupRefused(SetupFault::TokenTaken),
-        None,
-    );
-    assert!(rt; second.given().ends_with(b"token-taken"));
-    let mut third = link(rt, alloc, RESUMING_SETUP, After::Ends, 0);
-    serve(
-        rt,
-        alloc,
-        connections,
-        callers,
-        shared,
-        at(2, &[0]),
-        &mut third,
-        Served::SetupRefused(SetupFault::TokenTaken),
-        None,
-    );
-    // It is resumed at its own slot, from any.
-    let mut fourth = link(rt, alloc, RESUME, After::Ends, 0);
-    serve(
-        rt,
-        alloc,
-        connections,
-        callers,
-        shared,
-        at(2, &[0]),
-        &mut fourth,
-        Served::Parted,
-        Some((1, 2)),
-    );
-    // A minute later the session is forgotten.
-    let mut fifth = link(rt, alloc, RESUME, After::Ends, 0);
-    serve(
-        rt,
-        alloc,
-        connections,
-        callers,
-        shared,
-        at(0, &[0, 60_000]),
-        &mut fifth,
-        Served::ResumeRefused(Gone::Token),
-        None,
-    );
+    for row in SHARED {
+        play(rt, alloc, connections, callers, shared, row);
+    }
     assert!(rt; shared.table.lock(rt).find(&blob(rt, alloc, b"tok1")) == None);
 }
 
@@ -247,30 +229,56 @@ fn compare_table<R: Abort + Wait>(rt: &R, alloc: Global, shared: &Shared, slot: 
     assert!(rt; sessions.purge(parted.saturating_add(60_000), 60_000) == 1);
 }
 
-/// A link that begins the session of `tok1`, and then nothing comes or it ends; and one a while later
-/// that asks for another session.
-struct Row {
-    after: After,
-    moments: &'static [u64],
-    served: Served,
-    later: &'static [u64],
+/// A link that begins the session of `tok1`, and one a while later that asks for another session.
+struct Other {
+    first: Row,
+    later: Row,
+    /// When the session of `tok1` parted.
     parted: u64,
 }
 
-const ROWS: [Row; 2] = [
-    Row {
-        after: After::Ends,
-        moments: &[0],
-        served: Served::Parted,
-        later: &[0, 30_000],
+/// A RESUME of a session that there is not.
+const OTHER: Row = Row {
+    first: OTHER_RESUME,
+    ..UNKNOWN
+};
+
+const OTHERS: &[Other] = &[
+    Other {
+        first: Row {
+            plan: Plan { slot: 1, ..PLAIN },
+            opened: Some((1, 1)),
+            ..BEGUN
+        },
+        later: Row {
+            plan: Plan {
+                moments: &[0, 30_000],
+                ..PLAIN
+            },
+            ..OTHER
+        },
         parted: 0,
     },
     // The call begins, the table is purged and the session is opened at 0. Its peer is dead at 90,000.
-    Row {
-        after: After::Lulls,
-        moments: &[0, 0, 0, 90_000],
-        served: Served::Dead(0),
-        later: &[91_000],
+    Other {
+        first: Row {
+            after: After::Lulls,
+            plan: Plan {
+                slot: 1,
+                moments: &[0, 0, 0, 90_000],
+                ..PLAIN
+            },
+            served: Served::Dead(0),
+            opened: Some((1, 1)),
+            ..BEGUN
+        },
+        later: Row {
+            plan: Plan {
+                moments: &[91_000],
+                ..PLAIN
+            },
+            ..OTHER
+        },
         parted: 90_000,
     },
 ];
@@ -282,37 +290,14 @@ fn ask_for_another<R: Abort + Wait, T: Tape>(
     connections: &[Connection<T>],
     callers: &mut [Caller<T>],
     shared: &Shared,
-    row: &Row,
+    row: &Other,
 )
     requires of { AreOf shared.now.settings connections.now callers.old }
     requires server { shared.now.settings.side ≡ Server }
     requires three { length connections.now ≡ 3 }
 {
-    let mut first = link(rt, alloc, RESUMING_SETUP, row.after, 0);
-    serve(
-        rt,
-        alloc,
-        connections,
-        callers,
-        shared,
-        at(1, row.moments),
-        &mut first,
-        row.served,
-        Some((1, 1)),
-    );
-    let mut second = link(rt, alloc, OTHER_RESUME, After::Ends, 0);
-    serve(
-        rt,
-        alloc,
-        connections,
-        callers,
-        shared,
-        at(0, row.later),
-        &mut second,
-        Served::ResumeRefused(Gone::Token),
-        None,
-    );
-    assert!(rt; second.given().ends_with(b"token"));
+    play(rt, alloc, connections, callers, shared, &row.first);
+    play(rt, alloc, connections, callers, shared, &row.later);
     compare_table(rt, alloc, shared, 1, row.parted);
 }
 
@@ -320,7 +305,7 @@ fn ask_on<R: Abort + Wait, H: Shelf>(rt: &R, alloc: Global, shelf: &mut H)
 where
     H::Tape: Drop,
 {
-    for row in &ROWS {
+    for row in OTHERS {
         let shared = make_shared(rt, alloc, true, false);
         let (connections, mut callers) = slots(rt, alloc, shelf, true, false);
         ask_for_another(rt, alloc, &connections, &mut callers, &shared, row);
