@@ -32,7 +32,6 @@ pub enum Way {
 }
 
 /// A session, and what was drawn of it.
-#[derive(Drop)]
 pub struct End<T: Tape> {
     session: Session<T>,
     /// The bytes that were drawn, and that no row showed yet.
@@ -80,6 +79,9 @@ fn is_answer_to(answer: &Answer, event: &Event) -> bool {
     }
 }
 
+// Lets an answer go. Each place where that is done is dear to prove.
+fn let_go(_answer: Answer) {}
+
 // The answer to a draw. The bytes drawn are appended to those given.
 fn draw<T: Tape>(
     alloc: Global,
@@ -93,11 +95,25 @@ fn draw<T: Tape>(
     }
     let mut buffer = vec![in alloc; 0; room as usize]?;
     let answer = session.draw(WHO, conn, &mut buffer);
-    if let Some(count) = answer.drawn() {
-        buffer.truncate(count as usize);
-        drawn.extend_from_slice(&buffer)?;
+    let count = answer.drawn().unwrap_or(0);
+    buffer.truncate(count as usize);
+    match drawn.extend_from_slice(&buffer) {
+        Ok(()) => Ok(answer),
+        Err(error) => {
+            let_go(answer);
+            Err(error.into())
+        }
     }
-    Ok(answer)
+}
+
+// An answer to an event, in words.
+fn told(alloc: Global, answer: &Answer, event: &Event) -> Result<String> {
+    let mut out = String::new(alloc);
+    put_answer(alloc, &mut out, answer)?;
+    if !is_answer_to(answer, event) {
+        out.push_str(", which is no answer to it")?;
+    }
+    Ok(out)
 }
 
 // Appends the live connection and what waits on it.
@@ -147,19 +163,18 @@ impl<T: Tape + Drop> End<T> {
         }
     }
 
-    fn act(&mut self, alloc: Global, way: Way, event: &Event) -> Result<String> {
-        let answer = match event {
+    fn answer_to(&mut self, alloc: Global, way: Way, event: &Event) -> Result<Answer> {
+        match event {
             Event::Draw { conn, room } => {
-                draw(alloc, &mut self.session, *conn, *room, &mut self.drawn)?
+                draw(alloc, &mut self.session, *conn, *room, &mut self.drawn)
             }
-            _ => act(alloc, &mut self.session, way, event)?,
-        };
-        let mut out = String::new(alloc);
-        put_answer(alloc, &mut out, &answer)?;
-        if !is_answer_to(&answer, event) {
-            out.push_str(", which is no answer to it")?;
+            _ => act(alloc, &mut self.session, way, event),
         }
-        Ok(out)
+    }
+
+    fn act(&mut self, alloc: Global, way: Way, event: &Event) -> Result<String> {
+        let answer = self.answer_to(alloc, way, event)?;
+        told(alloc, &answer, event)
     }
 
     // The first bytes of those that no row showed yet, up to so many.
@@ -214,6 +229,10 @@ impl<T: Tape + Drop> End<T> {
 
     /// The tape of the session, which is done.
     pub fn into_tape(self) -> T {
-        self.session.into_tape()
+        let End {
+            session,
+            drawn: _drawn,
+        } = self;
+        session.into_tape()
     }
 }

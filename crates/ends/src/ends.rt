@@ -11,8 +11,8 @@ use std::alloc::Global;
 use std::fmt::Write;
 use tape::{Blank, Kept, Tape};
 
-/// One end as three sessions, whose answers have to be the same; none of them between two lists.
-#[derive(Drop)]
+/// One end as three sessions, whose answers have to be the same; none of them between two lists. It
+/// is closed at its end, since a function that drops a session is dear to prove.
 pub struct Ends {
     /// Events come by `step`, and the tape keeps them.
     stepped: Option<End<Kept>>,
@@ -59,6 +59,14 @@ fn put_agreed(out: &mut String, stepped: &str, brought: &str, asked: &str) -> Re
     Ok(())
 }
 
+// How many entries the tape of a session has that is done, where there is one.
+fn count_at_end<T: Tape + Drop>(end: Option<End<T>>) -> u64 {
+    match end {
+        Some(end) => end.into_tape().count(),
+        None => 0,
+    }
+}
+
 // Sets up a session that is not begun, in the place of what there was.
 fn set_up<T: Tape + Drop>(
     alloc: Global,
@@ -68,21 +76,14 @@ fn set_up<T: Tape + Drop>(
 ) -> Result<()>
     requires empty { T.count tape ≡ 0 }
 {
-    *end = Some(End::new(alloc, settings, tape)?);
+    let begun = End::new(alloc, settings, tape)?;
+    count_at_end(end.replace(begun));
     Ok(())
 }
 
 // The session of a list that is being played.
 fn playing<T: Tape>(end: &mut Option<End<T>>) -> Result<&mut End<T>> {
     end.as_mut().context("no list")
-}
-
-// How many entries the tape of a session has that is done, where there is one.
-fn count_at_end<T: Tape + Drop>(end: &mut Option<End<T>>) -> u64 {
-    match end.take() {
-        Some(end) => end.into_tape().count(),
-        None => 0,
-    }
 }
 
 impl Ends {
@@ -140,12 +141,24 @@ impl Ends {
     /// Ends a list: appends what the sessions show of themselves, and what is wrong with their tapes.
     pub fn end(&mut self, alloc: Global, out: &mut String) -> Result<()> {
         self.put_end(alloc, out)?;
-        let stepped = count_at_end(&mut self.stepped);
-        let brought = count_at_end(&mut self.brought);
-        let asked = count_at_end(&mut self.asked);
+        let stepped = count_at_end(self.stepped.take());
+        let brought = count_at_end(self.brought.take());
+        let asked = count_at_end(self.asked.take());
         if brought != stepped || asked != stepped {
             out.push_str(", the counts differ")?;
         }
         Ok(())
+    }
+
+    /// Ends what is being played.
+    pub fn close(self) {
+        let Ends {
+            stepped,
+            brought,
+            asked,
+        } = self;
+        count_at_end(stepped);
+        count_at_end(brought);
+        count_at_end(asked);
     }
 }

@@ -66,10 +66,14 @@ fn is_row(line: &str) -> bool {
     !line.is_empty() && !line.starts_with('#')
 }
 
-/// Plays the rows of a file, shows the first that differ, and says how many lists and rows there are.
-/// Answers whether none differs and the last list ended.
-pub fn play(rt: &impl Print, alloc: Global, file: &str, text: &str) -> Result<bool> {
-    let mut ends = Ends::new();
+// Plays the rows of a file by these sessions.
+fn play_rows(
+    rt: &impl Print,
+    alloc: Global,
+    file: &str,
+    text: &str,
+    ends: &mut Ends,
+) -> Result<Counts> {
     let mut counts = Counts {
         lists: 0,
         rows: 0,
@@ -78,13 +82,28 @@ pub fn play(rt: &impl Print, alloc: Global, file: &str, text: &str) -> Result<bo
     for (index, line) in text.lines().enumerate() {
         if is_row(line) {
             let place = (file, index.saturating_add(1));
-            play_row(rt, alloc, place, line, &mut counts, &mut ends)?;
+            play_row(rt, alloc, place, line, &mut counts, ends)?;
         }
     }
+    Ok(counts)
+}
+
+// Says how many lists and rows a file has. Answers whether none differs and the last list ended.
+fn tell(rt: &impl Print, file: &str, counts: Counts, is_in_list: bool) -> Result<bool> {
     let Counts { lists, rows, wrong } = counts;
     println!(rt; "{file}: {lists} lists, {rows} rows, {wrong} differ")?;
-    if ends.is_in_list() {
+    if is_in_list {
         println!(rt; "{file}: the last list has no end")?;
     }
-    Ok(wrong == 0 && !ends.is_in_list())
+    Ok(wrong == 0 && !is_in_list)
+}
+
+/// Plays the rows of a file, shows the first that differ, and says how many lists and rows there are.
+/// Answers whether none differs and the last list ended.
+pub fn play(rt: &impl Print, alloc: Global, file: &str, text: &str) -> Result<bool> {
+    let mut ends = Ends::new();
+    let counts = play_rows(rt, alloc, file, text, &mut ends);
+    let is_in_list = ends.is_in_list();
+    ends.close();
+    tell(rt, file, counts?, is_in_list)
 }

@@ -2,12 +2,11 @@
 
 use credit::Credit;
 use rs_wire::Amount;
-use std::test::Fail;
 
 #[test]
-fn two_are_granted_two_are_used_and_one_more_is_granted(rt: HostRuntime) -> Result<(), Fail> {
-    let two = Amount::of(2).ok_or("no amount")?;
-    let one = Amount::of(1).ok_or("no amount")?;
+fn two_are_granted_two_are_used_and_one_more_is_granted(rt: HostRuntime) {
+    let two = Amount::of(2).expect(&rt, "an amount");
+    let one = Amount::of(1).expect(&rt, "an amount");
     let mut credit = Credit::new();
     assert_eq!(rt; credit.left(), 0);
     credit.grant(two);
@@ -16,5 +15,4 @@ fn two_are_granted_two_are_used_and_one_more_is_granted(rt: HostRuntime) -> Resu
     assert_eq!(rt; (credit.granted(), credit.left()), (2, 0));
     credit.grant(one);
     assert_eq!(rt; (credit.granted(), credit.left()), (3, 1));
-    Ok(())
 }

@@ -4,10 +4,9 @@ ghost use Rattle.fragment.specs.Splitting.{IsSplittable, IsMtu};
 
 use fragment::{Frames, Glue, GlueFault, Glued, SplitSize, split, split_size};
 use rs_frame::{Frame, Request, encode, spellable};
-use rs_wire::{Amount, Blob, Kind, Message, OutOfMemory};
+use rs_wire::{Amount, Blob, Kind, Message};
 use std::alloc::Global;
 use std::process::Abort;
-use std::test::Fail;
 
 /// A frame of stream 1.
 #[derive(Clone, Copy)]
@@ -127,16 +126,20 @@ const SPLIT: [Row; 11] = [
     },
 ];
 
+fn filled(rt: &impl Abort, alloc: Global, byte: u8, length: usize) -> Blob {
+    Blob::from_vec(vec![in alloc; byte; length].expect(rt, "there is memory"))
+}
+
 // A message with this many bytes of metadata, where there is any, and of content.
-fn sized(alloc: Global, metadata: Option<usize>, content: usize) -> Result<Message, OutOfMemory> {
+fn sized(rt: &impl Abort, alloc: Global, metadata: Option<usize>, content: usize) -> Message {
     let metadata = match metadata {
-        Some(len) => Some(Blob::from_vec(vec![in alloc; 0xcd; len]?)),
+        Some(length) => Some(filled(rt, alloc, 0xcd, length)),
         None => None,
     };
-    Ok(Message {
+    Message {
         metadata,
-        content: Blob::from_vec(vec![in alloc; 0xab; content]?),
-    })
+        content: filled(rt, alloc, 0xab, content),
+    }
 }
 
 fn frame(what: What, message: Message) -> Frame
@@ -170,54 +173,55 @@ fn frame(what: What, message: Message) -> Frame
 }
 
 // The word of type and flags, and the length.
-fn shape(alloc: Global, fragment: &Frame) -> Result<(u16, usize), OutOfMemory> {
+fn shape(rt: &impl Abort, alloc: Global, fragment: &Frame) -> (u16, usize) {
     let mut bytes = Vec::new(alloc);
     if spellable(fragment) {
-        encode(fragment, &mut bytes)?;
+        encode(fragment, &mut bytes).expect(rt, "there is memory");
     }
     match bytes.as_slice() {
-        [_, _, _, _, high, low, ..] => Ok((u16::from_be_bytes([*high, *low]), bytes.len())),
-        _ => Ok((0, 0)),
+        [_, _, _, _, high, low, ..] => (u16::from_be_bytes([*high, *low]), bytes.len()),
+        _ => (0, 0),
     }
 }
 
-// Whether the frame is split into frames of these shapes.
-fn is_split(
-    alloc: Global,
-    frame: &Frame,
-    mtu: u32,
-    shapes: &[(u16, usize)],
-) -> Result<bool, OutOfMemory>
+// Whether the frames have these shapes.
+fn are_shaped(rt: &impl Abort, alloc: Global, frames: &[Frame], shapes: &[(u16, usize)]) -> bool {
+    let mut found = Vec::new(alloc);
+    for fragment in frames {
+        found
+            .push(shape(rt, alloc, fragment))
+            .expect(rt, "there is memory");
+    }
+    found.as_slice() == shapes
+}
+
+// What a frame is split into.
+fn fragments(rt: &impl Abort, alloc: Global, frame: &Frame, mtu: u32) -> Frames
     requires whole { IsSplittable frame.now }
     requires limit { IsMtu mtu }
 {
-    if !spellable(frame) {
-        return Ok(false);
-    }
-    let frames = split(alloc, frame, mtu)?;
-    let mut found = Vec::new(alloc);
-    for fragment in frames.as_slice() {
-        found.push(shape(alloc, fragment)?)?;
-    }
-    Ok(found.as_slice() == shapes)
+    assert!(rt; spellable(frame));
+    split(alloc, frame, mtu).expect(rt, "there is memory")
 }
 
-fn is_split_so(alloc: Global, row: &Row) -> Result<bool, OutOfMemory> {
-    let message = sized(alloc, row.metadata, row.content)?;
+// Whether the frame of the row is split as it says.
+fn is_split_so(rt: &impl Abort, alloc: Global, row: &Row) -> bool {
+    let message = sized(rt, alloc, row.metadata, row.content);
+    let frame = frame(row.what, message);
     let mtu = if row.mtu == 64 { 64 } else { 0 };
-    is_split(alloc, &frame(row.what, message), mtu, row.frames)
+    let frames = fragments(rt, alloc, &frame, mtu);
+    are_shaped(rt, alloc, frames.as_slice(), row.frames)
 }
 
 #[test]
-fn frames_are_split_at_the_mtu(rt: HostRuntime) -> Result<(), Fail> {
+fn frames_are_split_at_the_mtu(rt: HostRuntime) {
     for row in SPLIT {
-        assert!(rt; is_split_so(rt.alloc(), &row)?, "{}", row.shows);
+        assert!(rt; is_split_so(&rt, rt.alloc(), &row), "{}", row.shows);
     }
-    Ok(())
 }
 
 #[test]
-fn the_size_of_a_split_is_known_before_it_is_made(rt: HostRuntime) -> Result<(), Fail> {
+fn the_size_of_a_split_is_known_before_it_is_made(rt: HostRuntime) {
     // Metadata, content, head, mtu; then how many frames and bytes.
     let rows = [
         (None, 100, 6, 0, 1, 106),
@@ -231,14 +235,13 @@ fn the_size_of_a_split_is_known_before_it_is_made(rt: HostRuntime) -> Result<(),
         (Some(130), 70, 6, 64, 4, 233),
     ];
     for (metadata, content, head, mtu, frames, bytes) in rows {
-        let message = sized(rt.alloc(), metadata, content)?;
+        let message = sized(&rt, rt.alloc(), metadata, content);
         assert!(rt; message.size() < 1000 && head <= 10 && (mtu == 0 || mtu == 64));
         assert_eq!(rt;
             split_size(&message, head, mtu),
             SplitSize { frames, bytes }
         );
     }
-    Ok(())
 }
 
 /// A part of a message without metadata, with its F, C and N, what a glue that takes at most 4 bytes
@@ -292,88 +295,95 @@ const FLAGS: [Part; 2] = [
 ];
 
 // What the glue answers, in words.
-fn answer<R: Abort>(rt: &R, alloc: Global, glue: &mut Glue, part: &Part) -> Result<String, Fail> {
+fn answer(rt: &impl Abort, alloc: Global, glue: &mut Glue, part: &Part) -> String {
+    let content = Blob::from_slice(alloc, part.content).expect(rt, "there is memory");
     let message = Message {
         metadata: None,
-        content: Blob::from_slice(alloc, part.content)?,
+        content,
     };
     assert!(rt; message.size() < 1000);
     let (follows, complete, next) = part.flags;
     let answer = glue.push(follows, &message, complete, next);
-    Ok(format!(in alloc; "{answer:?}")?)
+    format!(in alloc; "{answer:?}").expect(rt, "there is memory")
 }
 
 // That a glue answers so to the parts, in turn.
-fn comes<R: Abort>(rt: &R, alloc: Global, parts: &[Part]) -> Result<(), Fail> {
+fn comes(rt: &impl Abort, alloc: Global, parts: &[Part]) {
     let mut glue = Glue::new(alloc, 4);
     for part in parts {
-        let answer = answer(rt, alloc, &mut glue, part)?;
+        let answer = answer(rt, alloc, &mut glue, part);
         assert_eq!(rt; answer.as_str(), part.answer);
         assert_eq!(rt; glue.size(), part.held);
     }
-    Ok(())
 }
 
 #[test]
-fn parts_are_joined_up_to_the_limit(rt: HostRuntime) -> Result<(), Fail> {
-    comes(&rt, rt.alloc(), &TOO_LARGE)?;
-    comes(&rt, rt.alloc(), &FLAGS)
+fn parts_are_joined_up_to_the_limit(rt: HostRuntime) {
+    comes(&rt, rt.alloc(), &TOO_LARGE);
+    comes(&rt, rt.alloc(), &FLAGS);
 }
 
-// The last answer to the payloads of a split, pushed in turn.
-fn joined<R: Abort>(rt: &R, alloc: Global, frames: &Frames) -> Result<Glued, GlueFault> {
-    let mut glue = Glue::new(alloc, 200);
-    let mut last = Glued::Part;
-    for frame in frames.as_slice() {
-        if let Frame::Payload {
+// Pushes a payload. What the glue answers.
+fn push(rt: &impl Abort, glue: &mut Glue, frame: &Frame) -> Glued {
+    match frame {
+        Frame::Payload {
             follows,
             complete,
             next,
             message,
             ..
-        } = frame
-        {
-            assert!(rt; last == Glued::Part && message.size() < 100);
-            last = glue.push(*follows, message, *complete, *next)?;
+        } => {
+            assert!(rt; message.size() < 100);
+            glue.push(*follows, message, *complete, *next)
+                .expect(rt, "it is not too large")
         }
+        _ => panic!(rt; "a fragment is a payload"),
     }
-    Ok(last)
+}
+
+// The last answer to the payloads of a split, pushed in turn.
+fn joined(rt: &impl Abort, alloc: Global, frames: &[Frame]) -> Glued {
+    let mut glue = Glue::new(alloc, 200);
+    let mut last = Glued::Part;
+    for frame in frames {
+        assert!(rt; last == Glued::Part);
+        last = push(rt, &mut glue, frame);
+    }
+    last
 }
 
 #[test]
-fn a_split_is_joined_again(rt: HostRuntime) -> Result<(), Fail> {
+fn a_split_is_joined_again(rt: HostRuntime) {
     let what = What::Payload {
         complete: true,
         next: true,
     };
-    let item = frame(what, sized(rt.alloc(), Some(130), 70)?);
-    assert!(rt; spellable(&item));
-    let frames = split(rt.alloc(), &item, 64)?;
+    let item = frame(what, sized(&rt, rt.alloc(), Some(130), 70));
+    let frames = fragments(&rt, rt.alloc(), &item, 64);
     let expected = Glued::Whole {
-        message: sized(rt.alloc(), Some(130), 70)?,
+        message: sized(&rt, rt.alloc(), Some(130), 70),
         complete: true,
         next: true,
     };
-    assert!(rt; joined(&rt, rt.alloc(), &frames) == Ok(expected));
-    Ok(())
+    assert!(rt; joined(&rt, rt.alloc(), frames.as_slice()) == expected);
 }
 
 #[test]
-fn frames_are_the_vector_that_they_were_made_of(rt: HostRuntime) -> Result<(), Fail> {
+fn frames_are_the_vector_that_they_were_made_of(rt: HostRuntime) {
     let mut frames = Vec::new(rt.alloc());
-    frames.push(frame(What::Fnf, sized(rt.alloc(), None, 1)?))?;
+    let one = frame(What::Fnf, sized(&rt, rt.alloc(), None, 1));
+    frames.push(one).expect(&rt, "there is memory");
     let frames = Frames::from_vec(frames);
     assert!(rt; frames.as_slice().len() == 1);
     assert!(rt; frames.into_vec().len() == 1);
-    Ok(())
 }
 
 #[test]
-fn a_fault_says_why_in_a_sentence(rt: HostRuntime) -> Result<(), Fail> {
-    let sentence = format!(in rt.alloc(); "{}", GlueFault::TooLarge(5))?;
+fn a_fault_says_why_in_a_sentence(rt: HostRuntime) {
+    let fault = GlueFault::TooLarge(5);
+    let sentence = format!(in rt.alloc(); "{fault}").expect(&rt, "there is memory");
     assert_eq!(rt;
         sentence.as_str(),
         "the joined message would have 5 bytes, more than is taken"
     );
-    Ok(())
 }

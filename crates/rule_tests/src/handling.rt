@@ -3,9 +3,9 @@
 use handlers::{Handler, Law, Produced, RouteFault, Routes, Stored};
 use rs_wire::{Blob, Kind};
 use std::alloc::Global;
+use std::process::Abort;
 use std::sync::Arc;
 use std::sync::atomic::{AtomicU64, Ordering};
-use std::test::Fail;
 
 /// What a law gives at an index for a content: an item, or none where it finishes.
 #[derive(Clone, Copy)]
@@ -153,8 +153,8 @@ const ROWS: [Row; 19] = [
     },
 ];
 
-fn blob(alloc: Global, bytes: &[u8]) -> Result<Blob, Fail> {
-    Ok(Blob::from_slice(alloc, bytes).map_err(|_| "memory")?)
+fn blob(rt: &impl Abort, alloc: Global, bytes: &[u8]) -> Blob {
+    Blob::from_slice(alloc, bytes).expect(rt, "there is memory")
 }
 
 // Whether the answer is the item, or that there is none.
@@ -166,94 +166,123 @@ fn is_item(answer: &Produced, item: Option<&[u8]>) -> bool {
     }
 }
 
-fn gives(alloc: Global, row: &Row) -> Result<bool, Fail> {
-    let content = blob(alloc, row.content)?;
+fn gives(rt: &impl Abort, alloc: Global, row: &Row) -> bool {
+    let content = blob(rt, alloc, row.content);
     let answer = Stored::of(row.law).answer(alloc, &content, row.index);
-    Ok(is_item(&answer, row.item))
+    is_item(&answer, row.item)
 }
 
 #[test]
-fn each_law_gives_its_items(rt: HostRuntime) -> Result<(), Fail> {
+fn each_law_gives_its_items(rt: HostRuntime) {
     for row in ROWS {
-        assert!(rt; gives(rt.alloc(), &row)?, "{}", row.shows);
+        assert!(rt; gives(&rt, rt.alloc(), &row), "{}", row.shows);
     }
-    Ok(())
 }
 
 // A route of this name and kind is added.
 fn add(
+    rt: &impl Abort,
     alloc: Global,
     routes: &mut Routes<Law>,
     name: &[u8],
     kind: Kind,
     law: Law,
-) -> Result<Result<(), RouteFault>, Fail> {
-    Ok(routes.add(blob(alloc, name)?, kind, Stored::of(law)))
+) -> Result<(), RouteFault> {
+    routes.add(blob(rt, alloc, name), kind, Stored::of(law))
+}
+
+// The number of the route of this name and kind.
+fn find(
+    rt: &impl Abort,
+    alloc: Global,
+    routes: &Routes<Law>,
+    name: &[u8],
+    kind: Kind,
+) -> Option<u32> {
+    routes.find(&blob(rt, alloc, name), kind)
+}
+
+/// Routes that are added in turn, and what that comes to.
+const ADDED: [(&[u8], Kind, Law, Result<(), RouteFault>); 4] = [
+    (b"echo", Kind::Response, Law::Echo, Ok(())),
+    (b"echo", Kind::Response, Law::Drop, Err(RouteFault::Twice)),
+    (b"echo", Kind::Stream, Law::Count, Ok(())),
+    (b"Echo", Kind::Response, Law::Upper, Ok(())),
+];
+
+/// The numbers of routes by name and kind, once those are added.
+const NUMBERS: [(&[u8], Kind, Option<u32>); 5] = [
+    (b"echo", Kind::Response, Some(0)),
+    (b"echo", Kind::Stream, Some(1)),
+    (b"Echo", Kind::Response, Some(2)),
+    (b"echo", Kind::Fnf, None),
+    (b"ech", Kind::Response, None),
+];
+
+// Whether all are added as their rows say.
+fn adds_all(rt: &impl Abort, alloc: Global, routes: &mut Routes<Law>) -> bool {
+    let mut right = true;
+    for (name, kind, law, added) in ADDED {
+        right = add(rt, alloc, routes, name, kind, law) == added && right;
+    }
+    right
+}
+
+// Whether all are found by their numbers.
+fn finds_all(rt: &impl Abort, alloc: Global, routes: &Routes<Law>) -> bool {
+    let mut right = true;
+    for (name, kind, number) in NUMBERS {
+        right = find(rt, alloc, routes, name, kind) == number && right;
+    }
+    right
 }
 
 #[test]
-fn a_route_is_added_once(rt: HostRuntime) -> Result<(), Fail> {
-    let alloc = rt.alloc();
-    let mut routes = Routes::new(alloc);
-    assert_eq!(rt;
-        add(alloc, &mut routes, b"echo", Kind::Response, Law::Echo)?,
-        Ok(())
-    );
-    let twice = add(alloc, &mut routes, b"echo", Kind::Response, Law::Drop)?;
-    assert_eq!(rt; twice, Err(RouteFault::Twice));
-    assert_eq!(rt;
-        add(alloc, &mut routes, b"echo", Kind::Stream, Law::Count)?,
-        Ok(())
-    );
-    assert_eq!(rt;
-        add(alloc, &mut routes, b"Echo", Kind::Response, Law::Upper)?,
-        Ok(())
-    );
-    let name = blob(alloc, b"echo")?;
-    assert_eq!(rt; routes.find(&name, Kind::Response), Some(0));
-    assert_eq!(rt; routes.find(&name, Kind::Stream), Some(1));
-    assert_eq!(rt;
-        routes.find(&blob(alloc, b"Echo")?, Kind::Response),
-        Some(2)
-    );
-    assert_eq!(rt; routes.find(&name, Kind::Fnf), None);
-    assert_eq!(rt; routes.find(&blob(alloc, b"ech")?, Kind::Response), None);
-    Ok(())
+fn a_route_is_added_once(rt: HostRuntime) {
+    let mut routes = Routes::new(rt.alloc());
+    assert!(rt; adds_all(&rt, rt.alloc(), &mut routes));
+    assert!(rt; finds_all(&rt, rt.alloc(), &routes));
 }
 
 // Whether the route of this name and kind gives the item at this index for the content `2b`.
 fn answers<F: Handler>(
+    rt: &impl Abort,
     alloc: Global,
     routes: &Routes<F>,
     name: &[u8],
     kind: Kind,
     index: u64,
     item: Option<&[u8]>,
-) -> Result<bool, Fail> {
-    let name = blob(alloc, name)?;
-    let content = blob(alloc, b"2b")?;
+) -> bool {
+    let name = blob(rt, alloc, name);
+    let content = blob(rt, alloc, b"2b");
     match routes.find(&name, kind) {
-        Some(route) => Ok(is_item(&routes.answer(alloc, route, &content, index), item)),
-        None => Ok(false),
+        Some(route) => is_item(&routes.answer(alloc, route, &content, index), item),
+        None => false,
     }
 }
 
-#[test]
-fn a_route_answers_by_its_law(rt: HostRuntime) -> Result<(), Fail> {
-    let alloc = rt.alloc();
+// The routes of an echo and of upper case.
+fn two_routes(rt: &impl Abort, alloc: Global) -> Routes<Law> {
     let mut routes = Routes::new(alloc);
-    assert_eq!(rt;
-        add(alloc, &mut routes, b"echo", Kind::Stream, Law::Echo)?,
-        Ok(())
-    );
-    assert_eq!(rt;
-        add(alloc, &mut routes, b"upper", Kind::Channel, Law::Upper)?,
-        Ok(())
-    );
-    assert!(rt; answers(alloc, &routes, b"echo", Kind::Stream, 0, Some(b"2b"))?);
-    assert!(rt; answers(alloc, &routes, b"upper", Kind::Channel, 0, Some(b"2B"))?);
-    assert!(rt; answers(alloc, &routes, b"upper", Kind::Channel, 1, None)?);
-    Ok(())
+    add(rt, alloc, &mut routes, b"echo", Kind::Stream, Law::Echo).expect(rt, "it is added");
+    add(rt, alloc, &mut routes, b"upper", Kind::Channel, Law::Upper).expect(rt, "it is added");
+    routes
+}
+
+/// A route by name and kind, and the item that it gives at an index.
+const GIVEN: [(&[u8], Kind, u64, Option<&[u8]>); 3] = [
+    (b"echo", Kind::Stream, 0, Some(b"2b")),
+    (b"upper", Kind::Channel, 0, Some(b"2B")),
+    (b"upper", Kind::Channel, 1, None),
+];
+
+#[test]
+fn a_route_answers_by_its_law(rt: HostRuntime) {
+    let routes = two_routes(&rt, rt.alloc());
+    for (name, kind, index, item) in GIVEN {
+        assert!(rt; answers(&rt, rt.alloc(), &routes, name, kind, index, item));
+    }
 }
 
 // A handler of a program's own: it keeps a law, and counts its calls.
@@ -275,21 +304,20 @@ impl Handler for Counted {
 }
 
 #[test]
-fn a_handler_of_a_programs_own_is_stored(rt: HostRuntime) -> Result<(), Fail> {
+fn a_handler_of_a_programs_own_is_stored(rt: HostRuntime) {
     let alloc = rt.alloc();
-    let calls = Arc::new(alloc, AtomicU64::new(0))?;
+    let calls = Arc::new(alloc, AtomicU64::new(0)).expect(&rt, "there is memory");
     let own = Counted {
-        calls: Arc::try_clone(&calls)?,
+        calls: Arc::try_clone(&calls).expect(&rt, "there is room"),
     };
     let mut routes = Routes::new(alloc);
     let stored = Stored::new(Law::Upper, own);
     assert_eq!(rt; stored.law(), Law::Upper);
     assert_eq!(rt;
-        routes.add(blob(alloc, b"own")?, Kind::Response, stored),
+        routes.add(blob(&rt, alloc, b"own"), Kind::Response, stored),
         Ok(())
     );
-    assert!(rt; answers(alloc, &routes, b"own", Kind::Response, 0, Some(b"2B"))?);
-    assert!(rt; answers(alloc, &routes, b"own", Kind::Response, 1, None)?);
+    assert!(rt; answers(&rt, alloc, &routes, b"own", Kind::Response, 0, Some(b"2B")));
+    assert!(rt; answers(&rt, alloc, &routes, b"own", Kind::Response, 1, None));
     assert_eq!(rt; calls.load(Ordering::SeqCst), 2);
-    Ok(())
 }

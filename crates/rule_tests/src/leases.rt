@@ -2,7 +2,6 @@
 
 use lease::{Granted, Lease, LeaseFault};
 use rs_wire::Amount;
-use std::test::Fail;
 
 #[test]
 fn a_lease_is_used_up_by_its_count(rt: HostRuntime) {
@@ -55,29 +54,32 @@ fn a_lease_replaces_the_former_one_and_ends_with_its_connection(rt: HostRuntime)
 }
 
 #[test]
-fn a_responder_admits_as_many_as_it_granted_in_sum(rt: HostRuntime) -> Result<(), Fail> {
+fn a_responder_admits_as_many_as_it_granted_in_sum(rt: HostRuntime) {
     let mut granted = Granted::new();
     assert!(rt; !granted.would_admit() && !granted.admit());
-    granted.grant(Amount::of(1).ok_or("an amount")?);
+    granted.grant(Amount::of(1).expect(&rt, "an amount"));
     assert!(rt; granted.would_admit());
     assert_eq!(rt; (granted.admit(), granted.admit()), (true, false));
-    granted.grant(Amount::of(2).ok_or("an amount")?);
+    granted.grant(Amount::of(2).expect(&rt, "an amount"));
     assert_eq!(rt;
         (granted.admit(), granted.admit(), granted.admit()),
         (true, true, false)
     );
-    Ok(())
 }
 
 #[test]
-fn a_fault_says_why_in_a_sentence(rt: HostRuntime) -> Result<(), Fail> {
-    assert_eq!(rt;
-        format!(in rt.alloc(); "{}", LeaseFault::Used(2))?.as_str(),
-        "all 2 requests that were allowed are used"
-    );
-    assert_eq!(rt;
-        format!(in rt.alloc(); "{}", LeaseFault::Over(1_000))?.as_str(),
-        "the lease is over since the moment 1000 ms"
-    );
-    Ok(())
+fn a_fault_says_why_in_a_sentence(rt: HostRuntime) {
+    for (fault, sentence) in [
+        (
+            LeaseFault::Used(2),
+            "all 2 requests that were allowed are used",
+        ),
+        (
+            LeaseFault::Over(1_000),
+            "the lease is over since the moment 1000 ms",
+        ),
+    ] {
+        let told = format!(in rt.alloc(); "{fault}").expect(&rt, "there is memory");
+        assert!(rt; told.as_str() == sentence, "{sentence}");
+    }
 }

@@ -1,7 +1,6 @@
 //! Positions.
 
 use position::{Counter, Spent};
-use std::test::Fail;
 
 #[test]
 fn a_length_that_passes_the_top_is_not_added(rt: HostRuntime) {
@@ -30,11 +29,10 @@ fn a_top_of_zero_takes_nothing_and_sums_may_pass_32_bits(rt: HostRuntime) {
 }
 
 #[test]
-fn a_spent_position_says_so_in_a_sentence(rt: HostRuntime) -> Result<(), Fail> {
-    let sentence = format!(in rt.alloc(); "{}", Spent)?;
+fn a_spent_position_says_so_in_a_sentence(rt: HostRuntime) {
+    let sentence = format!(in rt.alloc(); "{}", Spent).expect(&rt, "there is memory");
     assert_eq!(rt;
         sentence.as_str(),
         "the sum of the lengths would pass its top"
     );
-    Ok(())
 }

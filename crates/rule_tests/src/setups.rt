@@ -1,10 +1,10 @@
 //! What a server says to a first frame.
 
 use rs_frame::{Frame, Setup};
-use rs_wire::{Amount, Blob, Checked, Message, OutOfMemory, Settings, SetupFault, Side, check};
+use rs_wire::{Amount, Blob, Checked, Message, Settings, SetupFault, Side, check};
 use setup_core::{code_of, judge};
 use std::alloc::Global;
-use std::test::Fail;
+use std::process::Abort;
 
 /// Whether the server takes resumption and leases, or neither; then, of a SETUP of minor version 7,
 /// the major version, and whether it asks for resumption and for leases; whether the token is taken;
@@ -34,18 +34,25 @@ const VERDICTS: [(bool, u16, bool, bool, bool, Result<(), SetupFault>); 8] = [
     (true, 1, false, false, false, Ok(())),
 ];
 
-fn server(alloc: Global, able: bool) -> Result<Checked, Fail> {
-    let mut settings = Settings::usual(alloc, Side::Server)?;
-    settings.resume = able;
-    settings.lease = able;
-    Ok(check(settings).ok().ok_or("the usual settings are right")?)
+fn usual(rt: &impl Abort, alloc: Global) -> Settings {
+    Settings::usual(alloc, Side::Server).expect(rt, "there is memory")
 }
 
-fn token(alloc: Global, resume: bool) -> Result<Option<Blob>, OutOfMemory> {
+fn server(rt: &impl Abort, alloc: Global, able: bool) -> Checked {
+    let mut settings = usual(rt, alloc);
+    settings.resume = able;
+    settings.lease = able;
+    match check(settings) {
+        Ok(settings) => settings,
+        Err(_) => panic!(rt; "the settings are right"),
+    }
+}
+
+fn token(rt: &impl Abort, alloc: Global, resume: bool) -> Option<Blob> {
     if resume {
-        Ok(Some(Blob::from_slice(alloc, b"tok1")?))
+        Some(Blob::from_slice(alloc, b"tok1").expect(rt, "there is memory"))
     } else {
-        Ok(None)
+        None
     }
 }
 
@@ -53,10 +60,10 @@ fn nothing(alloc: Global) -> Blob {
     Blob::from_vec(Vec::new(alloc))
 }
 
-fn setup(alloc: Global, major: u16, resume: bool, lease: bool) -> Result<Frame, Fail> {
-    let second = Amount::of(1_000).ok_or("an amount")?;
-    Ok(Frame::Setup(Setup {
-        resume: token(alloc, resume)?,
+fn setup(rt: &impl Abort, alloc: Global, major: u16, resume: bool, lease: bool) -> Frame {
+    let second = Amount::of(1_000).expect(rt, "an amount");
+    Frame::Setup(Setup {
+        resume: token(rt, alloc, resume),
         lease,
         major,
         minor: 7,
@@ -68,47 +75,33 @@ fn setup(alloc: Global, major: u16, resume: bool, lease: bool) -> Result<Frame, 
             metadata: None,
             content: nothing(alloc),
         },
-    }))
+    })
 }
 
 // What such a server says to the frame.
-fn said(
+fn verdict(
+    rt: &impl Abort,
     alloc: Global,
     able: bool,
     first: &Frame,
     taken: bool,
-) -> Result<Result<(), SetupFault>, Fail> {
-    let server = server(alloc, able)?;
-    Ok(judge(first, &server, taken))
-}
-
-// What such a server says to such a SETUP.
-fn verdict(
-    alloc: Global,
-    able: bool,
-    major: u16,
-    resume: bool,
-    lease: bool,
-    taken: bool,
-) -> Result<Result<(), SetupFault>, Fail> {
-    let first = setup(alloc, major, resume, lease)?;
-    said(alloc, able, &first, taken)
+) -> Result<(), SetupFault> {
+    judge(first, &server(rt, alloc, able), taken)
 }
 
 #[test]
-fn the_first_fault_of_a_setup_is_answered(rt: HostRuntime) -> Result<(), Fail> {
+fn the_first_fault_of_a_setup_is_answered(rt: HostRuntime) {
     for (able, major, resume, lease, taken, wanted) in VERDICTS {
-        let verdict = verdict(rt.alloc(), able, major, resume, lease, taken)?;
+        let first = setup(&rt, rt.alloc(), major, resume, lease);
+        let verdict = verdict(&rt, rt.alloc(), able, &first, taken);
         assert!(rt; verdict == wanted, "{wanted:?}");
     }
-    Ok(())
 }
 
 #[test]
-fn another_frame_is_not_first(rt: HostRuntime) -> Result<(), Fail> {
-    let verdict = said(rt.alloc(), false, &Frame::Cancel { stream: 1 }, true)?;
+fn another_frame_is_not_first(rt: HostRuntime) {
+    let verdict = verdict(&rt, rt.alloc(), false, &Frame::Cancel { stream: 1 }, true);
     assert!(rt; verdict == Err(SetupFault::NotFirst));
-    Ok(())
 }
 
 #[test]

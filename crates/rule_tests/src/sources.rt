@@ -2,35 +2,43 @@
 
 use outside::{MemSink, MemSource, Read, Sink, Source, StdSink, StdSource, Wrote};
 use rs_wire::Blob;
-use std::test::Fail;
+use std::alloc::Global;
+use std::process::Abort;
 
-fn source(rt: &HostRuntime, bytes: &[u8], fails: &[u64]) -> Result<MemSource, Fail> {
-    let bytes = Blob::from_slice(rt.alloc(), bytes).map_err(|_| Fail::from("memory"))?;
-    Ok(MemSource::new(bytes, Vec::from_slice(rt.alloc(), fails)?))
+fn source(rt: &impl Abort, alloc: Global, bytes: &[u8], fails: &[u64]) -> MemSource {
+    let bytes = Blob::from_slice(alloc, bytes).expect(rt, "there is memory");
+    let fails = Vec::from_slice(alloc, fails).expect(rt, "there is memory");
+    MemSource::new(bytes, fails)
 }
 
+/// What each read comes to of a source of three bytes, whose second and fourth read fail, and what
+/// the buffer of two bytes has then.
+const READS: [(Read, [u8; 2]); 5] = [
+    (Read::Took(2), [1, 2]),
+    (Read::Failed, [1, 2]),
+    (Read::Took(1), [3, 2]),
+    (Read::Failed, [3, 2]),
+    (Read::End, [3, 2]),
+];
+
 #[test]
-fn a_source_in_memory_gives_its_bytes_and_then_ends(rt: HostRuntime) -> Result<(), Fail> {
-    let mut source = source(&rt, &[1, 2, 3], &[2, 4])?;
+fn a_source_in_memory_gives_its_bytes_and_then_ends(rt: HostRuntime) {
+    let mut source = source(&rt, rt.alloc(), &[1, 2, 3], &[2, 4]);
     let mut buffer = [0; 2];
-    assert_eq!(rt; source.read(&mut buffer), Read::Took(2));
-    assert!(rt; buffer == [1, 2]);
-    assert_eq!(rt; source.read(&mut buffer), Read::Failed);
-    assert_eq!(rt; source.read(&mut buffer), Read::Took(1));
-    assert!(rt; buffer == [3, 2]);
-    assert_eq!(rt; source.read(&mut buffer), Read::Failed);
-    assert_eq!(rt; source.read(&mut buffer), Read::End);
-    Ok(())
+    for (read, bytes) in READS {
+        assert!(rt; source.read(&mut buffer) == read);
+        assert!(rt; buffer == bytes);
+    }
 }
 
 #[test]
-fn a_sink_in_memory_has_what_was_written(rt: HostRuntime) -> Result<(), Fail> {
-    let mut sink = MemSink::new(rt.alloc(), Vec::from_slice(rt.alloc(), &[2])?);
+fn a_sink_in_memory_has_what_was_written(rt: HostRuntime) {
+    let fails = Vec::from_slice(rt.alloc(), &[2]).expect(&rt, "there is memory");
+    let mut sink = MemSink::new(rt.alloc(), fails);
     assert_eq!(rt; sink.write(b"ab"), Wrote::Took(2));
     assert_eq!(rt; sink.write(b"cd"), Wrote::Failed);
     assert_eq!(rt; sink.write(b"e"), Wrote::Took(1));
     assert!(rt; sink.written() == b"abe".as_slice());
-    Ok(())
 }
 
 #[test]

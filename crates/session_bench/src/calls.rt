@@ -5,7 +5,9 @@
 
 ghost use Rattle.std.specs.Prelude.{◌≡◌};
 ghost use Rattle.rs_wire.specs.Calls.{CanBeAsked};
+ghost use Rattle.rs_wire.specs.declared.words.Side.TheVariants.{Client};
 
+use crate::end::let_go;
 use crate::sessions::{new_connection, new_session};
 use crate::times::{ROUNDS, Timed, median, nanos_since, now};
 use anyhow::{Result, bail};
@@ -23,6 +25,22 @@ const TIMES: u32 = 50_000;
 
 /// How many steps are made where nothing is timed.
 const FEW: u32 = 100;
+
+// Opens the connection of a client that nobody shares.
+fn open_alone(session: &mut Session<Blank>)
+    requires side { session.old.settings.side ≡ Client }
+{
+    let_go(session.bring(0, Event::opening()));
+}
+
+// Opens one that its callers share.
+fn open_shared<R: Wait>(rt: &R, connection: &Connection<Blank>, caller: &mut Caller<Blank>)
+    requires of { caller.old.of ≡ connection.now }
+    requires side { connection.now.settings.side ≡ Client }
+    ensures of { caller.new.of ≡ connection.now }
+{
+    let_go(connection.bring(rt, caller, Event::opening()));
+}
 
 // Asks a session that nobody shares.
 fn ask_often(session: &mut Session<Blank>, call: &Call, times: u32)
@@ -47,7 +65,7 @@ fn call_often<R: Wait>(
 {
     let mut caller = caller;
     for _ in 0..times {
-        connection.call(rt, &mut caller, call);
+        let_go(connection.call(rt, &mut caller, call));
     }
     caller
 }
@@ -57,13 +75,23 @@ fn time_steps<R: Clock>(rt: &R, alloc: Global, call: &Call, times: u32) -> Resul
     requires { CanBeAsked call.now }
 {
     let mut session = new_session(alloc, Side::Client)?;
-    session.step(0, &Event::opening());
+    open_alone(&mut session);
     let start = now(rt);
     ask_often(&mut session, call, times);
     Ok(Timed {
         nanos: nanos_since(rt, start, times),
-        count: session.tape().count(),
+        count: session.into_tape().count(),
     })
+}
+
+// How many entries a session has that its callers shared, once the only one closes it.
+fn close(connection: Connection<Blank>, caller: Caller<Blank>) -> Result<u64>
+    requires { caller.of ≡ connection }
+{
+    match connection.close(caller) {
+        Ok(session) => Ok(session.into_tape().count()),
+        Err(_) => bail!("a caller is missing"),
+    }
 }
 
 // The same of one that its callers share, by its one caller.
@@ -71,17 +99,12 @@ fn time_calls<R: Wait + Clock>(rt: &R, alloc: Global, call: &Call, times: u32) -
     requires { CanBeAsked call.now }
 {
     let (connection, mut caller) = new_connection(alloc, Side::Client)?;
-    connection.event(rt, &mut caller, &Event::opening());
+    open_shared(rt, &connection, &mut caller);
     let start = now(rt);
     let caller = call_often(rt, &connection, caller, call, times);
     let nanos = nanos_since(rt, start, times);
-    match connection.close(caller) {
-        Ok(session) => Ok(Timed {
-            nanos,
-            count: session.tape().count(),
-        }),
-        Err(_) => bail!("a caller is missing"),
-    }
+    let count = close(connection, caller)?;
+    Ok(Timed { nanos, count })
 }
 
 // Prints nanoseconds, the median of all rounds of each kind, which are timed in turn.
@@ -98,14 +121,34 @@ fn compare<R: Wait + Clock + Print>(rt: &R, alloc: Global, call: &Call) -> Resul
     Ok(())
 }
 
+// Makes a few calls, and prints how many entries the sessions have.
+fn count<R: Wait + Clock + Print>(rt: &R, alloc: Global, call: &Call) -> Result<()>
+    requires { CanBeAsked call.now }
+{
+    let bare = time_steps(rt, alloc, call, FEW)?.count;
+    let calls = time_calls(rt, alloc, call, FEW)?.count;
+    println!(rt; "bare {bare} call {calls}")?;
+    Ok(())
+}
+
+// What is called each time.
+fn compare_or_count<R: Wait + Clock + Print>(
+    rt: &R,
+    alloc: Global,
+    call: &Call,
+    is_timed: bool,
+) -> Result<()>
+    requires { CanBeAsked call.now }
+{
+    if is_timed {
+        compare(rt, alloc, call)
+    } else {
+        count(rt, alloc, call)
+    }
+}
+
 /// Times calls, or else makes a few.
 pub fn run<R: Wait + Clock + Print>(rt: &R, alloc: Global, is_timed: bool) -> Result<()> {
     let call = Call::fire_and_forget(Blob::from_slice(alloc, b"hi")?);
-    if is_timed {
-        return compare(rt, alloc, &call);
-    }
-    let bare = time_steps(rt, alloc, &call, FEW)?.count;
-    let calls = time_calls(rt, alloc, &call, FEW)?.count;
-    println!(rt; "bare {bare} call {calls}")?;
-    Ok(())
+    compare_or_count(rt, alloc, &call, is_timed)
 }

@@ -3,7 +3,7 @@
 ghost use Rattle.std.specs.Prelude.{◌≡◌, ◌<◌, ◌^◌, IfOk, length};
 ghost use Rattle.rs_wire.specs.Calls.{CanBeAsked};
 ghost use Rattle.rs_wire.specs.Settings.{usual};
-ghost use Rattle.rs_wire.specs.declared.words.Side.TheVariants.{Server};
+ghost use Rattle.rs_wire.specs.declared.words.Side.TheVariants.{Client, Server};
 ghost use Rattle.session_model.specs.Legal.{CanBring};
 ghost use Rattle.session_core.specs.Seen.{IsNoDrawEvent};
 
@@ -37,6 +37,9 @@ pub enum Said {
     Complete,
 }
 
+/// Lets an answer go. It is done here alone, since each place where it is done is dear to prove.
+pub fn let_go(_answer: Answer) {}
+
 fn said_by(answer: &Answer) -> Option<Said> {
     match answer {
         Answer::Started(stream) => Some(Said::Started(*stream)),
@@ -59,39 +62,37 @@ pub struct Unlinked {
     ghost limit: { pump.max_in ≡ connection.settings.max_in },
 }
 
-// What a session that this event opens works by, to which these bytes came after it.
-fn begin<R: Wait>(
-    rt: &R,
-    alloc: Global,
-    connection: Connection<Blank>,
-    mut caller: Caller<Blank>,
-    event: &Event,
-    rest: &[u8],
-) -> Result<Unlinked>
-    requires of { caller.of ≡ connection }
-    requires fair { CanBring connection.settings event.now }
-    requires no_draw { IsNoDrawEvent event.now }
-{
-    let opened = connection.event(rt, &mut caller, event) == Answer::Opened(CONNECTION);
-    ensure!(opened, "not opened");
-    let mut reader = Reader::new(alloc, connection.max_in());
-    reader.feed(rest)?;
-    let pump = Pump::new(alloc, CONNECTION, reader)?;
-    Ok(Unlinked {
-        connection,
-        caller,
-        pump,
-        clock: MemClock::new(vec![in alloc; 0u64; 1]?),
-    })
+// Whether the one connection is opened.
+fn is_opened(answer: &Answer) -> bool {
+    matches!(answer, Answer::Opened(CONNECTION))
 }
 
-// What this event opens, with these bytes after it.
-fn open<R: Wait>(rt: &R, alloc: Global, side: Side, event: &Event, rest: &[u8]) -> Result<Unlinked>
-    requires fair { CanBring (usual side) event.now }
-    requires no_draw { IsNoDrawEvent event.now }
+// A pump to which these bytes came, and its clock.
+fn pump_for(alloc: Global, max_in: u32, bytes: &[u8]) -> Result<(Pump, MemClock)>
+    requires short { max_in < 2 ^ 24 }
+    ensures { IfOk result (λ made. made.0.max_in ≡ max_in) }
+{
+    let mut reader = Reader::new(alloc, max_in);
+    reader.feed(bytes)?;
+    let clock = MemClock::new(vec![in alloc; 0u64; 1]?);
+    let pump = Pump::new(alloc, CONNECTION, reader)?;
+    Ok((pump, clock))
+}
+
+// A session that is not begun, to whose connection these bytes came.
+fn unbegun(alloc: Global, side: Side, bytes: &[u8]) -> Result<Unlinked>
+    ensures { IfOk result (λ end. end.connection.settings ≡ usual side) }
 {
     let (connection, caller) = new_connection(alloc, side)?;
-    begin(rt, alloc, connection, caller, event, rest)
+    match pump_for(alloc, connection.max_in(), bytes) {
+        Ok((pump, clock)) => Ok(Unlinked {
+            connection,
+            caller,
+            pump,
+            clock,
+        }),
+        Err(error) => Err(error),
+    }
 }
 
 // A server is opened by the frame of these bytes.
@@ -104,17 +105,56 @@ fn opening(alloc: Global, setup: &[u8]) -> Result<Event>
     Ok(Event::opened_by(frame))
 }
 
+// The end, where it opened.
+fn opened(end: Unlinked, opened: Result<()>) -> Result<Unlinked> {
+    match opened {
+        Ok(()) => Ok(end),
+        Err(error) => Err(error),
+    }
+}
+
 impl Unlinked {
+    // Opens the session by this event.
+    fn open<R: Wait>(&mut self, rt: &R, event: Event) -> Result<()>
+        requires fair { CanBring self.old.connection.settings event }
+        requires no_draw { IsNoDrawEvent event }
+    {
+        let answer = self.connection.bring(rt, &mut self.caller, event);
+        let is_opened = is_opened(&answer);
+        let_go(answer);
+        ensure!(is_opened, "not opened");
+        Ok(())
+    }
+
+    // Opens the session of a client.
+    fn ask_to_open<R: Wait>(&mut self, rt: &R) -> Result<()>
+        requires side { self.old.connection.settings.side ≡ Client }
+    {
+        self.open(rt, Event::opening())
+    }
+
+    // Opens that of a server by the frame of these bytes.
+    fn open_by<R: Wait>(&mut self, rt: &R, alloc: Global, setup: &[u8]) -> Result<()>
+        requires settings { self.old.connection.settings ≡ usual Server }
+        requires few { length setup.now < 2 ^ 24 }
+    {
+        let event = opening(alloc, setup)?;
+        self.open(rt, event)
+    }
+
     /// A client, whose SETUP is due.
     pub fn client<R: Wait>(rt: &R, alloc: Global) -> Result<Unlinked> {
-        open(rt, alloc, Side::Client, &Event::opening(), &[])
+        let mut end = unbegun(alloc, Side::Client, &[])?;
+        let begun = end.ask_to_open(rt);
+        opened(end, begun)
     }
 
     /// A server, which the first frame of these bytes opens; the others come next.
     pub fn server<R: Wait>(rt: &R, alloc: Global, bytes: &[u8]) -> Result<Unlinked> {
         let (setup, rest) = split_frame(bytes).context("no SETUP")?;
-        let event = opening(alloc, setup)?;
-        open(rt, alloc, Side::Server, &event, rest)
+        let mut end = unbegun(alloc, Side::Server, rest)?;
+        let begun = end.open_by(rt, alloc, setup);
+        opened(end, begun)
     }
 }
 
@@ -146,10 +186,13 @@ impl<L: Link> End<L> {
     }
 
     /// A caller asks something. `None` where the end refuses.
-    pub fn ask<R: Wait>(&mut self, rt: &R, call: &Call) -> Option<Said>
-        requires { CanBeAsked call.now }
+    pub fn ask<R: Wait>(&mut self, rt: &R, call: Call) -> Option<Said>
+        requires { CanBeAsked call }
     {
         let end = &mut self.unlinked;
-        said_by(&end.connection.call(rt, &mut end.caller, call))
+        let answer = end.connection.call(rt, &mut end.caller, &call);
+        let said = said_by(&answer);
+        let_go(answer);
+        said
     }
 }

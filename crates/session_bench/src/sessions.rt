@@ -14,8 +14,10 @@ use tape::Blank;
 fn defaults(alloc: Global, side: Side) -> Result<Checked>
     ensures { IfOk result (λ s. s ≡ usual side) }
 {
-    let settings = check(Settings::usual(alloc, side)?).map_err(|(_, fault)| fault)?;
-    Ok(settings)
+    match check(Settings::usual(alloc, side)?) {
+        Ok(settings) => Ok(settings),
+        Err((_, fault)) => Err(fault.into()),
+    }
 }
 
 /// A session at which nothing happened yet, with a tape that only counts what happens.
@@ -23,9 +25,10 @@ pub fn new_session(alloc: Global, side: Side) -> Result<Session<Blank>>
     ensures settings { IfOk result (λ s. s.settings ≡ usual side) }
     ensures entries { IfOk result (λ s. s.entries ≡ []) }
 {
-    let settings = defaults(alloc, side)?;
-    let session = Session::new(alloc, settings, Blank::new()).map_err(|(_, error)| error)?;
-    Ok(session)
+    match Session::new(alloc, defaults(alloc, side)?, Blank::new()) {
+        Ok(session) => Ok(session),
+        Err((_, error)) => Err(error.into()),
+    }
 }
 
 /// One that its callers share, and the first of them.
@@ -35,6 +38,9 @@ pub fn new_connection(alloc: Global, side: Side) -> Result<(Connection<Blank>, C
 {
     match Connection::new(alloc, new_session(alloc, side)?) {
         Ok(made) => Ok(made),
-        Err((_, error)) => Err(error.into()),
+        Err((session, error)) => {
+            session.into_tape();
+            Err(error.into())
+        }
     }
 }

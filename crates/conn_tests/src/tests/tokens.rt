@@ -3,7 +3,7 @@
 ghost use Rattle.std.specs.Prelude.{◌≡◌};
 
 use super::calls::SETUP;
-use super::ends::{blob, connected, connected_as, open, open_server};
+use super::ends::{blob, connected, connected_as, leave, open, open_server};
 use conn::{Caller, Connection};
 use rs_wire::{Blob, Checked, Settings, Side, check};
 use std::alloc::Global;
@@ -67,6 +67,7 @@ fn hold_token<R: Abort + Wait, T: Tape + Drop>(rt: &R, alloc: Global, tape: T)
     assert!(rt; holds(rt, alloc, &server, &mut caller, TOKEN));
     assert!(rt; !holds(rt, alloc, &server, &mut caller, b"tok2"));
     assert!(rt; !holds(rt, alloc, &server, &mut caller, b"tok"));
+    leave(server, caller);
 }
 
 #[test]
@@ -83,6 +84,7 @@ fn hold_none<R: Abort + Wait, T: Tape + Drop>(rt: &R, alloc: Global, tape: T)
     open_server(rt, alloc, &server, &mut caller, SETUP);
     assert!(rt; !holds(rt, alloc, &server, &mut caller, TOKEN));
     assert!(rt; !holds(rt, alloc, &server, &mut caller, b""));
+    leave(server, caller);
 }
 
 #[test]
@@ -99,6 +101,7 @@ fn hold_own<R: Abort + Wait, T: Tape + Drop>(rt: &R, alloc: Global, tape: T)
     open(rt, &client, &mut caller);
     assert!(rt; client.resumes());
     assert!(rt; !holds(rt, alloc, &client, &mut caller, TOKEN));
+    leave(client, caller);
 }
 
 #[test]
@@ -110,8 +113,10 @@ fn a_client_resumes_and_holds_no_token(rt: HostRuntime) {
 fn usual_resumes<R: Abort, T: Tape + Drop>(rt: &R, alloc: Global, side: Side, tape: T) -> bool
     requires empty { T.count tape ≡ 0 }
 {
-    let (connection, _caller) = connected(rt, alloc, side, tape);
-    connection.resumes()
+    let (connection, caller) = connected(rt, alloc, side, tape);
+    let resumes = connection.resumes();
+    leave(connection, caller);
+    resumes
 }
 
 #[test]

@@ -2,7 +2,10 @@
 //! a pump between it and a link in memory.
 
 ghost use Rattle.std.specs.Prelude.{◌≡◌, ◌<◌, ◌≤◌};
+ghost use Rattle.rs_wire.specs.Calls.{CanBeAsked};
 ghost use Rattle.rs_wire.specs.declared.words.Side.TheVariants.{Client};
+ghost use Rattle.session_model.specs.Legal.{CanBring};
+ghost use Rattle.session_core.specs.Seen.{IsNoDrawEvent};
 
 use conn::{Caller, Connection};
 use outside::{After, MemClock, MemLink};
@@ -54,13 +57,47 @@ fn connected<R: Abort>(rt: &R, alloc: Global) -> (Connection<Kept>, Caller<Kept>
     }
 }
 
+// Lets an answer go. Each place where that is done is dear to prove.
+fn let_go(_answer: Answer) {}
+
+// Whether the one connection is opened.
+fn is_opened(answer: &Answer) -> bool {
+    matches!(answer, Answer::Opened(1))
+}
+
+// Brings the event. Whether it opens the one connection.
+fn opens<R: Wait>(
+    rt: &R,
+    connection: &Connection<Kept>,
+    caller: &mut Caller<Kept>,
+    event: Event,
+) -> bool
+    requires of { caller.old.of ≡ connection.now }
+    requires fair { CanBring connection.now.settings event }
+    requires no_draw { IsNoDrawEvent event }
+    ensures of { caller.new.of ≡ connection.now }
+{
+    let answer = connection.bring(rt, caller, event);
+    let is_opened = is_opened(&answer);
+    let_go(answer);
+    is_opened
+}
+
+// Begins the session of a client.
+fn begin<R: Abort + Wait>(rt: &R, connection: &Connection<Kept>, caller: &mut Caller<Kept>)
+    requires of { caller.old.of ≡ connection.now }
+    requires side { connection.now.settings.side ≡ Client }
+    ensures of { caller.new.of ≡ connection.now }
+{
+    assert!(rt; opens(rt, connection, caller, Event::opening()));
+}
+
 // A connection whose session is begun, and its caller.
 fn begun<R: Abort + Wait>(rt: &R, alloc: Global) -> (Connection<Kept>, Caller<Kept>)
     ensures of { result.1.of ≡ result.0 }
 {
     let (connection, mut caller) = connected(rt, alloc);
-    let answer = connection.event(rt, &mut caller, &Event::opening());
-    assert!(rt; answer == Answer::Opened(1));
+    begin(rt, &connection, &mut caller);
     (connection, caller)
 }
 
@@ -86,6 +123,42 @@ fn clock<R: Abort>(rt: &R, alloc: Global, later: u64) -> MemClock {
     let moments = Vec::from_slice(alloc, &[0, later]).expect(rt, "there is memory");
     assert!(rt; moments.len() == 2);
     MemClock::new(moments)
+}
+
+// A fire-and-forget request of this many bytes.
+fn request<R: Abort>(rt: &R, alloc: Global, length: usize) -> Call
+    requires { length ≤ 16000000 }
+    ensures { CanBeAsked result }
+{
+    let content = vec![in alloc; 0u8; length].expect(rt, "there is memory");
+    Call::fire_and_forget(Blob::from_vec(content))
+}
+
+// The id of the stream that a call started.
+fn started(answer: &Answer) -> Option<u32> {
+    match answer {
+        Answer::Started(id) => Some(*id),
+        _ => None,
+    }
+}
+
+fn is_tick(event: &Event, at: u64) -> bool {
+    match event {
+        Event::Tick { now } => *now == at,
+        _ => false,
+    }
+}
+
+fn is_dead(answer: &Answer) -> bool {
+    matches!(answer, Answer::Dead(0))
+}
+
+// Whether the entry is that of a tick at this moment that found the peer dead.
+fn is_deadly_tick(entry: Option<&Entry>, at: u64) -> bool {
+    match entry {
+        Some(entry) => entry.who == 0 && is_tick(&entry.event, at) && is_dead(&entry.answer),
+        None => false,
+    }
 }
 
 impl End {
@@ -156,14 +229,22 @@ impl End {
         self.pump.gave();
     }
 
-    /// Makes a fire-and-forget request of this many bytes.
-    pub fn ask<R: Abort + Wait>(&mut self, rt: &R, alloc: Global, length: usize) -> Answer
+    // Makes this call. The id of the stream that it starts.
+    fn starts<R: Wait>(&mut self, rt: &R, call: &Call) -> Option<u32>
+        requires { CanBeAsked call.now }
+    {
+        let answer = self.connection.call(rt, &mut self.caller, call);
+        let started = started(&answer);
+        let_go(answer);
+        started
+    }
+
+    /// Makes a fire-and-forget request of this many bytes. The id of the stream that it starts.
+    pub fn ask<R: Abort + Wait>(&mut self, rt: &R, alloc: Global, length: usize) -> Option<u32>
         requires { length ≤ 16000000 }
     {
-        let content = vec![in alloc; 0u8; length].expect(rt, "there is memory");
-        let call = Call::fire_and_forget(Blob::from_vec(content));
-        let connection = &self.connection;
-        connection.call(rt, &mut self.caller, &call)
+        let call = request(rt, alloc, length);
+        self.starts(rt, &call)
     }
 
     // The session, once the connection is closed.
@@ -176,19 +257,18 @@ impl End {
 
     /// How many entries the session has.
     pub fn count_entries<R: Abort>(self, rt: &R) -> u64 {
-        self.close(rt).tape().count()
+        self.close(rt).into_tape().count()
     }
 
-    /// Compares the entry of this number, from 0, with an event of the one caller and its answer.
-    pub fn compare_entry<R: Abort>(self, rt: &R, index: u64, event: Event, answer: Answer) {
-        let session = self.close(rt);
-        let wanted = Entry {
-            who: 0,
-            event,
-            answer,
-        };
-        assert!(rt; session.tape().entry(index) == Some(&wanted));
+    /// The entry of this number, from 0, is a tick of the one caller at this moment, which found the
+    /// peer dead from which nothing came since 0.
+    pub fn compare_tick<R: Abort>(self, rt: &R, index: u64, now: u64) {
+        let tape = self.close(rt).into_tape();
+        assert!(rt; is_deadly_tick(tape.entry(index), now));
     }
+
+    /// Lets the end go. It is done here alone, since each place where it is done is dear to prove.
+    pub fn let_go(self) {}
 
     /// How many bytes were taken from the link.
     pub fn taken(&self) -> usize {

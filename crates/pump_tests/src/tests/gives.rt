@@ -29,7 +29,9 @@ fn give_in_pieces<R: Abort + Wait>(rt: &R, alloc: Global) {
     for most in 1..SETUP_BYTES {
         let pieces = give_all(rt, alloc, most);
         assert!(rt; pieces.given() == whole.given());
+        pieces.let_go();
     }
+    whole.let_go();
 }
 
 #[test]
@@ -62,6 +64,7 @@ fn fail_at<R: Abort + Wait>(rt: &R, alloc: Global, call: u64, given: usize, want
     compare(rt, end.run(rt, 2), wanted);
     assert!(rt; end.given().len() == given);
     assert!(rt; end.left().saturating_add(given) == SETUP_BYTES as usize);
+    end.let_go();
 }
 
 #[test]

@@ -30,9 +30,10 @@ fn drawn_by<R: Abort + Wait>(rt: &R, alloc: Global, most: usize) -> Vec<u8> {
         assert!(rt; end.left() <= most);
         end.carry(rt, &mut bytes);
         if brought == Brought::Nothing {
-            return bytes;
+            break;
         }
     }
+    end.let_go();
     bytes
 }
 
@@ -53,6 +54,7 @@ fn draw_once<R: Abort + Wait>(rt: &R, alloc: Global) {
     assert!(rt; end.left() == 10);
     assert!(rt; end.draw(rt, 10) == Brought::Nothing);
     assert!(rt; end.left() == 10);
+    end.let_go();
 }
 
 #[test]
@@ -74,6 +76,7 @@ fn feed_in_parts<R: Abort + Wait>(rt: &R, alloc: Global) {
     assert!(rt; end.draw(rt, 1_000) == Brought::Noted);
     end.carry(rt, &mut bytes);
     assert!(rt; bytes.len() == SETUP_BYTES as usize + ERROR_BYTES);
+    end.let_go();
 }
 
 #[test]
@@ -88,6 +91,7 @@ fn stray<R: Abort + Wait>(rt: &R, alloc: Global) {
     end.feed(rt, SHORT);
     assert!(rt; end.hear(rt) == Brought::Displaced(1));
     assert!(rt; end.left() == 0);
+    end.let_go();
 }
 
 #[test]

@@ -6,7 +6,6 @@ use pump::Turned;
 use std::alloc::Global;
 use std::process::Abort;
 use std::sync::Wait;
-use tape::Answer;
 
 /// How many bytes may be queued: the greatest frame, and as much again as a request of 1,024 bytes.
 const OUT_ROOM: u64 = 16_778_239;
@@ -36,11 +35,11 @@ const CANCEL: usize = 9;
 fn full<R: Abort + Wait>(rt: &R, alloc: Global) -> End {
     let link = link(rt, alloc, CANCELS, After::Lulls, 1, 0);
     let mut end = End::new(rt, alloc, 1, link, 0);
-    assert!(rt; end.ask(rt, alloc, FIRST) == Answer::Started(1));
-    assert!(rt; end.ask(rt, alloc, SECOND) == Answer::Started(3));
+    assert!(rt; end.ask(rt, alloc, FIRST) == Some(1));
+    assert!(rt; end.ask(rt, alloc, SECOND) == Some(3));
     end.turn(rt);
     assert!(rt; end.left() == PIECE - 1);
-    assert!(rt; end.ask(rt, alloc, AGAIN) == Answer::Started(5));
+    assert!(rt; end.ask(rt, alloc, AGAIN) == Some(5));
     end
 }
 
@@ -54,6 +53,7 @@ fn flood<R: Abort + Wait>(rt: &R, alloc: Global) {
         compare(rt, end.turn(rt), Turned::Busy(OUT_ROOM));
         assert!(rt; end.taken() == CANCEL);
     }
+    end.let_go();
 }
 
 #[test]

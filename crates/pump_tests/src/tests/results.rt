@@ -7,7 +7,6 @@ use rs_wire::{Cause, Rule};
 use std::alloc::Global;
 use std::process::Abort;
 use std::sync::Wait;
-use tape::{Answer, Event};
 
 /// One trial: a session whose SETUP is due, a pump, and what it comes to after some turns.
 #[derive(Clone, Copy)]
@@ -110,6 +109,7 @@ fn turn_of<R: Abort + Wait>(rt: &R, alloc: Global, row: Row) {
     compare(rt, end.turn(rt), row.wanted);
     assert!(rt; end.given().len() == row.given);
     compare(rt, end.turn(rt), row.then);
+    end.let_go();
 }
 
 #[test]
@@ -126,7 +126,7 @@ fn die<R: Abort + Wait>(rt: &R, alloc: Global) {
     let mut end = End::new(rt, alloc, 1, link, 90_000);
     end.turn(rt);
     compare(rt, end.turn(rt), Turned::Dead(0));
-    end.compare_entry(rt, 3, Event::Tick { now: 90_000 }, Answer::Dead(0));
+    end.compare_tick(rt, 3, 90_000);
 }
 
 #[test]

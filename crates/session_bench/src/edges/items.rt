@@ -32,7 +32,7 @@ fn send_some<R: Wait>(
     for done in 0..batch {
         let content = Blob::from_slice(alloc, SMALL)?;
         let is_last = left == done.saturating_add(1);
-        let said = server.ask(rt, &item(stream, content, is_last));
+        let said = server.ask(rt, item(stream, content, is_last));
         if said != Some(Said::Done) {
             return Ok(done);
         }
@@ -60,7 +60,7 @@ fn send_all<R: Wait>(rt: &R, alloc: Global, server: &mut TcpSide, items: u32) ->
 fn take_some<R: Wait>(rt: &R, client: &mut TcpSide, stream: u32) -> (u32, bool) {
     let mut count = 0u32;
     for _ in 0..u32::MAX {
-        let said = client.ask(rt, &take_next(stream));
+        let said = client.ask(rt, take_next(stream));
         match said {
             Some(Said::Item) => count = count.saturating_add(1),
             Some(Said::Complete) => return (count, true),
@@ -86,7 +86,7 @@ fn take_all<R: Wait>(rt: &R, client: &mut TcpSide, stream: u32) -> Result<u32> {
 
 fn ask<R: Wait>(rt: &R, alloc: Global, client: &mut TcpSide) -> Result<u32> {
     let content = Blob::from_slice(alloc, SMALL)?;
-    let said = client.ask(rt, &request_stream(content));
+    let said = client.ask(rt, request_stream(content));
     match said {
         Some(Said::Started(stream)) => take_all(rt, client, stream),
         _ => bail!("a request is {said:?}"),

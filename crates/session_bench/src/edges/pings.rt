@@ -23,7 +23,7 @@ fn serve<R: Wait>(rt: &R, alloc: Global, server: &mut TcpSide, pings: u32) -> Re
     for _ in 0..pings {
         let stream = next_request(rt, server)?;
         let content = Blob::from_slice(alloc, SMALL)?;
-        let said = server.ask(rt, &respond(stream, content));
+        let said = server.ask(rt, respond(stream, content));
         ensure!(said == Some(Said::Done), "a response is {said:?}");
     }
     outlast(rt, server);
@@ -34,9 +34,9 @@ fn serve<R: Wait>(rt: &R, alloc: Global, server: &mut TcpSide, pings: u32) -> Re
 fn take_response<R: Wait>(rt: &R, client: &mut TcpSide, stream: u32) -> Result<()> {
     for _ in 0..MOST_TURNS {
         client.turn(rt)?;
-        let said = client.ask(rt, &take_next(stream));
+        let said = client.ask(rt, take_next(stream));
         if said == Some(Said::Item) {
-            let ended = client.ask(rt, &take_next(stream)) == Some(Said::Complete);
+            let ended = client.ask(rt, take_next(stream)) == Some(Said::Complete);
             ensure!(ended, "no end is taken");
             return Ok(());
         }
@@ -47,7 +47,7 @@ fn take_response<R: Wait>(rt: &R, client: &mut TcpSide, stream: u32) -> Result<(
 fn ask<R: Wait>(rt: &R, alloc: Global, client: &mut TcpSide, pings: u32) -> Result<()> {
     for _ in 0..pings {
         let content = Blob::from_slice(alloc, SMALL)?;
-        let said = client.ask(rt, &request_response(content));
+        let said = client.ask(rt, request_response(content));
         match said {
             Some(Said::Started(stream)) => take_response(rt, client, stream)?,
             _ => bail!("a request is {said:?}"),

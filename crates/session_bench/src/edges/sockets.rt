@@ -32,12 +32,18 @@ where
     Ok((near, far))
 }
 
+// The end over its link, where it opened.
+fn linked(unlinked: Result<Unlinked>, link: TcpEnd) -> Result<TcpSide> {
+    match unlinked {
+        Ok(unlinked) => Ok(End { unlinked, link }),
+        Err(error) => Err(error),
+    }
+}
+
 /// A client over this socket, whose SETUP is due.
 pub fn client_over<R: Net + Wait>(rt: &R, alloc: Global, socket: TcpStream) -> Result<TcpSide> {
-    Ok(End {
-        unlinked: Unlinked::client(rt, alloc)?,
-        link: TcpEnd::new(rt, alloc, socket)?,
-    })
+    let link = TcpEnd::new(rt, alloc, socket)?;
+    linked(Unlinked::client(rt, alloc), link)
 }
 
 // The bytes that come up to the end of the first frame, and some after it.
@@ -57,18 +63,23 @@ fn first_bytes(alloc: Global, link: &mut TcpEnd) -> Result<Vec<u8>> {
     Ok(bytes)
 }
 
+// The server that the SETUP opens which comes over the link.
+fn begun_over<R: Wait>(rt: &R, alloc: Global, link: &mut TcpEnd) -> Result<Unlinked> {
+    let bytes = first_bytes(alloc, link)?;
+    Unlinked::server(rt, alloc, &bytes)
+}
+
 /// A server over this socket, once a SETUP has come.
 pub fn server_over<R: Net + Wait>(rt: &R, alloc: Global, socket: TcpStream) -> Result<TcpSide> {
     let mut link = TcpEnd::new(rt, alloc, socket)?;
-    let bytes = first_bytes(alloc, &mut link)?;
-    let unlinked = Unlinked::server(rt, alloc, &bytes)?;
-    Ok(End { unlinked, link })
+    let unlinked = begun_over(rt, alloc, &mut link);
+    linked(unlinked, link)
 }
 
 /// The stream of the next request that comes to a server.
 pub fn next_request<R: Wait>(rt: &R, server: &mut TcpSide) -> Result<u32> {
     for _ in 0..MOST_TURNS {
-        let said = server.ask(rt, &take_job());
+        let said = server.ask(rt, take_job());
         if let Some(Said::Asked(stream)) = said {
             return Ok(stream);
         }

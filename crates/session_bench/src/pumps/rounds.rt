@@ -78,7 +78,7 @@ fn serve<R: Wait>(rt: &R, alloc: Global, client: &mut End<Wire>) -> Result<End<W
 // The client makes a request: on which stream.
 fn ask<R: Wait>(rt: &R, alloc: Global, client: &mut End<Wire>, run: Run) -> Option<u32> {
     let content = Blob::from_slice(alloc, run.item).ok()?;
-    match client.ask(rt, &request(run.shape, content))? {
+    match client.ask(rt, request(run.shape, content))? {
         Said::Started(stream) => Some(stream),
         _ => None,
     }
@@ -97,7 +97,7 @@ fn ask_all<R: Wait>(rt: &R, alloc: Global, client: &mut End<Wire>, run: Run) -> 
 
 // The server takes a request: on which stream.
 fn take_request<R: Wait>(rt: &R, server: &mut End<Wire>) -> Option<u32> {
-    match server.ask(rt, &take_job())? {
+    match server.ask(rt, take_job())? {
         Said::Asked(stream) => Some(stream),
         _ => None,
     }
@@ -115,9 +115,9 @@ fn send<R: Wait>(
     match run.shape {
         Shape::Response => {
             let stream = take_request(rt, server)?;
-            server.ask(rt, &respond(stream, content))
+            server.ask(rt, respond(stream, content))
         }
-        Shape::Stream => server.ask(rt, &item(stream, content, false)),
+        Shape::Stream => server.ask(rt, item(stream, content, false)),
     }
 }
 
@@ -137,7 +137,7 @@ fn send_all<R: Wait>(
 
 // The client takes what came on a stream.
 fn take<R: Wait>(rt: &R, client: &mut End<Wire>, stream: u32, wanted: Said) -> bool {
-    client.ask(rt, &take_next(stream)) == Some(wanted)
+    client.ask(rt, take_next(stream)) == Some(wanted)
 }
 
 // The client takes a batch of items of a stream, or of responses, whose streams are every second
@@ -205,24 +205,45 @@ fn begin<R: Wait>(
     take_request(rt, server).context("no job is taken")
 }
 
-/// Items cross between two new ends.
-pub fn cross<R: Clock + Wait>(rt: &R, alloc: Global, run: Run) -> Result<Took> {
-    let mut client = End {
-        unlinked: Unlinked::client(rt, alloc)?,
-        link: Wire::new(alloc),
-    };
-    let mut server = serve(rt, alloc, &mut client)?;
-    let stream = begin(rt, alloc, &mut client, &mut server, run)?;
+// All rounds of two ends.
+fn cross_between<R: Clock + Wait>(
+    rt: &R,
+    alloc: Global,
+    client: &mut End<Wire>,
+    server: &mut End<Wire>,
+    run: Run,
+) -> Result<Took> {
+    let stream = begin(rt, alloc, client, server, run)?;
     let mut all = Took {
         client: 0,
         server: 0,
     };
     for _ in 0..run.rounds {
-        let took = round(rt, alloc, &mut client, &mut server, stream, run)?;
+        let took = round(rt, alloc, client, server, stream, run)?;
         all = Took {
             client: all.client.saturating_add(took.client),
             server: all.server.saturating_add(took.server),
         };
     }
     Ok(all)
+}
+
+// Items cross between a client and the server that its SETUP opens.
+fn cross_from<R: Clock + Wait>(
+    rt: &R,
+    alloc: Global,
+    client: &mut End<Wire>,
+    run: Run,
+) -> Result<Took> {
+    let mut server = serve(rt, alloc, client)?;
+    cross_between(rt, alloc, client, &mut server, run)
+}
+
+/// Items cross between two new ends.
+pub fn cross<R: Clock + Wait>(rt: &R, alloc: Global, run: Run) -> Result<Took> {
+    let mut client = End {
+        unlinked: Unlinked::client(rt, alloc)?,
+        link: Wire::new(alloc),
+    };
+    cross_from(rt, alloc, &mut client, run)
 }
