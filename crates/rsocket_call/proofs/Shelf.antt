@@ -16,11 +16,11 @@ unfolding Legal Fair
 nothing_legal g = (tt, tt)
 
 -- it is the tape of a session of which nothing happened
-pub got_empty : (g : Settings) (fresh told : Option (List Entry)) (shelf mid shelf' : List (Option (List Entry))) → told ≡ told_by (is_some fresh) [] → mid ≡ shelf → shelf' ≡ mid ++ told ∷ [] → GotSome g fresh shelf shelf'
-got_empty g fresh told shelf mid shelf' is same back = inr (
+pub got_empty : (g : Settings) (fresh lent told : Option (List Entry)) (shelf mid shelf' : List (Option (List Entry))) → lent ≡ fresh → told ≡ told_by (is_some lent) [] → mid ≡ shelf → shelf' ≡ mid ++ told ∷ [] → GotSome g fresh shelf shelf'
+got_empty g fresh lent told shelf mid shelf' new is same back = inr (
   [],
   record {
-    put_back = back ∙ (ap (λ (l : List (Option (List Entry))). l ++ told ∷ []) same ∙ ap (λ (o : Option (List Entry)). shelf ++ o ∷ []) is);
+    put_back = back ∙ (ap (λ (l : List (Option (List Entry))). l ++ told ∷ []) same ∙ ap (λ (o : Option (List Entry)). shelf ++ o ∷ []) (is ∙ ap (λ (o : Option (List Entry)). told_by (is_some o) []) new));
     legal = (nothing_legal g).0;
     fair = (nothing_legal g).1;
   },
