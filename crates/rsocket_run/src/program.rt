@@ -246,8 +246,8 @@ where
         (O.shown output.old) (O.shown output.new)) }
     ensures unlinked { result ≡ 8 → OfCall words.now (λ t. WritesSome (WasUnlinked t
         (K.moments clock.now) H.fresh (H.back shelf.old) (H.back shelf.new)
-        (N.asked net.old) (N.asked net.new) (N.back net.old) (N.back net.new) (N.faults net.old) (N.faults net.new))
-        (O.shown output.old) (O.shown output.new)) }
+        (N.asked net.old) (N.asked net.new) (N.back net.old) (N.back net.new)
+        (N.faults net.old) (N.faults net.new)) (O.shown output.old) (O.shown output.new)) }
     ensures dead { result ≡ 9 → OfCall words.now (λ t. WritesSome (FoundDead t
         (K.moments clock.now) H.fresh (H.back shelf.old) (H.back shelf.new)
         (N.asked net.old) (N.asked net.new) (N.back net.old) (N.back net.new))
