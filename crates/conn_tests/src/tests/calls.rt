@@ -8,7 +8,9 @@ ghost use Rattle.rs_wire.specs.declared.settings.Settings.{Settings};
 ghost use Rattle.session_model.specs.Legal.{CanBring};
 ghost use Rattle.session_core.specs.Seen.{IsNoDrawEvent};
 
-use super::ends::{Wanted, ask, compare, connected, frame, leave, let_go, open_server, take_of};
+use super::ends::{
+    Wanted, ask, compare, connected, frame, leave, let_event_go, let_go, open_server, take_of,
+};
 use conn::{Caller, Connection, Looked};
 use rs_wire::{Call, Job, Kind, Side};
 use std::alloc::Global;
@@ -157,6 +159,7 @@ fn try_open<R: Abort, T: Tape>(rt: &R, connection: &Connection<T>, caller: &mut 
 {
     let event = Event::opening();
     let answer = tried(rt, connection.try_event(caller, &event));
+    let_event_go(event);
     compare(rt, answer, Wanted::Opened);
 }
 

@@ -159,6 +159,9 @@ fn is(answer: &Answer, wanted: Wanted) -> bool {
 /// Lets an answer go. It is done here alone, since each place where that is done is dear to prove.
 pub fn let_go(_answer: Answer) {}
 
+/// Lets an event go, for the same reason.
+pub fn let_event_go(_event: Event) {}
+
 /// Lets a connection and a caller of it go, for the same reason.
 pub fn leave<T: Tape + Drop>(_connection: Connection<T>, _caller: Caller<T>) {}
 
@@ -181,7 +184,9 @@ pub fn bring<R: Abort + Wait, T: Tape>(
     requires no_draw { IsNoDrawEvent event }
     ensures of { caller.new.of ≡ connection.now }
 {
-    compare(rt, connection.bring(rt, caller, event), wanted);
+    let answer = connection.event(rt, caller, &event);
+    let_event_go(event);
+    compare(rt, answer, wanted);
 }
 
 /// Opens a client.
