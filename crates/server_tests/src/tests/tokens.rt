@@ -103,7 +103,7 @@ fn failing(call: u64) -> Row {
     let (served, opened) = if call == 1 {
         (Served::LinkFault, None)
     } else {
-        (Served::Parted, Some((0, 1)))
+        (Served::Parted, BEGUN.opened)
     };
     Row {
         then: FNF,
@@ -115,11 +115,11 @@ fn failing(call: u64) -> Row {
 }
 
 // The link that asks then to resume.
-fn resuming(call: u64) -> &'static Row {
+fn resuming(call: u64) -> Row {
     if call == 1 {
-        &UNKNOWN
+        UNKNOWN
     } else {
-        &RESUMED_AFTER_FNF
+        RESUMED_AFTER_FNF
     }
 }
 
@@ -136,7 +136,7 @@ fn fail_and_resume<R: Abort + Wait, T: Tape>(
     requires three { length connections.now ≡ 3 }
 {
     play(rt, alloc, connections, callers, shared, &failing(call));
-    play(rt, alloc, connections, callers, shared, resuming(call));
+    play(rt, alloc, connections, callers, shared, &resuming(call));
 }
 
 fn fail_at_each_call<R: Abort + Wait, H: Shelf>(rt: &R, alloc: Global, shelf: &mut H)
