@@ -268,6 +268,11 @@ returns-in-Ok-Load-clause-memory g c = λ six. ([], c.run_load.ensures.memory_li
 pub returns-in-Ok-Serve-clause-memory : goal.returns-in-Ok-Serve-clause-memory
 returns-in-Ok-Serve-clause-memory g c = λ six. ([], c.serve.ensures.memory six)
 
+pub returns-in-Ok-Serve-clause-served : goal.returns-in-Ok-Serve-clause-served
+returns-in-Ok-Serve-clause-served g c =
+    let asked_for : AsksServe c.args.words.now c.in-Ok-Serve.task = search rules in
+    λ zero t asks. rw (c.words_laws.ensures.one_server c.args.words.now t c.in-Ok-Serve.task asks asked_for) (c.serve.ensures.done zero)
+
 pub returns-in-Ok-Serve-clause-serve_cut_off : goal.returns-in-Ok-Serve-clause-serve_cut_off
 returns-in-Ok-Serve-clause-serve_cut_off g c =
     let asked_for : AsksServe c.args.words.now c.in-Ok-Serve.task = search rules in
