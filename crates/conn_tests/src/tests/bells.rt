@@ -2,24 +2,34 @@
 
 ghost use Rattle.std.specs.Prelude.{◌≡◌};
 
-use super::ends::{Wanted, compare, connected, leave, open};
-use super::ringing::{LONG, events_within, hearing};
+use super::ends::{connected, open};
 use conn::{Caller, Connection};
-use mio::Poll;
+use mio::{Events, Poll, Token};
 use rs_wire::Side;
 use std::alloc::Global;
 use std::net::Net;
 use std::process::Abort;
 use std::sync::Wait;
+use std::time::Duration;
 use tape::{Blank, Tape};
 
 // The poll of a link that hears the bell, and is about to sleep.
 fn about_to_sleep<R: Abort + Net + Wait, T: Tape>(rt: &R, connection: &Connection<T>) -> Poll {
+    let poll = Poll::new(rt).expect(rt, "there is a poll");
     let bell = connection.bell();
-    let poll = hearing(rt, bell);
+    bell.heard_by(rt, poll.registry(), Token(1))
+        .expect(rt, "there is a waker");
     bell.watch();
     assert!(rt; bell.begin_sleep());
     poll
+}
+
+// How many events come in the poll within 20 seconds.
+fn events_in<R: Abort>(rt: &R, alloc: Global, poll: &mut Poll) -> usize {
+    let mut events = Events::with_capacity(alloc, 4).expect(rt, "there is memory");
+    poll.poll(&mut events, Some(Duration::from_secs(20)))
+        .expect(rt, "there are events");
+    events.iter().len()
 }
 
 // Draws the SETUP of the client, which nobody waits for.
@@ -29,8 +39,7 @@ fn draw<R: Abort + Wait, T: Tape>(rt: &R, connection: &Connection<T>, caller: &m
     let bell = connection.bell();
     bell.watch();
     let mut buffer = [0; 100];
-    let answer = connection.draw(rt, caller, 1, &mut buffer);
-    compare(rt, answer, Wanted::Drawn(71));
+    assert!(rt; connection.draw(rt, caller, 1, &mut buffer).drawn() == Some(71));
     assert!(rt; bell.begin_sleep());
 }
 
@@ -41,9 +50,8 @@ fn wake_by_opening<R: Abort + Net + Wait, T: Tape + Drop>(rt: &R, alloc: Global,
     let (connection, mut caller) = connected(rt, alloc, Side::Client, tape);
     let mut poll = about_to_sleep(rt, &connection);
     open(rt, &connection, &mut caller);
-    assert!(rt; events_within(rt, alloc, &mut poll, LONG) == 1);
+    assert!(rt; events_in(rt, alloc, &mut poll) == 1);
     draw(rt, &connection, &mut caller);
-    leave(connection, caller);
 }
 
 #[test]

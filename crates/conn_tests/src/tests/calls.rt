@@ -2,17 +2,11 @@
 
 ghost use Rattle.std.specs.Prelude.{◌≡◌};
 ghost use Rattle.rs_wire.specs.declared.words.Side.TheVariants.{Client};
-ghost use Rattle.rs_wire.specs.Calls.{CanBeAsked};
 ghost use Rattle.rs_wire.specs.Settings.{usual};
-ghost use Rattle.rs_wire.specs.declared.settings.Settings.{Settings};
-ghost use Rattle.session_model.specs.Legal.{CanBring};
-ghost use Rattle.session_core.specs.Seen.{IsNoDrawEvent};
 
-use super::ends::{
-    Wanted, ask, compare, connected, frame, leave, let_event_go, let_go, open_server, take_of,
-};
+use super::ends::{ask, compare, connected, frame, open_server};
 use conn::{Caller, Connection, Looked};
-use rs_wire::{Call, Job, Kind, Side};
+use rs_wire::{Call, Job, Kind, Refusal, Side};
 use std::alloc::Global;
 use std::process::Abort;
 use std::sync::Wait;
@@ -31,11 +25,16 @@ fn take_nothing<R: Abort + Wait, T: Tape + Drop>(rt: &R, alloc: Global, tape: T)
     requires empty { T.count tape ≡ 0 }
 {
     let (connection, mut caller) = connected(rt, alloc, Side::Client, tape);
-    let call = take_of(1);
-    ask(rt, &connection, &mut caller, &call, Wanted::UnknownStream);
+    let refused = Answer::Refused(Refusal::UnknownStream);
+    ask(
+        rt,
+        &connection,
+        &mut caller,
+        &Call::Take { stream: 1 },
+        &refused,
+    );
     assert!(rt; connection.max_in() == 16_777_215);
     assert!(rt; connection.look(rt, &mut caller) == NOTHING);
-    leave(connection, caller);
 }
 
 #[test]
@@ -49,15 +48,7 @@ pub const SETUP: &[u8; 28] = b"\
     \x00\x00\x00\x00\x04\x00\x00\x01\x00\x00\x00\x00\x4e\x20\x00\x01\x5f\x90\
     \x03a/b\x03a/bhi";
 
-// A REQUEST_FNF of stream 1, without metadata and with the content `hi`.
-fn request<R: Abort>(rt: &R, alloc: Global) -> Event
-    ensures fair { (g : Settings) → CanBring g result }
-    ensures no_draw { IsNoDrawEvent result }
-{
-    Event::arrived(1, frame(rt, alloc, b"\x00\x00\x00\x01\x14\x00hi"))
-}
-
-// It comes to the server.
+// A REQUEST_FNF of stream 1, without metadata and with the content `hi`, comes to the server.
 fn arrive<R: Abort + Wait, T: Tape>(
     rt: &R,
     alloc: Global,
@@ -67,8 +58,8 @@ fn arrive<R: Abort + Wait, T: Tape>(
     requires of { caller.old.of ≡ connection.now }
     ensures of { caller.new.of ≡ connection.now }
 {
-    let event = request(rt, alloc);
-    compare(rt, connection.bring(rt, caller, event), Wanted::Handled);
+    let event = Event::arrived(1, frame(rt, alloc, b"\x00\x00\x00\x01\x14\x00hi"));
+    compare(rt, &connection.bring(rt, caller, event), &Answer::Handled);
 }
 
 // Whether the answer is the job of a fire-and-forget of `hi` on stream 1.
@@ -91,21 +82,11 @@ fn wait_job<R: Abort + Wait, T: Tape>(rt: &R, connection: &Connection<T>, caller
     requires of { caller.old.of ≡ connection.now }
     ensures of { caller.new.of ≡ connection.now }
 {
-    let answer = connection.wait_job(rt, caller);
-    assert!(rt; is_the_job(&answer));
-    let_go(answer);
+    assert!(rt; is_the_job(&connection.wait_job(rt, caller)));
 }
 
-// Stops the test where a try had no turn, and else gives its answer.
-fn tried<R: Abort>(rt: &R, answer: Option<Answer>) -> Answer {
-    answer.expect(rt, "nobody else has the turn")
-}
-
-// The call that takes a job.
-fn take_job() -> Call
-    ensures { CanBeAsked result }
-{
-    Call::TakeJob
+fn has_not_yet(answer: &Option<Answer>) -> bool {
+    matches!(answer, Some(Answer::NotYet))
 }
 
 // Tries to take a job, where there is none.
@@ -113,9 +94,7 @@ fn try_job<R: Abort, T: Tape>(rt: &R, connection: &Connection<T>, caller: &mut C
     requires of { caller.old.of ≡ connection.now }
     ensures of { caller.new.of ≡ connection.now }
 {
-    let call = take_job();
-    let answer = tried(rt, connection.try_call(caller, &call));
-    compare(rt, answer, Wanted::NotYet);
+    assert!(rt; has_not_yet(&connection.try_call(caller, &Call::TakeJob)));
 }
 
 // Waits for what comes on a stream that is not there.
@@ -126,11 +105,8 @@ fn wait_in_vain<R: Abort + Wait, T: Tape>(
 )
     requires of { caller.old.of ≡ connection.now }
 {
-    compare(
-        rt,
-        connection.wait_take(rt, caller, 3),
-        Wanted::UnknownStream,
-    );
+    let refused = Answer::Refused(Refusal::UnknownStream);
+    compare(rt, &connection.wait_take(rt, caller, 3), &refused);
 }
 
 // Brings a server its first two events, and takes what waits, which is one job.
@@ -143,12 +119,15 @@ fn take_all<R: Abort + Wait, T: Tape + Drop>(rt: &R, alloc: Global, tape: T)
     wait_job(rt, &connection, &mut caller);
     try_job(rt, &connection, &mut caller);
     wait_in_vain(rt, &connection, &mut caller);
-    leave(connection, caller);
 }
 
 #[test]
 fn what_waits_is_taken_at_once(rt: HostRuntime) {
     take_all(&rt, rt.alloc(), Blank::new());
+}
+
+fn has_opened(answer: &Option<Answer>) -> bool {
+    matches!(answer, Some(Answer::Opened(1)))
 }
 
 // Opens a client by a try.
@@ -158,9 +137,11 @@ fn try_open<R: Abort, T: Tape>(rt: &R, connection: &Connection<T>, caller: &mut 
     ensures of { caller.new.of ≡ connection.now }
 {
     let event = Event::opening();
-    let answer = tried(rt, connection.try_event(caller, &event));
-    let_event_go(event);
-    compare(rt, answer, Wanted::Opened);
+    assert!(rt; has_opened(&connection.try_event(caller, &event)));
+}
+
+fn has_drawn(answer: &Option<Answer>) -> bool {
+    matches!(answer, Some(Answer::Drawn(71)))
 }
 
 // Draws the SETUP of the client by a try: 68 bytes after their length of 3.
@@ -168,8 +149,7 @@ fn try_draw<R: Abort, T: Tape>(rt: &R, connection: &Connection<T>, caller: &mut 
     requires of { caller.old.of ≡ connection.now }
 {
     let mut buffer = [0; 100];
-    let answer = tried(rt, connection.try_draw(caller, 1, &mut buffer));
-    compare(rt, answer, Wanted::Drawn(71));
+    assert!(rt; has_drawn(&connection.try_draw(caller, 1, &mut buffer)));
 }
 
 #[test]
@@ -177,5 +157,4 @@ fn a_try_has_its_turn_where_nobody_else_has(rt: HostRuntime) {
     let (connection, mut caller) = connected(&rt, rt.alloc(), Side::Client, Blank::new());
     try_open(&rt, &connection, &mut caller);
     try_draw(&rt, &connection, &mut caller);
-    leave(connection, caller);
 }

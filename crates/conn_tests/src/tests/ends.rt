@@ -4,14 +4,13 @@ ghost use Rattle.std.specs.Prelude.{◌≡◌, ◌<◌, ◌^◌, [], length};
 ghost use Rattle.rs_wire.specs.declared.words.Side.TheVariants.{Client, Server};
 ghost use Rattle.rs_wire.specs.Calls.{CanBeAsked};
 ghost use Rattle.rs_wire.specs.Settings.{usual};
-ghost use Rattle.rs_wire.specs.declared.settings.Settings.{Settings};
 ghost use Rattle.rs_frame.specs.Spelling.{IsSpellable};
 ghost use Rattle.session_model.specs.Legal.{CanBring};
 ghost use Rattle.session_core.specs.Seen.{IsNoDrawEvent};
 
 use conn::{Caller, Connection};
 use rs_frame::{Frame, decode};
-use rs_wire::{Blob, Call, Checked, Delivery, Refusal, Settings, Side, check};
+use rs_wire::{Blob, Call, Checked, Settings, Side, check};
 use session_core::Session;
 use std::alloc::Global;
 use std::process::Abort;
@@ -89,12 +88,16 @@ pub fn one_more<R: Abort + Wait, T: Tape>(
     connection.split(rt, caller).expect(rt, "there are parts")
 }
 
-/// The tape of a connection, whose caller has all parts again.
-pub fn close<R: Abort, T: Tape + Drop>(rt: &R, connection: Connection<T>, caller: Caller<T>) -> T
+/// The session of a connection, whose caller has all parts again.
+pub fn close<R: Abort, T: Tape + Drop>(
+    rt: &R,
+    connection: Connection<T>,
+    caller: Caller<T>,
+) -> Session<T>
     requires of { caller.of ≡ connection }
 {
     match connection.close(caller) {
-        Ok(session) => session.into_tape(),
+        Ok(session) => session,
         Err(_) => panic!(rt; "all parts are there"),
     }
 }
@@ -115,60 +118,9 @@ pub fn frame<R: Abort>(rt: &R, alloc: Global, bytes: &[u8]) -> Frame
     }
 }
 
-/// An answer that is wanted.
-#[derive(Clone, Copy)]
-pub enum Wanted {
-    /// Connection 1 is opened.
-    Opened,
-    /// The stream of this id is started.
-    Started(u32),
-    Handled,
-    Done,
-    /// A job.
-    Job,
-    /// The end of a stream.
-    Complete,
-    /// So many bytes are drawn.
-    Drawn(u32),
-    NotYet,
-    /// The call is refused, since its stream is not there.
-    UnknownStream,
-}
-
-fn is_started(answer: &Answer, wanted: u32) -> bool {
-    match answer {
-        Answer::Started(id) => *id == wanted,
-        _ => false,
-    }
-}
-
-fn is(answer: &Answer, wanted: Wanted) -> bool {
-    match wanted {
-        Wanted::Opened => matches!(answer, Answer::Opened(1)),
-        Wanted::Started(id) => is_started(answer, id),
-        Wanted::Handled => matches!(answer, Answer::Handled),
-        Wanted::Done => matches!(answer, Answer::Done),
-        Wanted::Job => matches!(answer, Answer::GotJob(_)),
-        Wanted::Complete => matches!(answer, Answer::Got(Delivery::Complete)),
-        Wanted::Drawn(count) => answer.drawn() == Some(count),
-        Wanted::NotYet => matches!(answer, Answer::NotYet),
-        Wanted::UnknownStream => matches!(answer, Answer::Refused(Refusal::UnknownStream)),
-    }
-}
-
-/// Lets an answer go. It is done here alone, since each place where that is done is dear to prove.
-pub fn let_go(_answer: Answer) {}
-
-/// Lets an event go, for the same reason.
-pub fn let_event_go(_event: Event) {}
-
-/// Lets a connection and a caller of it go, for the same reason.
-pub fn leave<T: Tape + Drop>(_connection: Connection<T>, _caller: Caller<T>) {}
-
 /// Stops the test where an answer is another than the wanted one.
-pub fn compare<R: Abort>(rt: &R, answer: Answer, wanted: Wanted) {
-    assert!(rt; is(&answer, wanted));
-    let_go(answer);
+pub fn compare<R: Abort>(rt: &R, answer: &Answer, wanted: &Answer) {
+    assert_eq!(rt; *answer, *wanted);
 }
 
 /// Brings an event, to which the answer is the wanted one.
@@ -176,17 +128,15 @@ pub fn bring<R: Abort + Wait, T: Tape>(
     rt: &R,
     connection: &Connection<T>,
     caller: &mut Caller<T>,
-    event: Event,
-    wanted: Wanted,
+    event: &Event,
+    wanted: &Answer,
 )
     requires of { caller.old.of ≡ connection.now }
-    requires fair { CanBring connection.now.settings event }
-    requires no_draw { IsNoDrawEvent event }
+    requires fair { CanBring connection.now.settings event.now }
+    requires no_draw { IsNoDrawEvent event.now }
     ensures of { caller.new.of ≡ connection.now }
 {
-    let answer = connection.event(rt, caller, &event);
-    let_event_go(event);
-    compare(rt, answer, wanted);
+    compare(rt, &connection.event(rt, caller, event), wanted);
 }
 
 /// Opens a client.
@@ -195,16 +145,7 @@ pub fn open<R: Abort + Wait, T: Tape>(rt: &R, client: &Connection<T>, caller: &m
     requires side { client.now.settings.side ≡ Client }
     ensures of { caller.new.of ≡ client.now }
 {
-    bring(rt, client, caller, Event::opening(), Wanted::Opened);
-}
-
-// The event of a server that is opened by the frame that the bytes spell.
-fn opened_by<R: Abort>(rt: &R, alloc: Global, bytes: &[u8]) -> Event
-    requires short { length bytes.now < 2 ^ 24 }
-    ensures fair { (g : Settings) → g.side ≡ Server → CanBring g result }
-    ensures no_draw { IsNoDrawEvent result }
-{
-    Event::opened_by(frame(rt, alloc, bytes))
+    bring(rt, client, caller, &Event::opening(), &Answer::Opened(1));
 }
 
 /// Opens a server by the SETUP that the bytes spell.
@@ -220,8 +161,8 @@ pub fn open_server<R: Abort + Wait, T: Tape>(
     requires short { length setup.now < 2 ^ 24 }
     ensures of { caller.new.of ≡ server.now }
 {
-    let event = opened_by(rt, alloc, setup);
-    bring(rt, server, caller, event, Wanted::Opened);
+    let event = Event::opened_by(frame(rt, alloc, setup));
+    bring(rt, server, caller, &event, &Answer::Opened(1));
 }
 
 /// Asks, to which the answer is the wanted one.
@@ -230,18 +171,11 @@ pub fn ask<R: Abort + Wait, T: Tape>(
     connection: &Connection<T>,
     caller: &mut Caller<T>,
     call: &Call,
-    wanted: Wanted,
+    wanted: &Answer,
 )
     requires of { caller.old.of ≡ connection.now }
     requires askable { CanBeAsked call.now }
     ensures of { caller.new.of ≡ connection.now }
 {
-    compare(rt, connection.call(rt, caller, call), wanted);
-}
-
-/// The call that takes from this stream.
-pub fn take_of(stream: u32) -> Call
-    ensures { CanBeAsked result }
-{
-    Call::Take { stream }
+    compare(rt, &connection.call(rt, caller, call), wanted);
 }

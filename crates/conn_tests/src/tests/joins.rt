@@ -4,7 +4,7 @@ ghost use Rattle.std.specs.Prelude.{◌≡◌, ◌<◌, ℕ};
 ghost use Rattle.conn_lock.specs.Callers.{calls, times};
 ghost use Rattle.conn_shared.specs.Lines.{who_of};
 
-use super::ends::{Wanted, ask, close, connected, one_more, take_of};
+use super::ends::{ask, close, connected, one_more};
 use conn::{Caller, Connection};
 use rs_wire::{Call, Refusal, Side};
 use std::alloc::Global;
@@ -22,8 +22,8 @@ fn take<R: Abort + Wait, T: Tape>(
     requires of { caller.old.of ≡ connection.now }
     ensures of { caller.new.of ≡ connection.now }
 {
-    let call = take_of(stream);
-    ask(rt, connection, caller, &call, Wanted::UnknownStream);
+    let refused = Answer::Refused(Refusal::UnknownStream);
+    ask(rt, connection, caller, &Call::Take { stream }, &refused);
 }
 
 // Joins two callers: each entry of either is in the front.
@@ -98,7 +98,7 @@ fn close_after_takes<R: Abort + Wait, T: Tape + Drop>(rt: &R, alloc: Global, tap
 {
     let (connection, mut caller) = connected(rt, alloc, Side::Client, tape);
     take_in_turns(rt, &connection, &mut caller, again);
-    check_tape(rt, &close(rt, connection, caller), again);
+    check_tape(rt, close(rt, connection, caller).tape(), again);
 }
 
 #[test]

@@ -6,7 +6,7 @@ ghost use Rattle.rs_wire.specs.declared.words.Side.TheVariants.{Client, Server};
 ghost use Rattle.rs_wire.specs.Calls.{CanBeAsked};
 ghost use Rattle.rs_wire.specs.Settings.{usual};
 
-use super::ends::{Wanted, ask, blob, compare, connected, let_go, one_more, open, open_server};
+use super::ends::{ask, blob, connected, one_more, open, open_server};
 use super::ways::carry;
 use conn::{Caller, Connection};
 use rs_chunk::Reader;
@@ -42,6 +42,10 @@ fn request(content: Blob) -> Call
     }
 }
 
+fn is_started(answer: &Answer) -> bool {
+    matches!(answer, Answer::Started(1))
+}
+
 // Asks for a stream.
 fn begin<R: Abort + Wait, T: Tape>(
     rt: &R,
@@ -53,8 +57,7 @@ fn begin<R: Abort + Wait, T: Tape>(
     ensures of { asker.new.of ≡ client.now }
 {
     let call = request(blob(rt, alloc, b"hi"));
-    let answer = client.call(rt, asker, &call);
-    compare(rt, answer, Wanted::Started(1));
+    assert!(rt; is_started(&client.call(rt, asker, &call)));
 }
 
 // What a client draws first.
@@ -67,8 +70,7 @@ fn draw_first<R: Abort + Wait, T: Tape>(
     ensures of { caller.new.of ≡ client.now }
 {
     let mut first = [0; FIRST];
-    let answer = client.draw(rt, caller, 1, &mut first);
-    compare(rt, answer, Wanted::Drawn(71));
+    assert!(rt; client.draw(rt, caller, 1, &mut first).drawn() == Some(71));
     first
 }
 
@@ -80,13 +82,6 @@ fn wait_until<R: Wait>(rt: &R, taken: &AtomicU32, count: u32) {
         }
         thread::yield_now();
     }
-}
-
-// The call that grants so many items.
-fn grant(n: Amount) -> Call
-    ensures { CanBeAsked result }
-{
-    Call::Grant { stream: 1, n }
 }
 
 // Grants as many items as were granted before, each time that those are taken.
@@ -102,8 +97,8 @@ fn grant_all<R: Abort + Wait, T: Tape>(
     let n = Amount::of(GRANTED).expect(rt, "an amount");
     for round in 1..ITEMS / GRANTED {
         wait_until(rt, taken, GRANTED * round);
-        let call = grant(n);
-        ask(rt, client, &mut granter, &call, Wanted::Done);
+        let call = Call::Grant { stream: 1, n };
+        ask(rt, client, &mut granter, &call, &Answer::Done);
     }
 }
 
@@ -127,9 +122,11 @@ fn take_item<R: Abort + Wait, T: Tape>(
     requires of { asker.old.of ≡ client.now }
     ensures of { asker.new.of ≡ client.now }
 {
-    let answer = client.wait_take(rt, asker, 1);
-    assert!(rt; is_item(&answer, number));
-    let_go(answer);
+    assert!(rt; is_item(&client.wait_take(rt, asker, 1), number));
+}
+
+fn is_end(answer: &Answer) -> bool {
+    matches!(answer, Answer::Got(Delivery::Complete))
 }
 
 // Takes all items, and then the end of the stream, which counts as one more.
@@ -146,7 +143,7 @@ fn take_items<R: Abort + Wait, T: Tape>(
         take_item(rt, client, &mut asker, number);
         taken.fetch_add(1, Ordering::SeqCst);
     }
-    compare(rt, client.wait_take(rt, &mut asker, 1), Wanted::Complete);
+    assert!(rt; is_end(&client.wait_take(rt, &mut asker, 1)));
     taken.fetch_add(1, Ordering::SeqCst);
 }
 
@@ -155,10 +152,9 @@ fn has_no_credit(answer: &Answer) -> bool {
 }
 
 // Whether an item is sent. Where it is not, there is no credit for it yet: no other refusal passes.
-fn is_sent<R: Abort>(rt: &R, answer: Answer) -> bool {
+fn is_sent<R: Abort>(rt: &R, answer: &Answer) -> bool {
     let is_done = matches!(answer, Answer::Done);
-    assert!(rt; is_done || has_no_credit(&answer));
-    let_go(answer);
+    assert!(rt; is_done || has_no_credit(answer));
     is_done
 }
 
@@ -174,7 +170,7 @@ fn send<R: Abort + Wait, T: Tape>(
     ensures of { answerer.new.of ≡ server.now }
 {
     for _ in rt.forever() {
-        if is_sent(rt, server.call(rt, answerer, item)) {
+        if is_sent(rt, &server.call(rt, answerer, item)) {
             return;
         }
         thread::yield_now();
@@ -196,6 +192,10 @@ fn item<R: Abort>(rt: &R, alloc: Global, number: u32) -> Call
     }
 }
 
+fn is_job(answer: &Answer) -> bool {
+    matches!(answer, Answer::GotJob(_))
+}
+
 // Waits for the request, and sends all items.
 fn send_items<R: Abort + Wait, T: Tape>(
     rt: &R,
@@ -206,7 +206,7 @@ fn send_items<R: Abort + Wait, T: Tape>(
     requires of { answerer.of ≡ server.now }
 {
     let mut answerer = answerer;
-    compare(rt, server.wait_job(rt, &mut answerer), Wanted::Job);
+    assert!(rt; is_job(&server.wait_job(rt, &mut answerer)));
     for number in 0..ITEMS {
         let item = item(rt, alloc, number);
         send(rt, server, &mut answerer, &item);

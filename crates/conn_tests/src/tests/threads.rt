@@ -3,7 +3,7 @@
 ghost use Rattle.std.specs.Prelude.{◌≡◌, ◌<◌, ◌*◌};
 ghost use Rattle.rs_wire.specs.Calls.{CanBeAsked};
 
-use super::ends::{Wanted, ask, blob, close, connected, let_go, one_more, open};
+use super::ends::{ask, blob, close, connected, one_more, open};
 use conn::{Caller, Connection};
 use rs_wire::{Call, Cause, Refusal, Side};
 use std::alloc::Global;
@@ -31,7 +31,7 @@ fn ask_often<R: Wait, T: Tape>(
 {
     let mut caller = caller;
     for _ in 0..TIMES {
-        let_go(connection.call(rt, &mut caller, call));
+        connection.call(rt, &mut caller, call);
     }
     caller
 }
@@ -108,7 +108,8 @@ fn share<R: Abort + Threads + Wait + Sync, T: Tape + Drop + Send>(rt: &R, alloc:
     let other = one_more(rt, &connection, &mut caller);
     let call = Call::fire_and_forget(blob(rt, alloc, b"hi"));
     let caller = ask_in_two(rt, &connection, caller, other, &call);
-    check_calls(rt, &close(rt, connection, caller));
+    let session = close(rt, connection, caller);
+    check_calls(rt, session.tape());
 }
 
 #[test]
@@ -126,16 +127,7 @@ fn wait_in_vain<R: Abort + Wait, T: Tape>(rt: &R, connection: &Connection<T>, wa
     requires of { waiter.of ≡ connection.now }
 {
     let mut waiter = waiter;
-    let answer = connection.wait_job(rt, &mut waiter);
-    assert!(rt; is_closed(&answer));
-    let_go(answer);
-}
-
-// The call that closes a session.
-fn close_call() -> Call
-    ensures { CanBeAsked result }
-{
-    Call::Close
+    assert!(rt; is_closed(&connection.wait_job(rt, &mut waiter)));
 }
 
 // Closes the session, for which the other caller wakes.
@@ -143,8 +135,7 @@ fn wake<R: Abort + Wait, T: Tape>(rt: &R, connection: &Connection<T>, closer: Ca
     requires of { closer.of ≡ connection.now }
 {
     let mut closer = closer;
-    let call = close_call();
-    ask(rt, connection, &mut closer, &call, Wanted::Done);
+    ask(rt, connection, &mut closer, &Call::Close, &Answer::Done);
 }
 
 // One caller waits in this thread, and the other closes in a thread that is started for it, so that

@@ -3,7 +3,7 @@
 ghost use Rattle.std.specs.Prelude.{◌≡◌};
 
 use super::calls::SETUP;
-use super::ends::{blob, connected, connected_as, leave, open, open_server};
+use super::ends::{blob, connected, connected_as, open, open_server};
 use conn::{Caller, Connection};
 use rs_wire::{Blob, Checked, Settings, Side, check};
 use std::alloc::Global;
@@ -67,7 +67,6 @@ fn hold_token<R: Abort + Wait, T: Tape + Drop>(rt: &R, alloc: Global, tape: T)
     assert!(rt; holds(rt, alloc, &server, &mut caller, TOKEN));
     assert!(rt; !holds(rt, alloc, &server, &mut caller, b"tok2"));
     assert!(rt; !holds(rt, alloc, &server, &mut caller, b"tok"));
-    leave(server, caller);
 }
 
 #[test]
@@ -84,7 +83,6 @@ fn hold_none<R: Abort + Wait, T: Tape + Drop>(rt: &R, alloc: Global, tape: T)
     open_server(rt, alloc, &server, &mut caller, SETUP);
     assert!(rt; !holds(rt, alloc, &server, &mut caller, TOKEN));
     assert!(rt; !holds(rt, alloc, &server, &mut caller, b""));
-    leave(server, caller);
 }
 
 #[test]
@@ -101,7 +99,6 @@ fn hold_own<R: Abort + Wait, T: Tape + Drop>(rt: &R, alloc: Global, tape: T)
     open(rt, &client, &mut caller);
     assert!(rt; client.resumes());
     assert!(rt; !holds(rt, alloc, &client, &mut caller, TOKEN));
-    leave(client, caller);
 }
 
 #[test]
@@ -113,10 +110,8 @@ fn a_client_resumes_and_holds_no_token(rt: HostRuntime) {
 fn usual_resumes<R: Abort, T: Tape + Drop>(rt: &R, alloc: Global, side: Side, tape: T) -> bool
     requires empty { T.count tape ≡ 0 }
 {
-    let (connection, caller) = connected(rt, alloc, side, tape);
-    let resumes = connection.resumes();
-    leave(connection, caller);
-    resumes
+    let (connection, _caller) = connected(rt, alloc, side, tape);
+    connection.resumes()
 }
 
 #[test]

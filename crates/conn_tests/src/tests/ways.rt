@@ -3,7 +3,7 @@
 ghost use Rattle.std.specs.Prelude.{◌≡◌, IfSome};
 ghost use Rattle.rs_frame.specs.Spelling.{IsSpellable};
 
-use super::ends::{Wanted, compare, frame, let_go};
+use super::ends::frame;
 use conn::{Caller, Connection};
 use rs_chunk::{Front, Reader};
 use rs_frame::Frame;
@@ -11,7 +11,7 @@ use std::alloc::Global;
 use std::process::Abort;
 use std::sync::Wait;
 use std::thread;
-use tape::{Event, Tape};
+use tape::{Answer, Event, Tape};
 
 /// How many bytes are drawn at once.
 const ROOM: usize = 4096;
@@ -29,6 +29,10 @@ fn next_frame<R: Abort>(rt: &R, alloc: Global, reader: &mut Reader) -> Option<Fr
     Some(next)
 }
 
+fn is_handled(answer: &Answer) -> bool {
+    matches!(answer, Answer::Handled)
+}
+
 // Brings a frame.
 fn bring<R: Abort + Wait, T: Tape>(
     rt: &R,
@@ -40,8 +44,8 @@ fn bring<R: Abort + Wait, T: Tape>(
     requires spellable { IsSpellable frame }
     ensures of { bringer.new.of ≡ to.now }
 {
-    let answer = to.bring(rt, bringer, Event::arrived(1, frame));
-    compare(rt, answer, Wanted::Handled);
+    let event = Event::arrived(1, frame);
+    assert!(rt; is_handled(&to.event(rt, bringer, &event)));
 }
 
 // Brings each whole frame.
@@ -75,9 +79,7 @@ fn draw_some<R: Abort + Wait, T: Tape>(
     ensures of { drawer.new.of ≡ from.now }
 {
     let mut buffer = [0; ROOM];
-    let answer = from.draw(rt, drawer, 1, &mut buffer);
-    let count = answer.drawn().unwrap_or(0);
-    let_go(answer);
+    let count = from.draw(rt, drawer, 1, &mut buffer).drawn().unwrap_or(0);
     let piece = buffer.get(..count as usize).expect(rt, "within the buffer");
     reader.feed(piece).expect(rt, "there is memory");
     count
