@@ -3,8 +3,12 @@ use Rattle.std.specs.Prelude.{◌≡◌, ℕ, ◌+◌, ◌<◌, ◌≤◌, ◌^�
 use Rattle.std.specs.List.{flat_map, AllByRecursion}
 use Rattle.byteorder.specs.Endian.{big_number}
 use Rattle.rs_frame.specs.Framed.{framed}
+use Rattle.rs_frame.specs.Spelling.{Spells, IsSpellable}
+use Rattle.rs_frame.specs.Views.{BreaksRule, frame_view}
 use Rattle.rs_chunk.specs.declared.front.Front.{Front}
 use Rattle.rs_chunk.specs.declared.front.Front.TheVariants.{Whole, TooLong, Part}
+use Rattle.rs_chunk.specs.declared.front.FrontView.{FrontView}
+use Rattle.rs_chunk.specs.declared.front.FrontView.TheVariants as views
 
 -- the bytes begin with a length field, and the length in it
 abbrev pub HasLength : List ℕ → Type 0
@@ -38,6 +42,13 @@ abbrev pub IsFront : List ℕ → ℕ → Front → Type 0
 IsFront bytes most (Whole frame) = IsWhole bytes most × (frame.now ≡ first_frame bytes)
 IsFront bytes most (TooLong len) = IsTooLong bytes most × (len ≡ first_length bytes)
 IsFront bytes most Part = (¬ (IsWhole bytes most)) × (¬ (IsTooLong bytes most))
+
+-- what stands there, where the frame lies in the bytes
+abbrev pub IsFrontView : List ℕ → ℕ → FrontView → Type 0
+IsFrontView bytes most (views.Frame f) = IsWhole bytes most × Spells (frame_view f) (first_frame bytes) × IsSpellable (frame_view f)
+IsFrontView bytes most (views.Wrong n) = IsWhole bytes most × BreaksRule n (first_frame bytes)
+IsFrontView bytes most (views.TooLong len) = IsTooLong bytes most × (len ≡ first_length bytes)
+IsFrontView bytes most views.Part = (¬ (IsWhole bytes most)) × (¬ (IsTooLong bytes most))
 
 -- the bytes are these frames, each after its length, and then a rest
 pub record IsCut (bytes : List ℕ) (frames : List (List ℕ)) (rest : List ℕ) : Type 0 where

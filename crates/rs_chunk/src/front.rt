@@ -2,15 +2,30 @@
 
 ghost use Rattle.std.specs.Prelude.{◌≡◌, ◌<◌, ◌^◌, ◌++◌, [], ◌∷◌, ℕ, List, length, None, IfSome};
 ghost use Rattle.rs_frame.specs.Framed.{framed};
-ghost use Rattle.rs_chunk.specs.Stream.{HasFrame, IsCut, IsFront, after_frame, first_frame};
+ghost use Rattle.rs_chunk.specs.Stream.{HasFrame, IsCut, IsFront, IsFrontView, after_frame, first_frame};
 
 use byteorder::{BigEndian, ByteOrder};
+use rs_frame::{FrameRef, view};
 
 /// What bytes of a stream begin with.
 #[derive(Clone, Copy)]
 pub enum Front<'a> {
     /// The first frame, whole and within the limit, without its length.
     Whole(&'a [u8]),
+    /// The length of the first frame, in bytes, which is above the limit. It can never be passed.
+    TooLong(u32),
+    /// Fewer bytes than a length field, or a frame within the limit that is not whole yet.
+    Part,
+}
+
+/// What bytes of a stream begin with, where the frame lies in them.
+#[derive(Clone, Copy)]
+pub enum FrontView<'a> {
+    /// The first frame, whole and within the limit.
+    Frame(FrameRef<'a>),
+    /// The number of the least rule that the first frame breaks, from 1 to 9; it is whole and within
+    /// the limit.
+    Wrong(u8),
     /// The length of the first frame, in bytes, which is above the limit. It can never be passed.
     TooLong(u32),
     /// Fewer bytes than a length field, or a frame within the limit that is not whole yet.
@@ -56,5 +71,19 @@ pub(crate) fn front_of(bytes: &[u8], max_in: u32) -> Front<'_>
     match split_frame(bytes) {
         Some((frame, _)) => Front::Whole(frame),
         None => Front::Part,
+    }
+}
+
+/// What the bytes begin with, where a frame may have `max_in` bytes and is read as it lies in them.
+pub(crate) fn front_view_of(bytes: &[u8], max_in: u32) -> FrontView<'_>
+    ensures { IsFrontView bytes.now max_in result }
+{
+    match front_of(bytes, max_in) {
+        Front::Whole(frame) => match view(frame) {
+            Ok(frame) => FrontView::Frame(frame),
+            Err(rule) => FrontView::Wrong(rule),
+        },
+        Front::TooLong(length) => FrontView::TooLong(length),
+        Front::Part => FrontView::Part,
     }
 }

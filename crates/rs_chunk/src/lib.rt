@@ -18,7 +18,7 @@ mod laws;
 mod reader;
 mod writing;
 
-pub use front::{Front, split_frame};
+pub use front::{Front, FrontView, split_frame};
 pub use laws::stream_laws;
 pub use reader::Reader;
 pub use writing::{frame_bytes, frames_bytes, item_bytes, request_bytes};

@@ -2,9 +2,9 @@
 
 ghost use Rattle.std.specs.Prelude.{◌≡◌, ◌++◌, [], ◌∷◌, ℕ, List, OnOk, OnErr};
 ghost use Rattle.rs_frame.specs.Framed.{framed};
-ghost use Rattle.rs_chunk.specs.Stream.{IsCut, IsFront, IsWhole, Reads, after_frame, first_frame};
+ghost use Rattle.rs_chunk.specs.Stream.{IsCut, IsFront, IsFrontView, IsWhole, Reads, after_frame, first_frame};
 
-use crate::front::{Front, front_of, split_frame};
+use crate::front::{Front, FrontView, front_of, front_view_of, split_frame};
 use byte_queue::ByteQueue;
 use rs_wire::OutOfMemory;
 use std::alloc::Global;
@@ -61,6 +61,13 @@ impl Reader {
             IsCut fed passed self.now.bytes → Reads fed passed self.now.bytes }
     {
         front_of(self.bytes.as_slice(), self.max_in)
+    }
+
+    /// What the bytes left begin with, with the frame read as it lies in them. It takes no memory.
+    pub fn front_view(&self) -> FrontView<'_>
+        ensures { IsFrontView self.now.bytes self.now.max_in result }
+    {
+        front_view_of(self.bytes.as_slice(), self.max_in)
     }
 
     /// Drops the frame at the front, which is whole and within the limit: [`Reader::front`] is the

@@ -4,17 +4,17 @@
 //! |---|---|---|---|
 //! | 0x09 | | above 0 | none |
 
-ghost use Rattle.rs_frame.specs.Rules.{Gives};
+ghost use Rattle.rs_frame.specs.Views.{Shows};
 ghost use Rattle.rs_frame.specs.Reading.{cancel_at};
 
 use crate::fault::FrameFault;
-use crate::frame::Frame;
+use crate::frame_ref::FrameRef;
 use crate::header::Header;
 
 /// The CANCEL with this header and nothing after it, or the least rule that is broken.
 #[tactic(auto, unfolding(crate::specs::Reading::cancel_at))]
-pub fn read(header: Header, body: &[u8]) -> Result<Frame, FrameFault>
-    ensures { Gives result (cancel_at header.stream body.now) }
+pub fn find(header: Header, body: &[u8]) -> Result<FrameRef<'_>, FrameFault>
+    ensures { Shows result (cancel_at header.stream body.now) }
 {
     if header.stream == 0 {
         return Err(FrameFault::WrongStream);
@@ -22,7 +22,7 @@ pub fn read(header: Header, body: &[u8]) -> Result<Frame, FrameFault>
     if !body.is_empty() {
         return Err(FrameFault::LongBody);
     }
-    Ok(Frame::Cancel {
+    Ok(FrameRef::Cancel {
         stream: header.stream,
     })
 }

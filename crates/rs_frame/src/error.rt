@@ -6,30 +6,28 @@
 
 ghost use Rattle.std.specs.Prelude.{◌≡◌, ◌+◌, ◌≤◌, ◌++◌, length, vec_len, vec_capacity};
 ghost use Rattle.byteorder.specs.Endian.{big_bytes};
-ghost use Rattle.rs_frame.specs.Rules.{Gives};
+ghost use Rattle.rs_frame.specs.Views.{Shows};
 ghost use Rattle.rs_frame.specs.Reading.{error_at};
 
 use crate::cursor::{put, put_u32};
 use crate::fault::FrameFault;
-use crate::frame::Frame;
+use crate::frame_ref::FrameRef;
 use crate::header::Header;
 use byteorder::{BigEndian, ByteOrder};
 use rs_wire::Blob;
-use std::alloc::Global;
 
 /// The ERROR with this header and these fields, or the least rule that is broken. Any code is taken.
 #[tactic(auto, unfolding(crate::specs::Reading::error_at))]
-pub fn read(alloc: Global, header: Header, body: &[u8]) -> Result<Frame, FrameFault>
-    ensures { Gives result (error_at header.stream body.now) }
+pub fn find(header: Header, body: &[u8]) -> Result<FrameRef<'_>, FrameFault>
+    ensures { Shows result (error_at header.stream body.now) }
 {
     if body.len() < 4 {
         return Err(FrameFault::ShortBody);
     }
-    let content = Blob::from_slice(alloc, &body[4..])?;
-    Ok(Frame::Error {
+    Ok(FrameRef::Error {
         stream: header.stream,
         code: BigEndian::read_u32(body),
-        content,
+        content: &body[4..],
     })
 }
 

@@ -6,21 +6,20 @@
 
 ghost use Rattle.std.specs.Prelude.{◌≡◌, ◌+◌, ◌<◌, ◌≤◌, ◌^◌, ◌++◌, ◌↔◌, IsTrue, length, vec_len, vec_capacity};
 ghost use Rattle.byteorder.specs.Endian.{big_bytes};
-ghost use Rattle.rs_frame.specs.Rules.{Gives};
+ghost use Rattle.rs_frame.specs.Views.{Shows};
 ghost use Rattle.rs_frame.specs.Reading.{ext_at};
 
 use crate::cursor::{is_31, put, put_u32};
 use crate::fault::FrameFault;
-use crate::frame::Frame;
+use crate::frame_ref::FrameRef;
 use crate::header::Header;
 use byteorder::{BigEndian, ByteOrder};
 use rs_wire::Blob;
-use std::alloc::Global;
 
 /// The EXT with this header and these fields, or the least rule that is broken.
 #[tactic(auto, unfolding(crate::specs::Reading::ext_at))]
-pub fn read(alloc: Global, header: Header, body: &[u8]) -> Result<Frame, FrameFault>
-    ensures { Gives result (ext_at header.stream header.flags body.now) }
+pub fn find(header: Header, body: &[u8]) -> Result<FrameRef<'_>, FrameFault>
+    ensures { Shows result (ext_at header.stream header.flags body.now) }
 {
     if body.len() < 4 {
         return Err(FrameFault::ShortBody);
@@ -29,12 +28,11 @@ pub fn read(alloc: Global, header: Header, body: &[u8]) -> Result<Frame, FrameFa
     if extended >= 0x8000_0000 {
         return Err(FrameFault::HighBit);
     }
-    let rest = Blob::from_slice(alloc, &body[4..])?;
-    Ok(Frame::Ext {
+    Ok(FrameRef::Ext {
         stream: header.stream,
         flags: header.flags,
         extended,
-        rest,
+        rest: &body[4..],
     })
 }
 

@@ -6,25 +6,24 @@
 
 ghost use Rattle.std.specs.Prelude.{◌≡◌, ◌+◌, ◌<◌, ◌≤◌, ◌^◌, ◌++◌, length, vec_len, vec_capacity};
 ghost use Rattle.byteorder.specs.Endian.{big_bytes};
-ghost use Rattle.rs_frame.specs.Rules.{Gives};
+ghost use Rattle.rs_frame.specs.Views.{Shows};
 ghost use Rattle.rs_frame.specs.Reading.{keepalive_at};
 ghost use Rattle.rs_frame.specs.Spelling.{bit_if};
 
 use crate::cursor::{put, put_u64};
 use crate::fault::FrameFault;
-use crate::frame::Frame;
+use crate::frame_ref::FrameRef;
 use crate::header::{Header, bit};
 use byteorder::{BigEndian, ByteOrder};
 use rs_wire::Blob;
-use std::alloc::Global;
 
 /// The flag R: the sender asks for an answer.
 const RESPOND: u16 = 0x80;
 
 /// The KEEPALIVE with this header and these fields, or the least rule that is broken.
 #[tactic(auto, unfolding(crate::specs::Reading::keepalive_at))]
-pub fn read(alloc: Global, header: Header, body: &[u8]) -> Result<Frame, FrameFault>
-    ensures { Gives result (keepalive_at header.stream header.flags body.now) }
+pub fn find(header: Header, body: &[u8]) -> Result<FrameRef<'_>, FrameFault>
+    ensures { Shows result (keepalive_at header.stream header.flags body.now) }
 {
     if header.stream != 0 {
         return Err(FrameFault::WrongStream);
@@ -36,11 +35,10 @@ pub fn read(alloc: Global, header: Header, body: &[u8]) -> Result<Frame, FrameFa
     if position >= 0x8000_0000_0000_0000 {
         return Err(FrameFault::HighBit);
     }
-    let content = Blob::from_slice(alloc, &body[8..])?;
-    Ok(Frame::Keepalive {
+    Ok(FrameRef::Keepalive {
         respond: header.has(RESPOND),
         position,
-        content,
+        content: &body[8..],
     })
 }
 

@@ -6,18 +6,17 @@
 
 ghost use Rattle.std.specs.Prelude.{◌≡◌, ◌+◌, ◌<◌, ◌≤◌, ◌^◌, ◌++◌, ◌↔◌, Some, None, IsTrue, is_some, length, vec_len, vec_capacity, if◌then◌else◌};
 ghost use Rattle.std.specs.Option.{option_map};
-ghost use Rattle.rs_frame.specs.Rules.{Gives};
+ghost use Rattle.rs_frame.specs.Views.{Shows};
 ghost use Rattle.rs_frame.specs.Reading.{lease_at};
 ghost use Rattle.rs_frame.specs.Spelling.{bit_if, body_of, to_end};
+ghost use Rattle.rs_frame.specs.declared.frame.Frame.{Frame};
 
 use crate::cursor::{is_31, put, put_u32};
 use crate::fault::FrameFault;
-use crate::frame::Frame;
+use crate::frame_ref::FrameRef;
 use crate::header::{Header, METADATA, bit};
-use crate::parts::owned_option;
 use byteorder::{BigEndian, ByteOrder};
 use rs_wire::Blob;
-use std::alloc::Global;
 
 fn if_present(present: bool, bytes: &[u8]) -> Option<&[u8]>
     ensures { option_map (λ x. x.now) result ≡ (if present then Some bytes.now else None) }
@@ -27,8 +26,8 @@ fn if_present(present: bool, bytes: &[u8]) -> Option<&[u8]>
 
 /// The LEASE with this header and these fields, or the least rule that is broken.
 #[tactic(auto, unfolding(crate::specs::Reading::lease_at))]
-pub fn read(alloc: Global, header: Header, body: &[u8]) -> Result<Frame, FrameFault>
-    ensures { Gives result (lease_at header.stream header.flags body.now) }
+pub fn find(header: Header, body: &[u8]) -> Result<FrameRef<'_>, FrameFault>
+    ensures { Shows result (lease_at header.stream header.flags body.now) }
 {
     if header.stream != 0 {
         return Err(FrameFault::WrongStream);
@@ -45,8 +44,8 @@ pub fn read(alloc: Global, header: Header, body: &[u8]) -> Result<Frame, FrameFa
     if ttl >= 0x8000_0000 || count >= 0x8000_0000 {
         return Err(FrameFault::HighBit);
     }
-    let metadata = owned_option(alloc, if_present(present, &body[8..]))?;
-    Ok(Frame::Lease {
+    let metadata = if_present(present, &body[8..]);
+    Ok(FrameRef::Lease {
         ttl,
         count,
         metadata,

@@ -6,23 +6,20 @@
 //!
 //! It is written with M, and read with or without it.
 
-ghost use Rattle.rs_frame.specs.Rules.{Gives};
+ghost use Rattle.rs_frame.specs.Views.{Shows};
 ghost use Rattle.rs_frame.specs.Reading.{metadata_push_at};
 
 use crate::fault::FrameFault;
-use crate::frame::Frame;
+use crate::frame_ref::FrameRef;
 use crate::header::Header;
-use rs_wire::Blob;
-use std::alloc::Global;
 
 /// The METADATA_PUSH with this header and this metadata, or the least rule that is broken.
 #[tactic(auto, unfolding(crate::specs::Reading::metadata_push_at))]
-pub fn read(alloc: Global, header: Header, body: &[u8]) -> Result<Frame, FrameFault>
-    ensures { Gives result (metadata_push_at header.stream body.now) }
+pub fn find(header: Header, body: &[u8]) -> Result<FrameRef<'_>, FrameFault>
+    ensures { Shows result (metadata_push_at header.stream body.now) }
 {
     if header.stream != 0 {
         return Err(FrameFault::WrongStream);
     }
-    let metadata = Blob::from_slice(alloc, body)?;
-    Ok(Frame::MetadataPush { metadata })
+    Ok(FrameRef::MetadataPush { metadata: body })
 }

@@ -1,21 +1,23 @@
 //! A payload: metadata after its length of three bytes where the flag M is set, and then content to
 //! the end (RSocket 1.0, "Metadata Optional Header").
 
-ghost use Rattle.std.specs.Prelude.{◌≡◌, ◌+◌, ◌<◌, ◌≤◌, ◌^◌, ◌++◌, ◌↔◌, IfOk, IsTrue, length, vec_len, vec_capacity};
+ghost use Rattle.std.specs.Prelude.{◌≡◌, ◌+◌, ◌<◌, ◌≤◌, ◌^◌, ◌++◌, ◌↔◌, [], None, IfOk, IsOk, IsTrue, length, vec_len, vec_capacity};
 ghost use Rattle.std.specs.Option.{option_map};
 ghost use Rattle.rs_frame.specs.Rules.{message_of};
 ghost use Rattle.rs_frame.specs.Spelling.{MessageFits, payload};
-ghost use Rattle.rs_frame.specs.Views.{parts_view};
+ghost use Rattle.rs_frame.specs.Views.{IsBareMessage, parts_view};
 
 use crate::cursor::{counted_u24, put, put_u24};
 use rs_wire::{Blob, Message, OutOfMemory};
 use std::alloc::Global;
 
-/// A payload that lies in a frame's bytes.
-#[derive(Clone, Copy)]
+/// A message that lies in a frame's bytes.
+#[derive(Clone, Copy, Debug)]
 pub struct Parts<'a> {
-    metadata: Option<&'a [u8]>,
-    content: &'a [u8],
+    /// The metadata, where there is any.
+    pub metadata: Option<&'a [u8]>,
+    /// The content.
+    pub content: &'a [u8],
 }
 
 /// The payload in these bytes. `None` where the length of the metadata is missing or passes the end.
@@ -37,26 +39,37 @@ pub fn parts_of(present: bool, bytes: &[u8]) -> Option<Parts<'_>>
     }
 }
 
+/// A copy of the bytes, which takes no memory where there are none.
+pub fn owned_bytes(alloc: Global, bytes: &[u8]) -> Result<Blob, OutOfMemory>
+    ensures bytes { IfOk result (λ b. b ≡ bytes.now) }
+    ensures bare { bytes.now ≡ [] → IsOk result }
+{
+    if bytes.is_empty() {
+        return Ok(Blob::from_vec(Vec::new(alloc)));
+    }
+    Blob::from_slice(alloc, bytes)
+}
+
 /// The bytes, if any, as a blob.
 pub fn owned_option(alloc: Global, bytes: Option<&[u8]>) -> Result<Option<Blob>, OutOfMemory>
-    ensures { IfOk result (λ b. b ≡ option_map (λ x. x.now) bytes.entry) }
+    ensures bytes { IfOk result (λ b. b ≡ option_map (λ x. x.now) bytes.entry) }
+    ensures bare { option_map (λ x. x.now) bytes.entry ≡ None → IsOk result }
 {
     match bytes {
         None => Ok(None),
-        Some(bytes) => Ok(Some(Blob::from_slice(alloc, bytes)?)),
+        Some(bytes) => Ok(Some(owned_bytes(alloc, bytes)?)),
     }
 }
 
 /// The payload as a message.
 #[inline(always)]
 pub fn owned(alloc: Global, parts: Parts<'_>) -> Result<Message, OutOfMemory>
-    ensures { IfOk result (λ m. m ≡ parts_view parts.entry) }
+    ensures message { IfOk result (λ m. m ≡ parts_view parts.entry) }
+    ensures bare { IsBareMessage (parts_view parts.entry) → IsOk result }
 {
     let metadata = owned_option(alloc, parts.metadata)?;
-    Ok(Message {
-        metadata,
-        content: Blob::from_slice(alloc, parts.content)?,
-    })
+    let content = owned_bytes(alloc, parts.content)?;
+    Ok(Message { metadata, content })
 }
 
 /// The blob, if any, again.

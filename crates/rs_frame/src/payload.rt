@@ -5,17 +5,16 @@
 //! | 0x0a | M, F 0x80, C 0x40, N 0x20 | above 0 | payload |
 
 ghost use Rattle.std.specs.Prelude.{◌≡◌, ◌+◌, ◌<◌, ◌↔◌, IsTrue, is_some};
-ghost use Rattle.rs_frame.specs.Rules.{Gives};
+ghost use Rattle.rs_frame.specs.Views.{Shows};
 ghost use Rattle.rs_frame.specs.Reading.{payload_at};
 ghost use Rattle.rs_frame.specs.Spelling.{IsStream, MessageFits, bit_if};
 
 use crate::cursor::is_stream;
 use crate::fault::FrameFault;
-use crate::frame::Frame;
+use crate::frame_ref::FrameRef;
 use crate::header::{COMPLETE, FOLLOWS, Header, METADATA, bit};
-use crate::parts::{message_fits, owned, parts_of};
+use crate::parts::{message_fits, parts_of};
 use rs_wire::Message;
-use std::alloc::Global;
 
 /// The type number of a PAYLOAD.
 pub const NUMBER: u16 = 0x0a;
@@ -25,17 +24,16 @@ const NEXT: u16 = 0x20;
 
 /// The PAYLOAD with this header and this payload, or the least rule that is broken.
 #[tactic(auto, unfolding(crate::specs::Reading::payload_at))]
-pub fn read(alloc: Global, header: Header, body: &[u8]) -> Result<Frame, FrameFault>
-    ensures { Gives result (payload_at header.stream header.flags body.now) }
+pub fn find(header: Header, body: &[u8]) -> Result<FrameRef<'_>, FrameFault>
+    ensures { Shows result (payload_at header.stream header.flags body.now) }
 {
     if header.stream == 0 {
         return Err(FrameFault::WrongStream);
     }
-    let Some(parts) = parts_of(header.has(METADATA), body) else {
+    let Some(message) = parts_of(header.has(METADATA), body) else {
         return Err(FrameFault::MetadataLength);
     };
-    let message = owned(alloc, parts)?;
-    Ok(Frame::Payload {
+    Ok(FrameRef::Payload {
         stream: header.stream,
         follows: header.has(FOLLOWS),
         complete: header.has(COMPLETE),

@@ -10,39 +10,34 @@
 //! | 0x07 | REQUEST_CHANNEL | M, F 0x80, C 0x40 | above 0 | initial n of 31 bits, above 0; payload |
 
 ghost use Rattle.std.specs.Prelude.{◌≡◌, ◌+◌, ◌<◌, ◌≤◌, ◌^◌, ◌++◌, ◌↔◌, IsTrue, is_some, length, vec_len, vec_capacity};
-ghost use Rattle.rs_frame.specs.Rules.{Gives};
+ghost use Rattle.rs_frame.specs.Views.{Shows};
 ghost use Rattle.rs_frame.specs.Reading.{counted_at, plain_at};
 ghost use Rattle.rs_frame.specs.Spelling.{FieldsFit, InitialFits, MessageFits, bit_if, kind_number, number_there, payload};
+ghost use Rattle.rs_frame.specs.declared.frame.Frame.{Frame};
 
 use crate::cursor::{is_stream, put_u32};
 use crate::fault::FrameFault;
-use crate::frame::{Frame, Request};
+use crate::frame::Request;
+use crate::frame_ref::{FrameRef, RequestRef};
 use crate::header::{COMPLETE, FOLLOWS, Header, METADATA, bit};
-use crate::parts::{message_fits, owned, parts_of, payload_length, put_payload};
+use crate::parts::{message_fits, parts_of, payload_length, put_payload};
 use byteorder::{BigEndian, ByteOrder};
 use rs_wire::{Amount, Kind, Message};
-use std::alloc::Global;
 
 /// The request without an initial n that has this header and this payload, or the least rule that
 /// is broken.
 #[tactic(auto, unfolding(crate::specs::Reading::plain_at))]
-pub fn read_plain(
-    alloc: Global,
-    kind: Kind,
-    header: Header,
-    body: &[u8],
-) -> Result<Frame, FrameFault>
-    ensures { Gives result (plain_at kind header.stream header.flags body.now) }
+pub fn find_plain(kind: Kind, header: Header, body: &[u8]) -> Result<FrameRef<'_>, FrameFault>
+    ensures { Shows result (plain_at kind header.stream header.flags body.now) }
 {
     if header.stream == 0 {
         return Err(FrameFault::WrongStream);
     }
-    let Some(parts) = parts_of(header.has(METADATA), body) else {
+    let Some(message) = parts_of(header.has(METADATA), body) else {
         return Err(FrameFault::MetadataLength);
     };
-    let message = owned(alloc, parts)?;
     let follows = header.has(FOLLOWS);
-    Ok(Frame::Request(Request {
+    Ok(FrameRef::Request(RequestRef {
         stream: header.stream,
         kind,
         follows,
@@ -55,14 +50,13 @@ pub fn read_plain(
 /// The request with an initial n that has this header and these fields, or the least rule that is
 /// broken.
 #[tactic(auto, unfolding(crate::specs::Reading::counted_at))]
-pub fn read_counted(
-    alloc: Global,
+pub fn find_counted(
     kind: Kind,
     complete: bool,
     header: Header,
     body: &[u8],
-) -> Result<Frame, FrameFault>
-    ensures { Gives result (counted_at kind complete header.stream header.flags body.now) }
+) -> Result<FrameRef<'_>, FrameFault>
+    ensures { Shows result (counted_at kind complete header.stream header.flags body.now) }
 {
     if header.stream == 0 {
         return Err(FrameFault::WrongStream);
@@ -74,15 +68,14 @@ pub fn read_counted(
     if n == 0 {
         return Err(FrameFault::ZeroNumber);
     }
-    let Some(parts) = parts_of(header.has(METADATA), &body[4..]) else {
+    let Some(message) = parts_of(header.has(METADATA), &body[4..]) else {
         return Err(FrameFault::MetadataLength);
     };
     let Some(n) = Amount::of(n) else {
         return Err(FrameFault::HighBit);
     };
-    let message = owned(alloc, parts)?;
     let follows = header.has(FOLLOWS);
-    Ok(Frame::Request(Request {
+    Ok(FrameRef::Request(RequestRef {
         stream: header.stream,
         kind,
         follows,

@@ -4,19 +4,19 @@
 //! |---|---|---|---|
 //! | 0x08 | | above 0 | n of 31 bits, above 0 |
 
-ghost use Rattle.rs_frame.specs.Rules.{Gives};
+ghost use Rattle.rs_frame.specs.Views.{Shows};
 ghost use Rattle.rs_frame.specs.Reading.{request_n_at};
 
 use crate::fault::FrameFault;
-use crate::frame::Frame;
+use crate::frame_ref::FrameRef;
 use crate::header::Header;
 use byteorder::{BigEndian, ByteOrder};
 use rs_wire::Amount;
 
 /// The REQUEST_N with this header and this n, or the least rule that is broken.
 #[tactic(auto, unfolding(crate::specs::Reading::request_n_at))]
-pub fn read(header: Header, body: &[u8]) -> Result<Frame, FrameFault>
-    ensures { Gives result (request_n_at header.stream body.now) }
+pub fn find(header: Header, body: &[u8]) -> Result<FrameRef<'_>, FrameFault>
+    ensures { Shows result (request_n_at header.stream body.now) }
 {
     if header.stream == 0 {
         return Err(FrameFault::WrongStream);
@@ -33,7 +33,7 @@ pub fn read(header: Header, body: &[u8]) -> Result<Frame, FrameFault>
     }
     match Amount::of(n) {
         None => Err(FrameFault::HighBit),
-        Some(n) => Ok(Frame::RequestN {
+        Some(n) => Ok(FrameRef::RequestN {
             stream: header.stream,
             n,
         }),

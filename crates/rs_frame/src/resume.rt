@@ -4,40 +4,28 @@
 //! |---|---|---|---|
 //! | 0x0d | | 0 | major and minor of 16 bits; a token after its length of 16 bits; last received server position and first available client position of 63 bits |
 
-ghost use Rattle.std.specs.Prelude.{◌≡◌, ◌+◌, ◌<◌, ◌≤◌, ◌^◌, ◌++◌, ◌↔◌, IfErr, IfOk, IsTrue, Ok, Err, length, vec_len, vec_capacity};
+ghost use Rattle.std.specs.Prelude.{◌≡◌, ◌+◌, ◌<◌, ◌≤◌, ◌^◌, ◌++◌, ◌↔◌, IsTrue, length, vec_len, vec_capacity};
 ghost use Rattle.std.specs.Result.{result_map_both};
-ghost use Rattle.rs_frame.specs.Rules.{Gives, IsRule};
 ghost use Rattle.rs_frame.specs.Reading.{as_resume, resume_at};
 ghost use Rattle.rs_frame.specs.Spelling.{FieldsFit, body_of};
-ghost use Rattle.rs_frame.specs.Views.{resume_view};
+ghost use Rattle.rs_frame.specs.Views.{Shows, resume_view};
+ghost use Rattle.rs_frame.specs.declared.frame.Frame.{Frame};
 
 use crate::cursor::{is_63, put_counted, put_u16, put_u64, u64_at};
 use crate::fault::FrameFault;
-use crate::frame::{Frame, Resume};
+use crate::frame::Resume;
+use crate::frame_ref::{FrameRef, ResumeRef};
 use crate::header::Header;
 use byteorder::{BigEndian, ByteOrder};
-use rs_wire::{Blob, OutOfMemory};
-use std::alloc::Global;
 
 /// Bytes of the numbers of a RESUME: two versions and the length of the token, of 2 each, and two
 /// positions of 8.
 pub const RESUME_NUMBERS: usize = 22;
 
-/// A RESUME that lies in its bytes.
-#[derive(Clone, Copy)]
-struct ResumeAt<'a> {
-    major: u16,
-    minor: u16,
-    token: &'a [u8],
-    server_position: u64,
-    client_position: u64,
-}
-
 #[tactic(auto, unfolding(crate::specs::Reading::resume_at))]
-fn find(header: Header, body: &[u8]) -> Result<ResumeAt<'_>, FrameFault>
-    ensures found { result_map_both resume_view (λ fault. fault) result ≡
+fn fields_at(header: Header, body: &[u8]) -> Result<ResumeRef<'_>, FrameFault>
+    ensures { result_map_both resume_view (λ fault. fault) result ≡
         resume_at header.stream body.now }
-    ensures rule { IfErr result IsRule }
 {
     if header.stream != 0 {
         return Err(FrameFault::WrongStream);
@@ -59,7 +47,7 @@ fn find(header: Header, body: &[u8]) -> Result<ResumeAt<'_>, FrameFault>
     }
     let (_, rest) = body.split_at(6);
     let (token, _) = rest.split_at(len);
-    Ok(ResumeAt {
+    Ok(ResumeRef {
         major: BigEndian::read_u16(body),
         minor: BigEndian::read_u16(&body[2..]),
         token,
@@ -68,30 +56,11 @@ fn find(header: Header, body: &[u8]) -> Result<ResumeAt<'_>, FrameFault>
     })
 }
 
-fn owned_resume(alloc: Global, at: &ResumeAt<'_>) -> Result<Resume, OutOfMemory>
-    ensures { IfOk result (λ r. r ≡ resume_view at.now) }
-{
-    let token = Blob::from_slice(alloc, at.token)?;
-    Ok(Resume {
-        major: at.major,
-        minor: at.minor,
-        token,
-        server_position: at.server_position,
-        client_position: at.client_position,
-    })
-}
-
 /// The RESUME with this header and these fields, or the least rule that is broken.
-pub fn read(alloc: Global, header: Header, body: &[u8]) -> Result<Frame, FrameFault>
-    ensures { Gives result (as_resume (resume_at header.stream body.now)) }
+pub fn find(header: Header, body: &[u8]) -> Result<FrameRef<'_>, FrameFault>
+    ensures { Shows result (as_resume (resume_at header.stream body.now)) }
 {
-    match find(header, body) {
-        Err(fault) => Err(fault),
-        Ok(at) => {
-            let fields = owned_resume(alloc, &at)?;
-            Ok(Frame::Resume(fields))
-        }
-    }
+    Ok(FrameRef::Resume(fields_at(header, body)?))
 }
 
 /// Whether each field is in its range.

@@ -4,18 +4,18 @@
 //! |---|---|---|---|
 //! | 0x0e | | 0 | last received client position of 63 bits |
 
-ghost use Rattle.rs_frame.specs.Rules.{Gives};
+ghost use Rattle.rs_frame.specs.Views.{Shows};
 ghost use Rattle.rs_frame.specs.Reading.{resume_ok_at};
 
 use crate::fault::FrameFault;
-use crate::frame::Frame;
+use crate::frame_ref::FrameRef;
 use crate::header::Header;
 use byteorder::{BigEndian, ByteOrder};
 
 /// The RESUME_OK with this header and this position, or the least rule that is broken.
 #[tactic(auto, unfolding(crate::specs::Reading::resume_ok_at))]
-pub fn read(header: Header, body: &[u8]) -> Result<Frame, FrameFault>
-    ensures { Gives result (resume_ok_at header.stream body.now) }
+pub fn find(header: Header, body: &[u8]) -> Result<FrameRef<'_>, FrameFault>
+    ensures { Shows result (resume_ok_at header.stream body.now) }
 {
     if header.stream != 0 {
         return Err(FrameFault::WrongStream);
@@ -30,5 +30,5 @@ pub fn read(header: Header, body: &[u8]) -> Result<Frame, FrameFault>
     if position >= 0x8000_0000_0000_0000 {
         return Err(FrameFault::HighBit);
     }
-    Ok(Frame::ResumeOk { position })
+    Ok(FrameRef::ResumeOk { position })
 }

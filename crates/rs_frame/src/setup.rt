@@ -4,24 +4,23 @@
 //! |---|---|---|---|
 //! | 0x01 | M, R 0x80, L 0x40 | 0 | major and minor of 16 bits; keepalive and lifetime of 31 bits, above 0; with R a token after its length of 16 bits; the MIME types of metadata and of content, each after its length of 8 bits; a payload |
 
-ghost use Rattle.std.specs.Prelude.{◌≡◌, ◌+◌, ◌<◌, ◌≤◌, ◌^◌, ◌++◌, ◌↔◌, IfErr, IfOk, IfSome, IsTrue, Ok, Err, length, vec_len, vec_capacity};
+ghost use Rattle.std.specs.Prelude.{◌≡◌, ◌+◌, ◌<◌, ◌≤◌, ◌^◌, ◌++◌, ◌↔◌, IfSome, IsTrue, length, vec_len, vec_capacity};
 ghost use Rattle.std.specs.Option.{option_map};
 ghost use Rattle.std.specs.Result.{result_map_both};
-ghost use Rattle.rs_frame.specs.Rules.{Gives, IsRule, names_of, token_of};
+ghost use Rattle.rs_frame.specs.Rules.{names_of, token_of};
 ghost use Rattle.rs_frame.specs.Reading.{as_frame, setup_at};
 ghost use Rattle.rs_frame.specs.Spelling.{FieldsFit, body_of, counted_bytes, flags_of, if_there};
-ghost use Rattle.rs_frame.specs.Views.{names_view, setup_view};
+ghost use Rattle.rs_frame.specs.Views.{Shows, names_view, setup_view};
+ghost use Rattle.rs_frame.specs.declared.frame.Frame.{Frame};
 
 use crate::cursor::{counted_u8, counted_u16, put, put_counted, put_u8, put_u16, put_u32};
 use crate::fault::FrameFault;
-use crate::frame::{Frame, Setup};
+use crate::frame::Setup;
+use crate::frame_ref::{FrameRef, SetupRef};
 use crate::header::{Header, METADATA, bit};
-use crate::parts::{
-    Parts, message_fits, owned, owned_option, parts_of, payload_length, put_payload,
-};
+use crate::parts::{message_fits, parts_of, payload_length, put_payload};
 use byteorder::{BigEndian, ByteOrder};
-use rs_wire::{Amount, Blob, OutOfMemory};
-use std::alloc::Global;
+use rs_wire::{Amount, Blob};
 
 /// Bytes of the numbers that a SETUP has first: two versions of 2 and two intervals of 4.
 const SETUP_NUMBERS: usize = 12;
@@ -39,18 +38,6 @@ struct NamesAt<'a> {
     metadata_mime: &'a [u8],
     content_mime: &'a [u8],
     rest: &'a [u8],
-}
-
-/// A SETUP that lies in its bytes.
-#[derive(Clone, Copy)]
-struct SetupAt<'a> {
-    names: NamesAt<'a>,
-    lease: bool,
-    major: u16,
-    minor: u16,
-    keepalive: Amount,
-    lifetime: Amount,
-    parts: Parts<'a>,
 }
 
 fn token_at(resume: bool, bytes: &[u8]) -> Option<(Option<&[u8]>, &[u8])>
@@ -81,10 +68,9 @@ fn names_at(resume: bool, bytes: &[u8]) -> Option<NamesAt<'_>>
 }
 
 #[tactic(auto, unfolding(crate::specs::Reading::setup_at))]
-fn find(header: Header, body: &[u8]) -> Result<SetupAt<'_>, FrameFault>
-    ensures found { result_map_both setup_view (λ fault. fault) result ≡
+fn fields_at(header: Header, body: &[u8]) -> Result<SetupRef<'_>, FrameFault>
+    ensures { result_map_both setup_view (λ fault. fault) result ≡
         setup_at header.stream header.flags body.now }
-    ensures rule { IfErr result IsRule }
 {
     if header.stream != 0 {
         return Err(FrameFault::WrongStream);
@@ -100,53 +86,32 @@ fn find(header: Header, body: &[u8]) -> Result<SetupAt<'_>, FrameFault>
     let Some(names) = names_at(header.has(RESUME), &body[SETUP_NUMBERS..]) else {
         return Err(FrameFault::NameLength);
     };
-    let Some(parts) = parts_of(header.has(METADATA), names.rest) else {
+    let Some(message) = parts_of(header.has(METADATA), names.rest) else {
         return Err(FrameFault::MetadataLength);
     };
     let (Some(keepalive), Some(lifetime)) = (Amount::of(keepalive), Amount::of(lifetime)) else {
         return Err(FrameFault::HighBit);
     };
-    Ok(SetupAt {
-        names,
+    Ok(SetupRef {
+        resume: names.token,
         lease: header.has(LEASE),
         major: BigEndian::read_u16(body),
         minor: BigEndian::read_u16(&body[2..]),
         keepalive,
         lifetime,
-        parts,
-    })
-}
-
-fn owned_setup(alloc: Global, at: &SetupAt<'_>) -> Result<Setup, OutOfMemory>
-    ensures { IfOk result (λ s. s ≡ setup_view at.now) }
-{
-    let resume = owned_option(alloc, at.names.token)?;
-    let metadata_mime = Blob::from_slice(alloc, at.names.metadata_mime)?;
-    let content_mime = Blob::from_slice(alloc, at.names.content_mime)?;
-    let message = owned(alloc, at.parts)?;
-    Ok(Setup {
-        resume,
-        lease: at.lease,
-        major: at.major,
-        minor: at.minor,
-        keepalive: at.keepalive,
-        lifetime: at.lifetime,
-        metadata_mime,
-        content_mime,
+        metadata_mime: names.metadata_mime,
+        content_mime: names.content_mime,
         message,
     })
 }
 
 /// The SETUP with this header and these fields, or the least rule that is broken.
-pub fn read(alloc: Global, header: Header, body: &[u8]) -> Result<Frame, FrameFault>
-    ensures { Gives result (as_frame (setup_at header.stream header.flags body.now)) }
+pub fn find(header: Header, body: &[u8]) -> Result<FrameRef<'_>, FrameFault>
+    ensures { Shows result (as_frame (setup_at header.stream header.flags body.now)) }
 {
-    match find(header, body) {
+    match fields_at(header, body) {
+        Ok(fields) => Ok(FrameRef::Setup(fields)),
         Err(fault) => Err(fault),
-        Ok(at) => {
-            let fields = owned_setup(alloc, &at)?;
-            Ok(Frame::Setup(fields))
-        }
     }
 }
 

@@ -5,29 +5,27 @@
 //! | other | all ten are kept | any | bytes to the end |
 
 ghost use Rattle.std.specs.Prelude.{◌≡◌, ◌<◌, ◌^◌, ◌↔◌, Ok, IsTrue};
-ghost use Rattle.rs_frame.specs.Rules.{Gives};
+ghost use Rattle.rs_frame.specs.Views.{Shows};
 ghost use Rattle.rs_frame.specs.Table.{row_of};
 ghost use Rattle.rs_frame.specs.declared.row.Row.TheVariants as rows;
+ghost use Rattle.rs_frame.specs.declared.frame.Frame.{Frame};
 
 use crate::cursor::is_31;
 use crate::fault::FrameFault;
-use crate::frame::Frame;
+use crate::frame_ref::FrameRef;
 use crate::header::Header;
 use crate::row::Row;
-use rs_wire::Blob;
-use std::alloc::Global;
 
 /// The frame with this header and these bytes.
-pub fn read(alloc: Global, header: Header, body: &[u8]) -> Result<Frame, FrameFault>
+pub fn find(header: Header, body: &[u8]) -> Result<FrameRef<'_>, FrameFault>
     requires { header.number < 64 }
-    ensures { Gives result (Ok (Frame.Unknown header.stream header.number header.flags body.now)) }
+    ensures { Shows result (Ok (Frame.Unknown header.stream header.number header.flags body.now)) }
 {
-    let rest = Blob::from_slice(alloc, body)?;
-    Ok(Frame::Unknown {
+    Ok(FrameRef::Unknown {
         stream: header.stream,
         number: header.number as u8,
         flags: header.flags,
-        rest,
+        rest: body,
     })
 }
 
