@@ -1,5 +1,5 @@
 -- Where frames end: boundaries rise, and the frames from one on are those after it.
-use Rattle.std.proofs.Common.{◌≡◌, ℕ, zero, suc, ◌+◌, ◌<◌, ◌≤◌, min, List, [], ◌∷◌, length, take, drop, ap, arith}
+use Rattle.std.proofs.Common.{◌≡◌, ℕ, zero, suc, ◌+◌, ◌<◌, ◌≤◌, min, List, [], ◌∷◌, ◌++◌, length, take, drop, refl, ap, arith}
 use Rattle.std.specs.List.{AllByRecursion}
 use Rattle.std.proofs.lemmas.List.{take_min, take-take}
 use Rattle.std.proofs.lemmas.Grind.{common_steps}
@@ -18,6 +18,17 @@ unfolding pos_by
 rising_more [] i all lt = absurd (omega arith)
 rising_more (f ∷ fs) zero all lt = omega (arith, all.0)
 rising_more (f ∷ fs) (suc i) all lt = omega (arith, rising_more fs i all.1 (omega arith))
+
+pub not_none : (fs : List (List ℕ)) → 0 < pos_by length fs → 0 < length fs
+unfolding pos_by
+not_none [] some = absurd (omega arith)
+not_none (f ∷ fs) some = omega arith
+
+-- the first frames are none where they have no bytes
+pub none_before : (below held : List (List ℕ)) → AllByRecursion (λ f. 6 ≤ length f) (below ++ held) → pos_by length below ≡ 0 → below ≡ []
+unfolding pos_by
+none_before [] held all none = refl
+none_before (f ∷ below) held all none = absurd (omega (arith, all.0, none))
 
 pub from-taken : (fs : List (List ℕ)) (k : ℕ) → AllByRecursion (λ f. 6 ≤ length f) fs → k ≤ length fs → frames_from_by length fs (pos_by length (take k fs)) ≡ drop k fs
 unfolding pos_by frames_from_by

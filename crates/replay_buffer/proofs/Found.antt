@@ -1,13 +1,10 @@
 -- Boundaries that are looked up among the ends.
-use Rattle.std.proofs.Common.{◌≡◌, ℕ, zero, suc, ◌+◌, ◌-◌, ◌*◌, ◌<◌, ◌≤◌, List, [], ◌∷◌, ◌++◌, length, take, drop, get_or, refl, sym, ap, ◌∙◌, add-zero, arith, Result, Ok, Err, IsTrue, is_ok, nat_cmp}
+use Rattle.std.proofs.Common.{◌≡◌, ℕ, zero, suc, ◌+◌, ◌-◌, ◌*◌, ◌<◌, ◌≤◌, List, [], ◌∷◌, ◌++◌, length, take, drop, get_or, refl, sym, ap, ◌∙◌, arith}
 use Rattle.std.specs.List.{AllByRecursion, flat_map}
-use Rattle.std.specs.List.Sorted.{IsNonDecreasing, IsBinarySearchResult}
 use Rattle.std.proofs.lemmas.List.{drop_at, length-take-le, take-append-drop, take_all}
 use Rattle.std.proofs.lemmas.List.Concat.{flat_map-append}
-use Rattle.std.proofs.lemmas.List.Sorted.{IsNonDecreasingBy-from_default, searched}
 use Rattle.rs_frame.specs.Framed.{framed}
-use Rattle.position.specs.Boundaries.{pos_by}
-use Rattle.replay_buffer.specs.Held.{Held, IsHeldBoundary, framed_from}
+use Rattle.position.specs.Boundaries.{pos_by, frames_from_by, IsBoundaryBy}
 use Rattle.replay_buffer.specs.Storage.{ends_of, Stores}
 use Rattle.replay_buffer.proofs.Boundaries.{rising, rising_more, from-taken, ends_at}
 use Rattle.replay_buffer.proofs.Stored.{length-framed_all}
@@ -16,37 +13,58 @@ pub length-ends_of : (at : ℕ) (fs : List (List ℕ)) → length (ends_of at fs
 length-ends_of at [] = refl
 length-ends_of at (f ∷ fs) = omega (arith, length-ends_of (at + length f) fs)
 
-get_or-ends_of : (at : ℕ) (fs : List (List ℕ)) (k : ℕ) → k < length fs → get_or (ends_of at fs) k 0 ≡ at + pos_by length (take (suc k) fs)
+pub get_or-ends_of : (at : ℕ) (fs : List (List ℕ)) (k : ℕ) → k < length fs → get_or (ends_of at fs) k 0 ≡ at + pos_by length (take (suc k) fs)
 unfolding pos_by
 get_or-ends_of at [] k lt = absurd (omega arith)
 get_or-ends_of at (f ∷ fs) zero lt = omega arith
 get_or-ends_of at (f ∷ fs) (suc k) lt = omega (arith, get_or-ends_of (at + length f) fs k (omega arith))
 
-pub ends_rise : (at : ℕ) (fs : List (List ℕ)) (i j : ℕ) → i ≤ j → j < length (ends_of at fs) → get_or (ends_of at fs) i 0 ≤ get_or (ends_of at fs) j 0
-ends_rise at fs i j le lt =
-    let same = length-ends_of at fs in
-    omega (arith, get_or-ends_of at fs i (omega arith), get_or-ends_of at fs j (omega arith), rising fs (suc i) (suc j) (omega arith))
+-- the positions as they lie in the fields
+pub record Ends (at : ℕ) (ends : List ℕ) (fs : List (List ℕ)) : Type 0 where
+  pub many : length ends ≡ length fs
+  pub one : (k : ℕ) → k < length fs → get_or ends k 0 ≡ at + pos_by length (take (suc k) fs)
+  pub rise : (i j : ℕ) → i ≤ j → j < length ends → get_or ends i 0 ≤ get_or ends j 0
+  pub few : 6 * length ends ≤ pos_by length fs
 
-pub ends_non_decreasing : (at : ℕ) (ends bytes : List ℕ) (fs : List (List ℕ)) → Stores at ends bytes fs → IsNonDecreasing ends
-ends_non_decreasing at ends bytes fs s = rw s.ends_are (IsNonDecreasingBy-from_default (λ x. x) (ends_of at fs) 0 (ends_rise at fs))
-
--- a boundary above the first one is among the ends
-missed : (at position : ℕ) (fs : List (List ℕ)) (i k : ℕ) → (position ≡ at → ⊥) → ((j : ℕ) → j < i → get_or (ends_of at fs) j 0 < position) → ((j : ℕ) → i ≤ j → j < length (ends_of at fs) → position < get_or (ends_of at fs) j 0) → k ≤ length fs → position ≡ at + pos_by length (take k fs) → ⊥
+pub ends_in : (at : ℕ) (ends bytes : List ℕ) (fs : List (List ℕ)) → Stores at ends bytes fs → Ends at ends fs
 unfolding pos_by
-missed at position fs i zero other below above le is = other (is ∙ add-zero at)
-missed at position fs i (suc k) other below above le is =
-    grind (arith, get_or-ends_of at fs k (omega arith), below k, above k, length-ends_of at fs)
+ends_in at ends bytes fs s = rw s.ends_are (record {
+  many = length-ends_of at fs;
+  one = get_or-ends_of at fs;
+  rise = λ i j le lt. omega (arith, length-ends_of at fs, get_or-ends_of at fs i (omega (arith, length-ends_of at fs)), get_or-ends_of at fs j (omega (arith, length-ends_of at fs)), rising fs (suc i) (suc j) (omega arith));
+  few = omega (arith, length-ends_of at fs, few fs s.longer);
+})
+  where
+    few : (fs : List (List ℕ)) → AllByRecursion (λ f. 6 ≤ length f) fs → 6 * length fs ≤ pos_by length fs
+    few [] all = omega arith
+    few (f ∷ fs) all = omega (arith, all.0, few fs all.1)
 
--- a position above the first one is a boundary exactly where a binary search among the ends finds it
-pub boundary_found : (h : Held) (position : ℕ) (ends bytes : List ℕ) (r : Result ℕ ℕ) → Stores h.first ends bytes h.frames → (position ≡ h.first → ⊥) → IsBinarySearchResult (λ y. nat_cmp y position) ends r
-    → (IsTrue (is_ok r) → IsHeldBoundary h position) × (IsHeldBoundary h position → IsTrue (is_ok r))
-boundary_found h position ends bytes (Ok i) s other search_is =
-    let hit = searched (ends_of h.first h.frames) position (Ok i) (rw (← s.ends_are) search_is) (ends_rise h.first h.frames) in
-    let here = get_or-ends_of h.first h.frames i (omega (arith, hit.0, length-ends_of h.first h.frames)) in
-    (λ _. (omega (arith, here, hit.1), (suc i, omega (arith, here, hit.1))), λ _. refl)
-boundary_found h position ends bytes (Err i) s other search_is =
-    let miss = searched (ends_of h.first h.frames) position (Err i) (rw (← s.ends_are) search_is) (ends_rise h.first h.frames) in
-    (λ t. absurd (cc t), λ b. let e = ends_at h position b in absurd (missed h.first position h.frames i e.0 other miss.1 miss.2 e.1.within e.1.is))
+-- so many frames, and no more, start at the position or before it
+pub record CountsUpTo (at : ℕ) (fs : List (List ℕ)) (position count : ℕ) : Type 0 where
+  pub bound : count ≤ length fs
+  pub within : (k : ℕ) → 0 < k → k ≤ count → at + pos_by length (take k fs) ≤ position
+  pub after : (k : ℕ) → count < k → k ≤ length fs → position < at + pos_by length (take k fs)
+
+pub counts_up_to : (at : ℕ) (ends : List ℕ) (fs : List (List ℕ)) (position count : ℕ) → Ends at ends fs → count ≤ length ends
+    → ((k : ℕ) → k < count → get_or ends k 0 ≤ position) → ((k : ℕ) → count ≤ k → k < length ends → position < get_or ends k 0) → CountsUpTo at fs position count
+counts_up_to at ends fs position count e bound within after = record { bound = omega (arith, e.many); within = low; after = high }
+  where
+    low : (k : ℕ) → 0 < k → k ≤ count → at + pos_by length (take k fs) ≤ position
+    low zero some le = absurd (omega arith)
+    low (suc k) some le = omega (arith, within k (omega arith), e.one k (omega (arith, e.many)))
+
+    high : (k : ℕ) → count < k → k ≤ length fs → position < at + pos_by length (take k fs)
+    high zero more le = absurd (omega arith)
+    high (suc k) more le = omega (arith, after k (omega arith) (omega (arith, e.many)), e.one k (omega arith))
+
+-- the frames up to a boundary are those that start at it or before it
+pub boundary_is : (at : ℕ) (fs : List (List ℕ)) (p k : ℕ) → AllByRecursion (λ f. 6 ≤ length f) fs → CountsUpTo at fs p k
+    → at ≤ p → IsBoundaryBy length fs (p - at) → p ≡ at + pos_by length (take k fs)
+boundary_is at fs p k longer c from boundary =
+    let e = ends_at (record { first = at; frames = fs; hold = 0 }) p (from, boundary) in
+    let same : k ≡ e.0 =
+    grind (arith, e.1.is, e.1.within, c.bound, c.within k, c.after e.0, rising_more fs e.0 longer, rising fs (suc e.0) k) in
+    omega (arith, e.1.is, ap (λ n. pos_by length (take n fs)) same)
 
 framed_all-drop : (fs : List (List ℕ)) (m : ℕ) → m ≤ length fs → drop (pos_by length (take m fs) + 3 * m) (flat_map framed fs) ≡ flat_map framed (drop m fs)
 framed_all-drop fs m le =
@@ -55,36 +73,19 @@ framed_all-drop fs m le =
     ap (drop (pos_by length (take m fs) + 3 * m)) parts ∙ drop_at (flat_map framed (take m fs)) (flat_map framed (drop m fs)) (pos_by length (take m fs) + 3 * m) len
 
 -- where the frames from a boundary on lie in the bytes
-pub record LiesAt (h : Held) (from k : ℕ) (bytes : List ℕ) : Type 0 where
-  pub rest : drop ((from - h.first) + 3 * k) bytes ≡ framed_from h from
-  pub within : (from - h.first) + 3 * k ≤ length bytes
+pub record LiesAt (fs : List (List ℕ)) (from k : ℕ) : Type 0 where
+  pub rest : drop (from + 3 * k) (flat_map framed fs) ≡ flat_map framed (frames_from_by length fs from)
+  pub within : from + 3 * k ≤ length (flat_map framed fs)
 
-pub lies_at : (h : Held) (from k : ℕ) (ends bytes : List ℕ) → Stores h.first ends bytes h.frames → k ≤ length ends → ((j : ℕ) → j < k → get_or ends j 0 ≤ from) → ((j : ℕ) → k ≤ j → j < length ends → from < get_or ends j 0) → IsHeldBoundary h from → LiesAt h from k bytes
-lies_at h from k ends bytes s le within after boundary =
-    let e = ends_at h from boundary in
-    let many = ap length s.ends_are ∙ length-ends_of h.first h.frames in
-    let low = ap (λ es. get_or es e.0 0) s.ends_are in
-    let high = ap (λ es. get_or es k 0) s.ends_are in
-    let ends = get_or-ends_of h.first h.frames in
-    let same : k ≡ e.0 =
-    grind (arith, many, low, high, e.1, within e.0, after k, ends e.0, ends k, rising_more h.frames e.0 s.longer, rising h.frames (suc k) e.0) in
-    let at : from - h.first ≡ pos_by length (take e.0 h.frames) = omega (arith, e.1.is) in
-    let place : (from - h.first) + 3 * k ≡ pos_by length (take e.0 h.frames) + 3 * e.0 = omega arith in
-    let all = take_all (length h.frames) h.frames (omega arith) in
+pub lies_at : (fs : List (List ℕ)) (from k : ℕ) → AllByRecursion (λ f. 6 ≤ length f) fs → k ≤ length fs → from ≡ pos_by length (take k fs) → LiesAt fs from k
+lies_at fs from k longer le is =
+    let all = take_all (length fs) fs (omega arith) in
+    let place : from + 3 * k ≡ pos_by length (take k fs) + 3 * k = omega (arith, is) in
     record {
-      rest = cc (place, at, s.bytes_are, framed_all-drop h.frames e.0 e.1.within, from-taken h.frames e.0 s.longer e.1.within);
-      within = omega (arith, ap length s.bytes_are, length-framed_all h.frames, rising h.frames e.0 (length h.frames) e.1.within, ap (pos_by length) all);
+      rest = ap (λ n. drop n (flat_map framed fs)) place ∙ framed_all-drop fs k le ∙ ap (flat_map framed) (sym (from-taken fs k longer le) ∙ ap (frames_from_by length fs) (sym is));
+      within = omega (arith, is, length-framed_all fs, rising fs k (length fs) le, ap (pos_by length) all);
     }
 
-pub first_held : (h : Held) (position : ℕ) → position ≡ h.first → IsHeldBoundary h position
-unfolding pos_by
-first_held h position is = (omega (arith, is), (0, omega (arith, is)))
-
--- a frame has six bytes at least, so there are few ends
-pub few_ends : (at : ℕ) (ends bytes : List ℕ) (fs : List (List ℕ)) → Stores at ends bytes fs → 6 * length ends ≤ pos_by length fs
-unfolding pos_by
-few_ends at ends bytes fs s = omega (arith, ap length s.ends_are, length-ends_of at fs, few fs s.longer)
-  where
-    few : (fs : List (List ℕ)) → AllByRecursion (λ f. 6 ≤ length f) fs → 6 * length fs ≤ pos_by length fs
-    few [] all = omega arith
-    few (f ∷ fs) all = omega (arith, all.0, few fs all.1)
+pub head_and_rest : (xs : List ℕ) → 0 < length xs → xs ≡ get_or xs 0 0 ∷ drop 1 xs
+head_and_rest [] some = absurd (omega arith)
+head_and_rest (x ∷ xs) some = refl

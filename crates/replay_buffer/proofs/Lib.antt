@@ -1,5 +1,12 @@
 pub mod Boundaries
 pub mod Stored
 pub mod Forgotten
-pub mod Found
 pub mod HeldOf
+pub mod Shown
+pub mod Copied
+pub mod Found
+pub mod Known
+pub mod Popped
+pub mod Passed
+pub mod Trimmed
+pub mod Walked

@@ -1,5 +1,5 @@
 -- What is held of the frames made, and how it changes (RSocket 1.0, "Resuming Operation").
-use Rattle.std.specs.Prelude.{◌≡◌, ℕ, ◌+◌, ◌-◌, ◌<◌, ◌≤◌, max, List, [], ◌∷◌, ◌++◌, length, take, drop, map}
+use Rattle.std.specs.Prelude.{◌≡◌, ℕ, ◌+◌, ◌-◌, ◌<◌, ◌≤◌, ◌⊎◌, max, min, List, [], ◌∷◌, ◌++◌, length, take, drop, map, Option, Some, None}
 use Rattle.std.specs.List.{flat_map}
 use Rattle.rs_frame.specs.declared.frame.Frame.{Frame}
 use Rattle.rs_frame.specs.Spelling.{canonical}
@@ -17,8 +17,12 @@ pub record Spare : Type 0 where
   pub frames : ℕ
   pub bytes : ℕ
 
+-- what is held; the frames before it that can be read though they are held no longer; the position from which on
+-- frames stay readable; and what may be kept without memory
 pub record Buffer : Type 0 where
   pub held : Held
+  pub below : List (List ℕ)
+  pub pin : Option ℕ
   pub spare : Spare
 
 -- this is held of the frames made, where the peer has acknowledged them up to `told`
@@ -29,6 +33,8 @@ pub record IsHeldOf (made : List Frame) (told : ℕ) (h : Held) : Type 0 where
 abbrev pub new_buffer : ℕ → Buffer
 new_buffer hold = record {
   held = record { first = 0; frames = []; hold = hold };
+  below = [];
+  pin = None;
   spare = record { frames = 0; bytes = 0 };
 }
 
@@ -43,6 +49,31 @@ IsHeldBoundary h p = (h.first ≤ p) × IsBoundaryBy length h.frames (p - h.firs
 -- the held frames from a position on, each after its length
 abbrev pub framed_from : Held → ℕ → List ℕ
 framed_from h p = flat_map framed (frames_from_by length h.frames (p - h.first))
+
+-- the position from which on frames can be read
+abbrev pub floor_of : Buffer → ℕ
+floor_of b = b.held.first - pos_by length b.below
+
+-- the frames that can be read
+abbrev pub readable : Buffer → Held
+readable b = record { first = floor_of b; frames = b.below ++ b.held.frames; hold = b.held.hold }
+
+-- a frame that can be read starts at the position, or the newest one ended there
+abbrev pub IsReadable : Buffer → ℕ → Type 0
+IsReadable b p = IsHeldBoundary (readable b) p
+
+-- frames can be read from the position on: it is such a start, or one of a frame that is held
+abbrev pub CanReadFrom : Buffer → ℕ → Type 0
+CanReadFrom b p = IsReadable b p ⊎ IsHeldBoundary b.held p
+
+-- the lesser of the pin and the position where the oldest held frame starts
+abbrev pub lesser : Option ℕ → ℕ → ℕ
+lesser None first = first
+lesser (Some p) first = min p first
+
+-- the frames are left from this boundary on
+abbrev pub from_boundary : Held → ℕ → Held
+from_boundary h p = record { first = p; frames = frames_from_by length h.frames (p - h.first); hold = h.hold }
 
 -- a frame more
 abbrev pub with_newest : Held → List ℕ → Held

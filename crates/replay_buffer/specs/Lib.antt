@@ -1,2 +1,4 @@
 pub mod Held
+pub mod Stored
 pub mod Storage
+pub mod Pinned

@@ -1,11 +1,10 @@
--- How what is held lies in the fields.
+-- How the frames lie in the fields.
 use Rattle.std.specs.Prelude.{◌≡◌, ℕ, ◌+◌, ◌-◌, ◌*◌, ◌<◌, ◌≤◌, ◌^◌, List, [], ◌∷◌, length, take, drop}
-use Rattle.std.specs.VecDeque.{deque_len, deque_capacity}
 use Rattle.std.specs.List.{AllByRecursion, flat_map}
 use Rattle.rs_frame.specs.Framed.{framed}
 use Rattle.position.specs.Boundaries.{pos_by}
-use Rattle.replay_buffer.specs.Held.{Buffer}
-use Rattle.replay_buffer.specs.declared.replay.Replay.TheInside.{Inside}
+use Rattle.replay_buffer.specs.Stored.{Stored}
+use Rattle.replay_buffer.specs.declared.store.Store.TheInside.{Inside}
 
 -- the positions where the frames end, the first of which starts at `at`
 abbrev pub ends_of : ℕ → List (List ℕ) → List ℕ
@@ -23,18 +22,22 @@ pub record Stores (at : ℕ) (ends bytes : List ℕ) (frames : List (List ℕ)) 
   pub ends_are : ends ≡ ends_of at frames
   pub longer : AllByRecursion (λ f. 6 ≤ length f) frames
 
-abbrev pub frames_of : Inside → List (List ℕ)
-frames_of r = frames_in r.first r.ends.items r.bytes.bytes
+abbrev pub all_of : Inside → List (List ℕ)
+all_of r = frames_in r.floor r.ends.items r.bytes.items
 
-abbrev pub buffer_of : Inside → Buffer
-buffer_of r = record {
-  held = record { first = r.first; frames = frames_of r; hold = r.hold };
+abbrev pub stored_of : Inside → Stored
+stored_of r = record {
+  first = r.first;
+  below = take r.passed (all_of r);
+  held = drop r.passed (all_of r);
   spare = record { frames = r.spare_frames; bytes = r.spare_bytes };
 }
 
 pub record IsStored (r : Inside) : Type 0 where
-  pub stored : Stores r.first r.ends.items r.bytes.bytes (frames_of r)
-  pub end : r.end ≡ r.first + pos_by length (frames_of r)
+  pub stored : Stores r.floor r.ends.items r.bytes.items (all_of r)
+  pub end : r.end ≡ r.floor + pos_by length (all_of r)
   pub top : r.end < 2 ^ 63
-  pub spare_of_bytes : r.spare_bytes + 3 * r.spare_frames ≤ r.bytes.reserved
-  pub spare_of_frames : deque_len r.ends + r.spare_frames ≤ deque_capacity r.ends
+  pub passed : r.passed ≤ length (all_of r)
+  pub first : r.first ≡ r.floor + pos_by length (take r.passed (all_of r))
+  pub spare_of_bytes : length r.bytes.items + (r.spare_bytes + 3 * r.spare_frames) ≤ r.bytes.capacity
+  pub spare_of_frames : length r.ends.items + r.spare_frames ≤ r.ends.capacity

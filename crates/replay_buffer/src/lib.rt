@@ -6,20 +6,26 @@
 //! position where a frame starts or the newest one ends. The oldest frames are forgotten as whole
 //! frames, when the bytes held pass a limit or when the peer has acknowledged them.
 //!
+//! A frame may be forgotten before all of it has gone onto a stream. So a *pin* keeps the frames from
+//! one boundary on readable, held or not.
+//!
 //! The promise to the layer above: where the frames kept are those made, what is held of them
 //! starts at `first` of the crate `position` (the peer may still need it, and no more than `hold`
-//! bytes are held), and [`Replay::copy`] gives it as it goes onto a stream, each frame after its
-//! length ([`held_of_made`]). No frame is forgotten sooner or later. What is stored is at most twice
-//! the bytes held; the block of memory that they stand in may be larger, also by what was reserved.
-//! Only [`Replay::reserve`] takes memory.
+//! bytes are held), and [`Replay::copy`] gives the readable frames as they go onto a stream, each
+//! after its length ([`held_of_made`]). No frame is forgotten sooner or later. The frames lie in a
+//! ring of bytes, and the positions where they end in another. A ring grows by a sixth, and where a
+//! quarter of it would do, the rest is given back. Only [`Replay::reserve`] takes memory.
 //!
 //! It leaves out which frames are resumable, how they are spelled, and whether a peer's position
 //! may be believed.
 #![tactic(auto)]
 
 mod laws;
-mod pieces;
+mod passing;
 mod replay;
+mod rings;
+mod store;
 
 pub use laws::held_of_made;
 pub use replay::Replay;
+pub use store::Place;

@@ -1,37 +1,30 @@
-//! The held frames, as one queue of framed bytes and the positions where the frames end.
+//! The held frames, and which of those before them can still be read.
 
-ghost use Rattle.std.specs.Prelude.{◌≡◌, ◌+◌, ◌-◌, ◌<◌, ◌^◌, ◌≤◌, ◌↔◌, ◌++◌, [], ◌∷◌, length, take, drop, min, max, IsTrue, OnOk, OnErr, IfOk, ℕ, List, slice_index};
-ghost use Rattle.std.specs.VecDeque.{deque_len};
-ghost use Rattle.std.specs.List.Sorted.{IsNonDecreasing};
+ghost use Rattle.std.specs.Prelude.{◌≡◌, ◌+◌, ◌-◌, ◌<◌, ◌^◌, ◌≤◌, ◌↔◌, ◌++◌, [], ◌∷◌, length, take, drop, min, max, None, Some, IsTrue, OnOk, OnErr, IfOk, ℕ, List};
 ghost use Rattle.rs_frame.specs.declared.frame.Frame.{Frame};
 ghost use Rattle.rs_frame.specs.Spelling.{canonical};
-ghost use Rattle.position.specs.Boundaries.{pos};
-ghost use Rattle.replay_buffer.specs.Held.{HasSpare, IsHeldBoundary, IsHeldOf, OldestEndsBy, end_of, framed_from, from_acked, from_least, new_buffer, spare_after, spare_for, with_newest, without_oldest};
+ghost use Rattle.std.specs.List.{flat_map};
+ghost use Rattle.rs_frame.specs.Framed.{framed};
+ghost use Rattle.position.specs.Boundaries.{pos, pos_by};
+ghost use Rattle.replay_buffer.specs.Held.{CanReadFrom, HasSpare, IsHeldBoundary, IsHeldOf, IsReadable, end_of, floor_of, framed_from, from_acked, from_boundary, from_least, lesser, new_buffer, readable, spare_after, spare_for, with_newest};
 
-use crate::pieces::{append_framed, fill};
-use byte_queue::ByteQueue;
+use crate::passing::{forget_unpinned, pass_until, pass_up_to};
+use crate::store::{Place, Store};
 use rs_wire::OutOfMemory;
 use std::alloc::Global;
-use std::collections::VecDeque;
 use std::marker::Model;
 
-/// The frames made that are still held (RSocket 1.0, "Resuming Operation"). Contracts see the
-/// bytes of each held frame, the position where the oldest one starts, and what was reserved.
+/// The frames made that are still held (RSocket 1.0, "Resuming Operation"), and those before them
+/// that can still be read, since a pin keeps them. Contracts see the bytes of each of these frames,
+/// the position where the oldest held one starts, the pin, and what was reserved.
 #[derive(Debug, Drop)]
 pub struct Replay {
-    // The held frames, each after its 24-bit length.
-    bytes: ByteQueue,
-    // The position where each held frame ends, the oldest first.
-    ends: VecDeque<u64>,
-    // The position where the oldest held frame starts.
-    first: u64,
-    // The position where the newest frame ended, held or not.
-    end: u64,
+    // The frames that can be read.
+    store: Store,
     // How many bytes of frames may be held.
     hold: u64,
-    // How many frames may be kept before more has to be reserved, and their bytes in sum.
-    spare_frames: usize,
-    spare_bytes: usize,
+    // Where there is a pin, the frames from it on can be read, held or not.
+    pin: Option<u64>,
 }
 
 impl Model for Replay {
@@ -39,29 +32,24 @@ impl Model for Replay {
 
     ghost Value = { Buffer };
 
-    ghost use Rattle.replay_buffer.specs.Storage.{buffer_of, IsStored};
+    ghost use Rattle.replay_buffer.specs.Pinned.{IsPinned, buffer_of};
 
     ghost view = { buffer_of };
 
-    ghost invariant = { IsStored };
+    ghost invariant = { IsPinned };
 }
 
 impl Replay {
     /// Nothing is held: the first frame will start at position 0. At most `hold` bytes of frames
     /// will be held, without their length fields. With 0 each frame is forgotten as it is kept.
-    #[tactic(auto, unfolding(position::specs::Boundaries::pos_by))]
     pub fn new(alloc: Global, hold: u64) -> Result<Replay, OutOfMemory>
         ensures empty { IfOk result (λ replay. replay ≡ new_buffer hold) }
         ensures of_none { IfOk result (λ replay. IsHeldOf [] 0 replay.held) }
     {
         Ok(Replay {
-            bytes: ByteQueue::new(alloc),
-            ends: VecDeque::new(alloc),
-            first: 0,
-            end: 0,
+            store: Store::new(alloc)?,
             hold,
-            spare_frames: 0,
-            spare_bytes: 0,
+            pin: None,
         })
     }
 
@@ -72,22 +60,12 @@ impl Replay {
             (self.new ≡ record self.old { spare = spare_for self.old.spare frames bytes }) }
         ensures err { OnErr result (self.new ≡ self.old) }
     {
-        let frames = frames.max(self.spare_frames);
-        let bytes = bytes.max(self.spare_bytes);
-        let framed = frames
-            .checked_mul(3)
-            .and_then(|lengths| lengths.checked_add(bytes))
-            .ok_or(OutOfMemory)?;
-        self.ends.reserve(frames)?;
-        self.bytes.reserve(framed)?;
-        self.spare_frames = frames;
-        self.spare_bytes = bytes;
-        Ok(())
+        self.store.reserve(frames, bytes)
     }
 
     /// Appends a frame, without its length field, and forgets the oldest whole frames while more
-    /// than `hold` bytes are held. It takes the time to copy the frame and, over all calls, a
-    /// constant for each byte forgotten.
+    /// than `hold` bytes are held. A frame that is forgotten stays readable where a pin keeps it. It
+    /// takes the time to copy the frame and, over all calls, a constant for each byte forgotten.
     pub fn keep(&mut self, frame: &[u8])
         requires spare { HasSpare self.old.spare (length frame.now) }
         requires shortest { 6 ≤ length frame.now }
@@ -98,32 +76,80 @@ impl Replay {
         ensures of_made { (made : List Frame) (told : ℕ) (newest : Frame) →
             IsHeldOf made told self.old.held → told ≤ pos made → frame.now ≡ canonical newest →
             IsHeldOf (made ++ newest ∷ []) told self.new.held }
+        ensures readable { readable self.new ≡ from_boundary
+            (with_newest (readable self.old) frame.now)
+            (lesser self.old.pin self.new.held.first) }
+        ensures pin { self.new.pin ≡ self.old.pin }
         ensures end { end_of self.new.held ≡ end_of self.old.held + length frame.now }
         ensures spare { self.new.spare ≡ spare_after self.old.spare (length frame.now) }
     {
-        self.append(frame);
-        self.forget_until(self.end.saturating_sub(self.hold));
+        self.store.append(frame);
+        let low = self.store.end().saturating_sub(self.hold);
+        pass_until(&mut self.store, low);
+        forget_unpinned(&mut self.store, self.pin);
     }
 
-    /// Forgets the whole frames that end at or before the position. Over all calls it takes a
-    /// constant time for each byte forgotten.
+    /// Forgets the whole frames that end at or before the position. Such a frame stays readable
+    /// where a pin keeps it. Over all calls it takes a constant time for each byte forgotten.
     pub fn release(&mut self, position: u64)
         ensures held { self.new.held ≡ from_acked self.old.held position }
         ensures of_made { (made : List Frame) (told : ℕ) →
             IsHeldOf made told self.old.held → IsHeldOf made (max told position) self.new.held }
+        ensures readable { readable self.new ≡ from_boundary
+            (readable self.old) (lesser self.old.pin self.new.held.first) }
+        ensures pin { self.new.pin ≡ self.old.pin }
         ensures end { end_of self.new.held ≡ end_of self.old.held }
         ensures spare { self.new.spare ≡ self.old.spare }
     {
-        while self.is_oldest_past(position) {
-            self.forget_oldest();
-        }
+        pass_up_to(&mut self.store, position);
+        forget_unpinned(&mut self.store, self.pin);
+    }
+
+    /// Keeps the frames readable that start at the position or later, also where they are
+    /// forgotten. There is one pin: it takes the place of the one before.
+    pub fn pin(&mut self, position: u64)
+        requires { CanReadFrom self.old position }
+        ensures held { self.new.held ≡ self.old.held }
+        ensures readable { readable self.new ≡ from_boundary
+            (readable self.old) (lesser (Some position) self.old.held.first) }
+        ensures pin { self.new.pin ≡ Some position }
+        ensures spare { self.new.spare ≡ self.old.spare }
+    {
+        self.pin = Some(position);
+        forget_unpinned(&mut self.store, self.pin);
+    }
+
+    /// Takes the pin away: what is held is what can be read.
+    pub fn unpin(&mut self)
+        ensures { self.new ≡ record self.old { below = []; pin = None } }
+    {
+        self.pin = None;
+        forget_unpinned(&mut self.store, self.pin);
+    }
+
+    /// The lesser of the pin and of [`Replay::first`], and `first` without a pin: frames from there on
+    /// can be read.
+    pub fn floor(&self) -> u64
+        ensures value { result ≡ floor_of self.now }
+        ensures lesser { result ≡ lesser self.now.pin self.now.held.first }
+        ensures within { pos_by length self.now.below ≤ self.now.held.first }
+    {
+        self.store.floor()
+    }
+
+    /// Whether a frame that can be read starts at the position, or the newest frame ended there. It
+    /// takes the time for a binary search among the frames.
+    pub fn readable(&self, position: u64) -> bool
+        ensures { IsTrue result ↔ IsReadable self.now position }
+    {
+        self.store.is_start(position)
     }
 
     /// The position where the oldest held frame starts: [`Replay::end`] where none is held.
     pub fn first(&self) -> u64
         ensures { result ≡ self.now.held.first }
     {
-        self.first
+        self.store.first()
     }
 
     /// The position where the newest frame ended, held or not.
@@ -131,7 +157,7 @@ impl Replay {
         ensures value { result ≡ end_of self.now.held }
         ensures bound { result < 2 ^ 63 }
     {
-        self.end
+        self.store.end()
     }
 
     /// Whether a held frame starts at the position, or the newest frame ended there. It takes the
@@ -139,103 +165,58 @@ impl Replay {
     pub fn is_boundary(&self, position: u64) -> bool
         ensures { IsTrue result ↔ IsHeldBoundary self.now.held position }
     {
-        position == self.first || self.ends.binary_search(&position).is_ok()
+        position >= self.store.first() && self.store.is_start(position)
     }
 
-    /// How many bytes the held frames from a held boundary on have, with their length fields.
+    /// How many bytes the frames from a readable boundary on have, with their length fields.
     pub fn framed_len(&self, from: u64) -> u64
-        requires { IsHeldBoundary self.now.held from }
-        ensures { result ≡ length (framed_from self.now.held from) }
+        requires { CanReadFrom self.now from }
+        ensures value { result ≡ length (framed_from (readable self.now) from) }
+        ensures held { IsHeldBoundary self.now.held from →
+            framed_from (readable self.now) from ≡ framed_from self.now.held from }
+        ensures bound { result < 2 ^ 63 }
     {
-        self.framed(from).len() as u64
+        self.store.framed_len(from)
     }
 
-    /// Writes as many bytes as fit of the held frames from a held boundary on, each after its
-    /// length field, without the first `skip` of these bytes. Answers how many were written. It
-    /// takes the time to copy them and for a binary search among the frames.
+    /// How many bytes all readable frames have, with their length fields.
+    pub fn framed_total(&self) -> u64
+        ensures value { result ≡ length (flat_map framed (readable self.now).frames) }
+        ensures bound { result < 2 ^ 63 }
+    {
+        self.store.framed_total()
+    }
+
+    /// Writes as many bytes as fit of the frames from a readable boundary on, each after its length
+    /// field, without the first `skip` of these bytes. Answers how many were written. It takes the
+    /// time to copy them and for a binary search among the frames.
     pub fn copy(&self, from: u64, skip: u64, buffer: &mut [u8]) -> usize
-        requires boundary { IsHeldBoundary self.now.held from }
-        requires within { skip ≤ length (framed_from self.now.held from) }
-        ensures count { let framed = framed_from self.now.held from in
+        requires boundary { CanReadFrom self.now from }
+        requires within { skip ≤ length (framed_from (readable self.now) from) }
+        ensures count { let framed = framed_from (readable self.now) from in
             result ≡ min (length buffer.old) (length framed - skip) }
-        ensures written { let framed = framed_from self.now.held from in
+        ensures written { let framed = framed_from (readable self.now) from in
             buffer.new ≡ take result (drop skip framed) ++ drop result buffer.old }
     {
-        let framed = self.framed(from);
-        fill(buffer, &framed[skip as usize..])
+        self.store.copy(from, skip, buffer)
     }
 
-    /// The held frames from a held boundary on, each after its length field. It takes the time of a
-    /// binary search among the frames.
-    pub fn framed(&self, from: u64) -> &[u8]
-        requires { IsHeldBoundary self.now.held from }
-        ensures { result.now ≡ framed_from self.now.held from }
+    /// The last readable boundary that the first `count` framed bytes from a readable boundary on
+    /// reach, and how many of them lie after it. It takes the time for a binary search among the
+    /// frames, and a constant for each frame between the two.
+    pub fn place_after(&self, from: u64, count: u64) -> Place
+        requires boundary { CanReadFrom self.now from }
+        requires within { count ≤ length (framed_from (readable self.now) from) }
+        ensures boundary { IsReadable self.now result.position }
+        ensures later { from ≤ result.position }
+        ensures skip { result.skip ≤ count }
+        ensures rest { drop (count - result.skip) (framed_from (readable self.now) from) ≡
+            framed_from (readable self.now) result.position }
+        ensures inside { result.skip ≤ length (framed_from (readable self.now) result.position) }
+        ensures last { (p : ℕ) → IsReadable self.now p → result.position < p →
+            count + length (framed_from (readable self.now) p)
+            < length (framed_from (readable self.now) from) }
     {
-        let framed = self.bytes.as_slice();
-        let before = count_up_to(&self.ends, from);
-        let at = (from - self.first) as usize + 3 * before;
-        &framed[at..]
+        self.store.place_after(from, count)
     }
-
-    // Appends a frame and forgets none.
-    fn append(&mut self, frame: &[u8])
-        requires spare { HasSpare self.old.spare (length frame.now) }
-        requires shortest { 6 ≤ length frame.now }
-        requires longest { length frame.now < 2 ^ 24 }
-        requires top { end_of self.old.held + length frame.now < 2 ^ 63 }
-        ensures held { self.new.held ≡ with_newest self.old.held frame.now }
-        ensures spare { self.new.spare ≡ spare_after self.old.spare (length frame.now) }
-    {
-        append_framed(&mut self.bytes, frame);
-        self.end += frame.len() as u64;
-        self.ends.push_back_reserved(self.end);
-        self.spare_frames -= 1;
-        self.spare_bytes -= frame.len();
-    }
-
-    // Forgets the oldest frames until the rest starts at `low` or later.
-    fn forget_until(&mut self, low: u64)
-        requires { low ≤ end_of self.old.held }
-        ensures held { self.new.held ≡ from_least self.old.held low }
-        ensures end { end_of self.new.held ≡ end_of self.old.held }
-        ensures spare { self.new.spare ≡ self.old.spare }
-    {
-        while self.first() < low {
-            self.forget_oldest();
-        }
-    }
-
-    // Whether a frame is held and the oldest one ends at or before the position.
-    #[tactic(auto, unfolding(position::specs::Boundaries::pos_by))]
-    fn is_oldest_past(&self, position: u64) -> bool
-        ensures { IsTrue result ↔ OldestEndsBy self.now.held position }
-    {
-        self.ends.front().is_some_and(|end| *end <= position)
-    }
-
-    // Forgets the oldest frame.
-    fn forget_oldest(&mut self)
-        requires { 0 < length self.old.held.frames }
-        ensures held { self.new.held ≡ without_oldest self.old.held }
-        ensures rises { self.old.held.first < self.new.held.first }
-        ensures end { end_of self.new.held ≡ end_of self.old.held }
-        ensures spare { self.new.spare ≡ self.old.spare }
-    {
-        let Some(end) = self.ends.pop_front() else {
-            return;
-        };
-        self.bytes.drop_front(3 + (end - self.first) as usize);
-        self.first = end;
-    }
-}
-
-// How many of the positions, none of which is below the one before, are at most `position`.
-fn count_up_to(positions: &VecDeque<u64>, position: u64) -> usize
-    requires { IsNonDecreasing positions.now.items }
-    ensures bound { result ≤ deque_len positions.now }
-    ensures within { (k : ℕ) → k < result → slice_index positions.now.items k ≤ position }
-    ensures after { (k : ℕ) → result ≤ k → k < deque_len positions.now →
-        position < slice_index positions.now.items k }
-{
-    positions.partition_point(|end| *end <= position)
 }

@@ -1,15 +1,13 @@
-use Rattle.std.proofs.Common.{ap, ◌∙◌, eq-eqb}
-use Rattle.replay_buffer.specs.Held.{Buffer}
-use Rattle.replay_buffer.specs.Storage.{buffer_of}
-use Rattle.replay_buffer.proofs.Found.{boundary_found, first_held}
+use Rattle.std.proofs.Common.{◌≤◌, arith}
+use Rattle.replay_buffer.proofs.Passed.{held_starts, starts_held}
 use Rattle.replay_buffer.proofs.replay.Replay.is_boundary.Goals as goal
 
-pub returns-then-position-self : goal.returns-then-position-self
-returns-then-position-self c = (
-  λ _. first_held c.args.self.now.held c.args.position (c.if-position-self.true ∙ ap (λ (b : Buffer). b.held.first) c.self.view_is),
-  λ _. eq-eqb c.args.position c.self.inside.first c.if-position-self.true,
-)
-
-pub returns-else-position-self : goal.returns-else-position-self
-returns-else-position-self c =
-    rw (← c.self.view_is, c.is_ok.ensures.value) (boundary_found (buffer_of c.self.inside).held c.args.position _ _ c.binary_search.result c.self.invariant.stored c.if-position-self.false c.binary_search.ensures.position)
+pub returns-then-position-first : goal.returns-then-position-first
+returns-then-position-first c =
+    let r = c.self.inside in
+    let within = c.self.invariant.within in
+    let from : r.store.first ≤ c.args.position = omega (arith, c.first.ensures.value, c.if-position-first.true) in
+    rw (← c.self.view_is) (
+      λ yes. held_starts r.store r.hold c.args.position within (from, c.is_start.ensures.0 yes),
+      λ held. c.is_start.ensures.1 (starts_held r.store r.hold c.args.position within held).1,
+    )

@@ -1,21 +1,59 @@
 use Rattle.std.proofs.Common.{◌≡◌, ◌-◌, [], ◌∷◌, ◌++◌, length, ap, sym, subst, ◌∙◌, arith}
+use Rattle.std.specs.Option.{IfSome}
 use Rattle.position.proofs.Boundaries.{pos-push}
-use Rattle.replay_buffer.specs.Held.{Buffer, Held, IsHeldOf, end_of, with_newest}
+use Rattle.replay_buffer.specs.Held.{Buffer, HasSpare, Held, IsHeldOf, end_of, from_boundary, from_least, lesser, readable, spare_after, with_newest}
+use Rattle.replay_buffer.specs.Stored.{Stored, IsStart, held_in}
 use Rattle.replay_buffer.proofs.HeldOf.{kept}
+use Rattle.replay_buffer.proofs.Trimmed.{all_in, appended-all, appended-pinned, passed-all, passed-pinned, trimmed-all, trimmed-held, trimmed-pinned}
 use Rattle.replay_buffer.proofs.replay.Replay.keep.Goals as goal
+
+pub append-requires-clause-spare : goal.append-requires-clause-spare
+append-requires-clause-spare c = subst (λ (b : Buffer). HasSpare b.spare (length c.args.frame.now)) (sym c.self.view_is) c.requires.spare
+
+pub append-requires-clause-top : goal.append-requires-clause-top
+append-requires-clause-top c = omega (arith, ap (λ (b : Buffer). end_of b.held) c.self.view_is, c.requires.top)
+
+pub forget_unpinned-requires : goal.forget_unpinned-requires
+forget_unpinned-requires c =
+    let r = c.self.inside in
+    let more = appended-pinned r.store c.args.frame.now (spare_after r.store.spare (length c.args.frame.now)) r.pin c.self.invariant.boundary in
+    passed-pinned _ _ r.pin c.pass_until.ensures.all (subst (λ v. IfSome r.pin (IsStart v)) (sym c.append.ensures) more)
+
+pub invariant_of-self : goal.invariant_of-self
+invariant_of-self c = trimmed-pinned _ _ c.self.inside.pin c.self.inside.hold c.forget_unpinned.ensures.all c.forget_unpinned.ensures.pinned
 
 pub returns-clause-held : goal.returns-clause-held
 returns-clause-held c =
+    let hold = c.self.inside.hold in
     let all = with_newest c.args.self.now.held c.args.frame.now in
-    let view = ap (λ (b : Buffer). b.held) c.forget_until.view_is ∙ c.append.ensures.held in
-    let hold = ap (λ (h : Held). h.hold) view in
-    let low : c.saturating_sub.result ≡ end_of all - all.hold = omega (arith, c.saturating_sub.ensures, c.forget_until.invariant.end, ap end_of view) in
-    cc (c.forget_until-2.ensures.held, c.append.ensures.held, low)
+    let view : held_in hold c.append.new.self ≡ all =
+    ap (held_in hold) c.append.ensures ∙ ap (λ (b : Buffer). with_newest b.held c.args.frame.now) c.self.view_is in
+    let low : c.saturating_sub-low.result ≡ end_of all - all.hold =
+    omega (arith, c.saturating_sub-low.ensures, c.end.ensures.value, ap end_of view, ap (λ (h : Held). h.hold) view) in
+    trimmed-held _ _ _ hold c.forget_unpinned.ensures.all ∙ c.pass_until.ensures.held hold ∙ (λ i. from_least (view i) (low i))
 
 pub returns-clause-of_made : goal.returns-clause-of_made
 returns-clause-of_made c = λ made told newest is up_to spelled.
     subst (IsHeldOf (made ++ newest ∷ []) told) (sym (returns-clause-held c)) (kept made told newest c.args.frame.now c.args.self.now.held is up_to spelled)
 
+pub returns-clause-readable : goal.returns-clause-readable
+returns-clause-readable c =
+    let r = c.self.inside in
+    let first = c.forget_unpinned.new.store.first in
+    let all = passed-all _ _ r.hold c.pass_until.ensures.all ∙ ap (all_in r.hold) c.append.ensures ∙ appended-all r.store c.args.frame.now (spare_after r.store.spare (length c.args.frame.now)) r.hold in
+    trimmed-all _ _ r.pin r.hold c.forget_unpinned.ensures.all ∙ ap (λ h. from_boundary h (lesser r.pin first)) all
+    ∙ ap (λ (b : Buffer). from_boundary (with_newest (readable b) c.args.frame.now) (lesser b.pin first)) c.self.view_is
+
 pub returns-clause-end : goal.returns-clause-end
 returns-clause-end c =
-    omega (arith, ap end_of c.append.ensures.held, c.forget_until-2.ensures.end, pos-push length c.args.self.now.held.frames c.args.frame.now)
+    let hold = c.self.inside.hold in
+    let view = ap (λ (b : Buffer). end_of b.held) c.self.view_is in
+    let more = ap (λ v. end_of (held_in hold v)) c.append.ensures in
+    let new = ap end_of (trimmed-held _ _ _ hold c.forget_unpinned.ensures.all) in
+    omega (arith, view, more, new, c.pass_until.ensures.all.end, pos-push length c.self.inside.store.held c.args.frame.now)
+
+pub returns-clause-spare : goal.returns-clause-spare
+returns-clause-spare c =
+    let n = length c.args.frame.now in
+    ap (λ (v : Stored). v.spare) c.forget_unpinned.ensures.all.same ∙ c.pass_until.ensures.all.spare ∙ ap (λ (v : Stored). v.spare) c.append.ensures
+    ∙ ap (λ (b : Buffer). spare_after b.spare n) c.self.view_is

@@ -1,0 +1,5 @@
+pub mod Waiting
+pub mod Line
+pub mod Spans
+pub mod Pins
+pub mod Woven

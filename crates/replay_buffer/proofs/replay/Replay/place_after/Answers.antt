@@ -1,0 +1,7 @@
+use Rattle.std.proofs.Common.{sym, subst}
+use Rattle.replay_buffer.specs.Held.{CanReadFrom}
+use Rattle.replay_buffer.proofs.Trimmed.{can_start}
+use Rattle.replay_buffer.proofs.replay.Replay.place_after.Goals as goal
+
+pub place_after-requires-clause-boundary : goal.place_after-requires-clause-boundary
+place_after-requires-clause-boundary c = can_start c.self.inside c.args.from c.self.invariant (subst (λ b. CanReadFrom b c.args.from) (sym c.self.view_is) c.requires.boundary)

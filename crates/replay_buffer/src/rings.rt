@@ -1,0 +1,150 @@
+//! Rings: how they grow, and what is read of them.
+
+ghost use Rattle.std.specs.Prelude.{◌≡◌, ◌+◌, ◌-◌, ◌<◌, ◌≤◌, ◌++◌, ◌∷◌, [], ◌^◌, ℕ, OnErr, OnOk, drop, length, max, min, slice_index, take};
+ghost use Rattle.rs_frame.specs.Framed.{framed};
+
+use byteorder::{BigEndian, ByteOrder};
+use circular_buffer::HeapCircularBuffer;
+use rs_wire::OutOfMemory;
+
+/// The capacity of a ring that is to have room for so many items: a sixth more, so that a ring that
+/// grows moves each item some seven times in all, and some at least.
+fn grown(wanted: usize, least: usize) -> usize
+    ensures { wanted ≤ result }
+{
+    wanted.saturating_add((wanted / 6).max(least))
+}
+
+/// Moves the items to a block of another capacity, which has to hold them.
+fn move_over<T: Copy + Drop>(
+    ring: &mut HeapCircularBuffer<T>,
+    capacity: usize,
+) -> Result<(), OutOfMemory>
+    requires { length ring.old.items ≤ capacity }
+    ensures ok { OnOk result (ring.new ≡ record { items = ring.old.items; capacity = capacity }) }
+    ensures err { OnErr result (ring.new ≡ ring.old) }
+{
+    let mut other = HeapCircularBuffer::with_capacity(*ring.allocator(), capacity)?;
+    let (front, back) = ring.as_slices();
+    other.fill_from_slice(front);
+    other.fill_from_slice(back);
+    *ring = other;
+    Ok(())
+}
+
+/// Makes room for `count` items more. What a ring has room for beyond four times that is given back.
+pub fn make_room<T: Copy + Drop>(
+    ring: &mut HeapCircularBuffer<T>,
+    count: usize,
+    least: usize,
+) -> Result<(), OutOfMemory>
+    ensures items { ring.new.items ≡ ring.old.items }
+    ensures room { OnOk result (length ring.new.items + count ≤ ring.new.capacity) }
+    ensures err { OnErr result (ring.new ≡ ring.old) }
+{
+    let wanted = ring.len().checked_add(count).ok_or(OutOfMemory)?;
+    let capacity = ring.capacity();
+    if wanted > capacity {
+        return move_over(ring, grown(wanted, least));
+    }
+    if grown(wanted, least) < capacity / 4 {
+        // Where there is no memory for the smaller block, the larger one stays.
+        let _moved = move_over(ring, grown(wanted, least));
+    }
+    Ok(())
+}
+
+/// How many of the positions, none of which is below the one before, are at most `position`.
+pub fn count_up_to(positions: &HeapCircularBuffer<u64>, position: u64) -> usize
+    requires { (i j : ℕ) → i ≤ j → j < length positions.now.items →
+        slice_index positions.now.items i ≤ slice_index positions.now.items j }
+    ensures bound { result ≤ length positions.now.items }
+    ensures within { (k : ℕ) → k < result → slice_index positions.now.items k ≤ position }
+    ensures after { (k : ℕ) → result ≤ k → k < length positions.now.items →
+        position < slice_index positions.now.items k }
+{
+    let mut low = 0;
+    let mut high = positions.len();
+    while low < high {
+        let middle = low + (high - low) / 2;
+        if at(positions, middle) <= position {
+            low = middle + 1;
+        } else {
+            high = middle;
+        }
+    }
+    low
+}
+
+// Appends the bytes, for which there is room.
+fn put(bytes: &mut HeapCircularBuffer<u8>, more: &[u8])
+    requires { length bytes.old.items + length more.now ≤ bytes.old.capacity }
+    ensures { bytes.new ≡ record bytes.old { items = bytes.old.items ++ more.now } }
+{
+    let _all = bytes.fill_from_slice(more);
+}
+
+/// Appends the frame after its 24-bit length, for which there is room.
+pub fn put_framed(bytes: &mut HeapCircularBuffer<u8>, frame: &[u8])
+    requires room { length bytes.old.items + (3 + length frame.now) ≤ bytes.old.capacity }
+    requires longest { length frame.now < 2 ^ 24 }
+    ensures { bytes.new ≡ record bytes.old { items = bytes.old.items ++ framed frame.now } }
+{
+    let mut length = [0; 3];
+    BigEndian::write_u24(&mut length, frame.len() as u32);
+    put(bytes, &length);
+    put(bytes, frame);
+}
+
+/// Appends a position, for which there is room.
+pub fn push(positions: &mut HeapCircularBuffer<u64>, position: u64)
+    requires { length positions.old.items < positions.old.capacity }
+    ensures { positions.new ≡
+        record positions.old { items = positions.old.items ++ position ∷ [] } }
+{
+    let _room = positions.try_push_back(position);
+}
+
+/// Drops the first items.
+pub fn drop_front<T: Drop>(ring: &mut HeapCircularBuffer<T>, count: usize)
+    requires { count ≤ length ring.old.items }
+    ensures { ring.new ≡ record ring.old { items = drop count ring.old.items } }
+{
+    let left = ring.len() - count;
+    ring.truncate_front(left);
+}
+
+/// The position at the index.
+pub fn at(positions: &HeapCircularBuffer<u64>, index: usize) -> u64
+    requires { index < length positions.now.items }
+    ensures { result ≡ slice_index positions.now.items index }
+{
+    positions.get(index).copied().unwrap_or(0)
+}
+
+// Writes as many of both as fit to the beginning of the buffer, and answers how many.
+fn copy_both(front: &[u8], back: &[u8], buffer: &mut [u8]) -> usize
+    ensures count { result ≡ min (length buffer.old) (length front.now + length back.now) }
+    ensures written { buffer.new ≡
+        take result (front.now ++ back.now) ++ drop result buffer.old }
+{
+    let from_front = front.len().min(buffer.len());
+    let from_back = back.len().min(buffer.len() - from_front);
+    let count = from_front + from_back;
+    buffer[..from_front].copy_from_slice(&front[..from_front]);
+    buffer[from_front..count].copy_from_slice(&back[..from_back]);
+    count
+}
+
+/// Writes as many of the bytes as fit to the beginning of the buffer, without the first `skip`, and
+/// answers how many.
+pub fn copy_after(bytes: &HeapCircularBuffer<u8>, skip: usize, buffer: &mut [u8]) -> usize
+    requires { skip ≤ length bytes.now.items }
+    ensures count { result ≡ min (length buffer.old) (length bytes.now.items - skip) }
+    ensures written { buffer.new ≡
+        take result (drop skip bytes.now.items) ++ drop result buffer.old }
+{
+    let (front, back) = bytes.as_slices();
+    let in_front = skip.min(front.len());
+    copy_both(&front[in_front..], &back[skip - in_front..], buffer)
+}
