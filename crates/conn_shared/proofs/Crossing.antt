@@ -10,7 +10,7 @@ use Rattle.rs_wire.proofs.settings.Checked.TheSendSync as checked
 use Rattle.rs_frame.proofs.frame.Setup.TheSendSync as setup
 use Rattle.tape.specs.declared.tapes.Tape.{Ghosts}
 use Rattle.session_model.proofs.facts.Counted.TheSendSync as counted
-use Rattle.replay_buffer.proofs.replay.Replay.TheSendSync as replay
+use Rattle.outbox.proofs.outbox.Outbox.TheSendSync as outbox
 use Rattle.reassembly.proofs.table.Reassembly.TheSendSync as reassembly
 use Rattle.keepalive.proofs.timer.Timer.TheSendSync as timer
 use Rattle.lease.proofs.requester.Lease.TheSendSync as lease
@@ -23,7 +23,6 @@ use Rattle.session_core.specs.contracts.history.History as entries
 use Rattle.session_core.specs.contracts.state.State as state
 use Rattle.session_core.specs.contracts.session.Session as session
 use Rattle.session_core.specs.contracts.session.Session.TheInside as session_inside
-use Rattle.session_core.proofs.queue.Queue.TheSendSync as queue
 use Rattle.conn_lock.proofs.seat.Seat.TheSendSync as seat
 use Rattle.conn_lock.proofs.lock.Lock.TheSendSync as lock
 use Rattle.conn_shared.specs.contracts.line.Line as line
@@ -63,21 +62,18 @@ state_send = struct_send (shape state.the_type) (
               (
                 counted.the_field_send,
                 (
-                  replay.the_send,
+                  outbox.the_send,
                   (
                     streams_send,
                     (
                       reassembly.the_send,
                       (
-                        queue.the_send,
+                        timer.the_send,
                         (
-                          timer.the_send,
+                          lease.the_send,
                           (
-                            lease.the_send,
-                            (
-                              granted.the_send,
-                              tt,
-                            ),
+                            granted.the_send,
+                            tt,
                           ),
                         ),
                       ),

@@ -15,7 +15,8 @@ use Rattle.fragment.specs.Joining.{Gathered}
 use Rattle.interactions.specs.Seen.{Seen, acted, known_to, stream_of_call}
 use Rattle.reassembly.specs.Gathering.{ReassemblyView, gathered_at}
 use Rattle.rs_frame.specs.Spelling.{canonical}
-use Rattle.replay_buffer.specs.Held.{Buffer, HasSpare, end_of}
+use Rattle.replay_buffer.specs.Held.{HasSpare, end_of}
+use Rattle.outbox.specs.Waiting.{CanKeepLast, Waiting}
 use Rattle.session_model.specs.declared.facts.Counted.{Counted}
 use Rattle.session_model.specs.Frames.{if_agreed, makes, spoken}
 use Rattle.session_model.specs.Legal.{IsFair}
@@ -28,7 +29,7 @@ use Rattle.session_core.specs.Gathering.{IsOfHeard, is_that, touches}
 use Rattle.session_core.specs.Kept.{HoldsMore}
 use Rattle.session_core.specs.Leasing.{LetsStart, covers_next, lease_after}
 use Rattle.session_core.specs.Prepared.{left_in_line, with_line}
-use Rattle.session_core.specs.Sending.{CanKeepLast, IsCallOn, IsLastOf, LetsGo, MaySend, Sends, answer_on, own_next, spoken_after}
+use Rattle.session_core.specs.Sending.{IsCallOn, IsLastOf, LetsGo, MaySend, Sends, answer_on, own_next, spoken_after}
 use Rattle.session_core.specs.Speaking.{Acts, CanSay, FindsRoom, speaks_on, with_room}
 use Rattle.session_model.proofs.Spelled.{makes_fit}
 use Rattle.session_core.specs.Sound.{IsSound}
@@ -59,10 +60,10 @@ acts_so v next (call.Fail n code content) on what is says = says
 acts_so v next asked on what is says = absurd is
 
 pub sent_acts : (g : Settings) (s : State) (past : List Entry) (asked : Call) (on : ℕ) → Fits g s past → length past < 2 ^ 63 → IsFair g (event.Asked asked) → IsCallOn (own_next s.streams) asked on → MaySend g s asked
-    → Acts (with_room s (Some on) s.parts s.replay.spare).streams asked
+    → Acts (with_room s (Some on) s.parts s.outbox.room).streams asked
 sent_acts g s past asked on fits short fair is may =
-    acts_so (with_room s (Some on) s.parts s.replay.spare).streams (own_next s.streams) asked on _ is
-    (can_say g s past (Some on) s.parts s.replay.spare (event.Asked asked) (answer_on asked on) fits short fair (sent_means g s asked on fits.limits_are is may) (finds_room (own_next s.streams) asked on is))
+    acts_so (with_room s (Some on) s.parts s.outbox.room).streams (own_next s.streams) asked on _ is
+    (can_say g s past (Some on) s.parts s.outbox.room (event.Asked asked) (answer_on asked on) fits short fair (sent_means g s asked on fits.limits_are is may) (finds_room (own_next s.streams) asked on is))
 
 -- what a call says is what the marks of its entry are
 said_there : (v : Seen) (covered : Bool) (held : ℕ → Gathered) (asked : Call) (on : ℕ) → IsCallOn (own_next v) asked on → said (stream_of_call v asked) asked ≡ marks_in covered held (answer_on asked on) (event.Asked asked)
@@ -108,20 +109,20 @@ one_more t ms n one long =
     ∙ ap (λ (p : ℕ). record { frames = t.frames + length ms; position = t.position + p }) (sym long)
 
 -- what it leaves
-sent_applied : (g : Settings) (old : State) (asked : Call) (on n : ℕ) (parts : ReassemblyView) (replay : Buffer) (lease : Option Terms) → IsCallOn (own_next old.streams) asked on → IsOfHeard (known_to old.streams) old.parts
+sent_applied : (g : Settings) (old : State) (asked : Call) (on n : ℕ) (parts : ReassemblyView) (kept : Waiting) (lease : Option Terms) → IsCallOn (own_next old.streams) asked on → IsOfHeard (known_to old.streams) old.parts
     → length (makes g (covers_next g old) (known_to old.streams) (answer_on asked on) (event.Asked asked)) ≡ 1
     → pos (makes g (covers_next g old) (known_to old.streams) (answer_on asked on) (event.Asked asked)) ≡ n
-    → HoldsMore old.replay.held (if_agreed (agrees_resumption g old.setup) (makes g (covers_next g old) (known_to old.streams) (answer_on asked on) (event.Asked asked))) 0 replay.held
-    → replay.held.hold ≡ old.replay.held.hold
+    → HoldsMore old.outbox.held (if_agreed (agrees_resumption g old.setup) (makes g (covers_next g old) (known_to old.streams) (answer_on asked on) (event.Asked asked))) 0 kept.held
+    → kept.held.hold ≡ old.outbox.held.hold
     → ((id now : ℕ) → lease ≡ lease_after (agrees_leases g old.setup) now (answer_on asked id) (event.Asked asked) old.lease)
     → LetsGo (known_to (acted old.streams asked)) on old.parts parts
-    → IsApplied g old (event.Asked asked) (answer_on asked on) (spoken_after old asked n parts replay lease)
-sent_applied g old (call.Push metadata) on n parts replay lease is heard one long holds hold leased go = absurd is
-sent_applied g old (call.Lease ttl count metadata) on n parts replay lease is heard one long holds hold leased go = absurd is
-sent_applied g old (call.Take s) on n parts replay lease is heard one long holds hold leased go = absurd is
-sent_applied g old call.TakeJob on n parts replay lease is heard one long holds hold leased go = absurd is
-sent_applied g old call.Close on n parts replay lease is heard one long holds hold leased go = absurd is
-sent_applied g old asked on n parts replay lease is heard one long holds hold leased go =
+    → IsApplied g old (event.Asked asked) (answer_on asked on) (spoken_after old asked n parts kept lease)
+sent_applied g old (call.Push metadata) on n parts kept lease is heard one long holds hold leased go = absurd is
+sent_applied g old (call.Lease ttl count metadata) on n parts kept lease is heard one long holds hold leased go = absurd is
+sent_applied g old (call.Take s) on n parts kept lease is heard one long holds hold leased go = absurd is
+sent_applied g old call.TakeJob on n parts kept lease is heard one long holds hold leased go = absurd is
+sent_applied g old call.Close on n parts kept lease is heard one long holds hold leased go = absurd is
+sent_applied g old asked on n parts kept lease is heard one long holds hold leased go =
     let goes = sent_goes old (covers_next g old) asked on parts is heard go in
     record {
       openings = sym (add-zero old.openings);
@@ -149,11 +150,11 @@ stays_lined asked on n queue = refl
 
 pub sent_after : (g : Settings) (s : State) (past : List Entry) (mid new : State) (asked : Call) (on n : ℕ) (keeps leases : Bool) → Fits g s past → IsCallOn (own_next s.streams) asked on → Sends g s asked on n
     → keeps ≡ agrees_resumption g s.setup → leases ≡ agrees_leases g s.setup
-    → mid ≡ with_room (with_line g s (event.Asked asked) (answer_on asked on)) (Some on) s.parts mid.replay.spare
-    → IfSome (spoken (known_to s.streams) on asked) (IsLastOf mid.queue n)
-    → new ≡ spoken_after mid asked n new.parts new.replay new.lease
-    → ((f : Frame) → drop (length mid.queue - n) mid.queue ≡ canonical f → HoldsMore mid.replay.held (if_agreed keeps (f ∷ [])) 0 new.replay.held)
-    → new.replay.held.hold ≡ mid.replay.held.hold
+    → mid ≡ with_room (with_line g s (event.Asked asked) (answer_on asked on)) (Some on) s.parts mid.outbox.room
+    → IfSome (spoken (known_to s.streams) on asked) (IsLastOf mid.outbox n)
+    → new ≡ spoken_after mid asked n new.parts new.outbox new.lease
+    → ((f : Frame) → drop (length mid.outbox.queue - n) mid.outbox.queue ≡ canonical f → HoldsMore mid.outbox.held (if_agreed keeps (f ∷ [])) 0 new.outbox.held)
+    → new.outbox.held.hold ≡ mid.outbox.held.hold
     → ((id now : ℕ) → new.lease ≡ lease_after leases now (answer_on asked id) (event.Asked asked) mid.lease)
     → LetsGo (known_to (acted mid.streams asked)) on mid.parts new.parts
     → IsAfter g s (event.Asked asked) (answer_on asked on) new
@@ -161,33 +162,33 @@ sent_after g s past mid new asked on n keeps leases fits is sends kept leased li
     let a = answer_on asked on in
     let e = event.Asked asked in
     let ms = makes g (covers_next g s) (known_to s.streams) a e in
-    let old : State = with_room (with_line g s e a) (Some on) s.parts mid.replay.spare in
-    let spoke : new ≡ spoken_after old asked n new.parts new.replay new.lease = same ∙ ap (λ (k : State). spoken_after k asked n new.parts new.replay new.lease) lined in
+    let old : State = with_room (with_line g s e a) (Some on) s.parts mid.outbox.room in
+    let spoke : new ≡ spoken_after old asked n new.parts new.outbox new.lease = same ∙ ap (λ (k : State). spoken_after k asked n new.parts new.outbox new.lease) lined in
     let gone : LetsGo (known_to (acted old.streams asked)) on old.parts new.parts = subst (λ (k : State). LetsGo (known_to (acted k.streams asked)) on k.parts new.parts) lined go in
     let means = sent_means g s asked on fits.limits_are is sends.may in
     let some = is_spoken (known_to s.streams) (own_next s.streams) asked on is in
-    let of_mid : HoldsMore mid.replay.held (if_agreed keeps ms) 0 new.replay.held = holds_last (spoken (known_to s.streams) on asked) ms mid.queue n keeps mid.replay.held new.replay.held some sends.alone last holds in
-    let of_old : HoldsMore s.replay.held (if_agreed keeps ms) 0 new.replay.held = subst (λ (k : State). HoldsMore k.replay.held (if_agreed keeps ms) 0 new.replay.held) lined of_mid in
-    let held : HoldsMore s.replay.held (if_agreed (agrees_resumption g s.setup) ms) 0 new.replay.held = subst (λ (b : Bool). HoldsMore s.replay.held (if_agreed b ms) 0 new.replay.held) kept of_old in
-    let bound : new.replay.held.hold ≡ s.replay.held.hold = hold ∙ ap (λ (k : State). k.replay.held.hold) lined in
+    let of_mid : HoldsMore mid.outbox.held (if_agreed keeps ms) 0 new.outbox.held = holds_last (spoken (known_to s.streams) on asked) ms mid.outbox n keeps mid.outbox.held new.outbox.held some sends.alone last holds in
+    let of_old : HoldsMore s.outbox.held (if_agreed keeps ms) 0 new.outbox.held = subst (λ (k : State). HoldsMore k.outbox.held (if_agreed keeps ms) 0 new.outbox.held) lined of_mid in
+    let held : HoldsMore s.outbox.held (if_agreed (agrees_resumption g s.setup) ms) 0 new.outbox.held = subst (λ (b : Bool). HoldsMore s.outbox.held (if_agreed b ms) 0 new.outbox.held) kept of_old in
+    let bound : new.outbox.held.hold ≡ s.outbox.held.hold = hold ∙ ap (λ (k : State). k.outbox.held.hold) lined in
     let lets : (id now : ℕ) → new.lease ≡ lease_after (agrees_leases g s.setup) now (answer_on asked id) e s.lease =
     λ id now. lease id now ∙ ap (λ (b : Bool). lease_after b now (answer_on asked id) e mid.lease) leased ∙ ap (λ (k : State). lease_after (agrees_leases g s.setup) now (answer_on asked id) e k.lease) lined in
-    let applied = sent_applied g old asked on n new.parts new.replay new.lease is fits.heard sends.one sends.long held bound lets gone in
-    after_act g s new e a (length s.queue) (Some on) s.parts mid.replay.spare (λ i. refl) (no_draw g (facts_of s) e a means tt) refl (opened_above g (facts_of s) e a means)
-    (subst (IsApplied g old e a) (sym spoke) applied) (ap (λ (k : State). k.queue) spoke ∙ stays_lined asked on (length s.queue) (with_line g s e a).queue)
+    let applied = sent_applied g old asked on n new.parts new.outbox new.lease is fits.heard sends.one sends.long held bound lets gone in
+    after_act g s new e a (length s.outbox.queue) (Some on) s.parts mid.outbox.room (λ i. refl) (no_draw g (facts_of s) e a means tt) refl (opened_above g (facts_of s) e a means)
+    (subst (IsApplied g old e a) (sym spoke) applied) (ap (λ (k : State). k.outbox.queue) spoke ∙ stays_lined asked on (length s.outbox.queue) (with_line g s e a).outbox.queue)
 
 -- the frame can be kept
 pub sent_keeps : (g : Settings) (s : State) (past : List Entry) (told : Option (List Entry)) (count : ℕ) (mid : State) (asked : Call) (on n : ℕ) → IsSound g s past told count → IsCallOn (own_next s.streams) asked on
-    → Sends g s asked on n → mid ≡ with_room (with_line g s (event.Asked asked) (answer_on asked on)) (Some on) s.parts mid.replay.spare
-    → IfSome (spoken (known_to s.streams) on asked) (IsLastOf mid.queue n) → HasSpare mid.replay.spare n → CanKeepLast mid.replay mid.queue n
+    → Sends g s asked on n → mid ≡ with_room (with_line g s (event.Asked asked) (answer_on asked on)) (Some on) s.parts mid.outbox.room
+    → IfSome (spoken (known_to s.streams) on asked) (IsLastOf mid.outbox n) → HasSpare mid.outbox.room.spare n → CanKeepLast mid.outbox n
 sent_keeps g s past told count mid asked on n sound is sends lined last spare =
     let a = answer_on asked on in
     let e = event.Asked asked in
     let means = sent_means g s asked on sound.fits.limits_are is sends.may in
     let within : s.made.position + pos (makes g (covers_next g s) (known_to s.streams) a e) ≤ g.top_position = makes_fit g (facts_of s) e a means sound.made.position in
     let end = end_below g s past sound.fits in
-    let same : end_of mid.replay.held ≡ end_of s.replay.held = ap (λ (k : State). end_of k.replay.held) lined in
-    can_keep (spoken (known_to s.streams) on asked) mid.replay mid.queue n (is_spoken (known_to s.streams) (own_next s.streams) asked on is) last spare
+    let same : end_of mid.outbox.held ≡ end_of s.outbox.held = ap (λ (k : State). end_of k.outbox.held) lined in
+    can_keep (spoken (known_to s.streams) on asked) mid.outbox n (is_spoken (known_to s.streams) (own_next s.streams) asked on is) last spare
     (omega (arith, within, end, same, sends.long, sound.checked.top_position))
 
 same_lets : (agreed : Bool) (asked : Call) (on id : ℕ) (lease : Option Terms) → LetsStart agreed (answer_on asked on) lease → LetsStart agreed (answer_on asked id) lease
@@ -196,7 +197,7 @@ same_lets agreed asked on id lease lets = lets
 
 -- the lease lets a request start
 pub sent_lets : (g : Settings) (s : State) (past : List Entry) (told : Option (List Entry)) (count : ℕ) (mid : State) (asked : Call) (on n : ℕ) (leases : Bool) → IsSound g s past told count → IsCallOn (own_next s.streams) asked on
-    → Sends g s asked on n → leases ≡ agrees_leases g s.setup → mid ≡ with_room (with_line g s (event.Asked asked) (answer_on asked on)) (Some on) s.parts mid.replay.spare
+    → Sends g s asked on n → leases ≡ agrees_leases g s.setup → mid ≡ with_room (with_line g s (event.Asked asked) (answer_on asked on)) (Some on) s.parts mid.outbox.room
     → (id : ℕ) → LetsStart leases (answer_on asked id) mid.lease
 sent_lets g s past told count mid asked on n leases sound is sends leased lined id =
     let answer = sent_answer g s past asked on sound.fits is sends.may in

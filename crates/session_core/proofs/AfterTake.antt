@@ -52,7 +52,7 @@ after_take g old new s d streams parts off took gone is =
         closed = or_none old.closed;
         made = none_counted old.made;
         handled = none_counted old.handled;
-        held = holds_same (agrees_resumption g old.setup) old.replay.held;
+        held = holds_same (agrees_resumption g old.setup) old.outbox.held;
         hold = refl;
         marks = refl;
         limits = refl;
@@ -62,7 +62,7 @@ after_take g old new s d streams parts off took gone is =
         lease = refl;
         granted = refl;
       };
-      queue = if_same (is_connected old.live) old.queue ∙ ap (λ (more : List ℕ). cond (is_connected old.live) (old.queue ++ more) old.queue) (sym (nothing_lined old.carrying));
+      queue = if_same (is_connected old.live) old.outbox.queue ∙ ap (λ (more : List ℕ). cond (is_connected old.live) (old.outbox.queue ++ more) old.outbox.queue) (sym (nothing_lined old.carrying));
     })
 
 -- a take of a job leaves this, where it gets one
@@ -92,7 +92,7 @@ after_job g old new (Some j) streams off took is =
         closed = or_none old.closed;
         made = none_counted old.made;
         handled = none_counted old.handled;
-        held = holds_same (agrees_resumption g old.setup) old.replay.held;
+        held = holds_same (agrees_resumption g old.setup) old.outbox.held;
         hold = refl;
         marks = refl;
         limits = refl;
@@ -102,7 +102,7 @@ after_job g old new (Some j) streams off took is =
         lease = refl;
         granted = refl;
       };
-      queue = if_same (is_connected old.live) old.queue ∙ ap (λ (more : List ℕ). cond (is_connected old.live) (old.queue ++ more) old.queue) (sym (nothing_lined old.carrying));
+      queue = if_same (is_connected old.live) old.outbox.queue ∙ ap (λ (more : List ℕ). cond (is_connected old.live) (old.outbox.queue ++ more) old.outbox.queue) (sym (nothing_lined old.carrying));
     })
 
 -- a take where something waits gets the first of it

@@ -103,7 +103,7 @@ after_alone g old (event.Came conn f) handled timer streams parts alone means of
     let e = event.Came conn f in
     let most = streams.limits.max_streams in
     let covered = covers_next g old in
-    let held = old.replay.held in
+    let held = old.outbox.held in
     let agreed = agrees_resumption g old.setup in
     let quiet = silent g old e alone in
     let said = marks_said covered (gathered_at old.parts) a e (said_alone e) old.streams.marks streams.marks (said_is g old e alone) says in
@@ -135,7 +135,7 @@ after_alone g old (event.Came conn f) handled timer streams parts alone means of
         lease = quiet.lease;
         granted = quiet.granted;
       };
-      queue = if_same (is_connected old.live) old.queue ∙ ap (λ (more : List ℕ). cond (is_connected old.live) (old.queue ++ more) old.queue) (sym quiet.lined);
+      queue = if_same (is_connected old.live) old.outbox.queue ∙ ap (λ (more : List ℕ). cond (is_connected old.live) (old.outbox.queue ++ more) old.outbox.queue) (sym quiet.lined);
     }
 after_alone g old _ handled timer streams parts alone means off counts came says limits gone = absurd alone
 

@@ -11,7 +11,8 @@ use Rattle.rs_frame.specs.Spelling.{IsSpellable, canonical, length_of}
 use Rattle.position.specs.Boundaries.{is_boundary, is_boundary_by, pos, pos_by}
 use Rattle.position.proofs.Boundaries.{pos-append}
 use Rattle.position.proofs.Held.{boundary_test, test_boundary}
-use Rattle.replay_buffer.specs.Held.{Buffer, HasSpare, Held, IsHeldBoundary, IsHeldOf, Spare, end_of, from_least, spare_after, with_newest}
+use Rattle.outbox.specs.Waiting.{Waiting}
+use Rattle.replay_buffer.specs.Held.{HasSpare, Held, IsHeldBoundary, IsHeldOf, Spare, end_of, from_least, spare_after, with_newest}
 use Rattle.replay_buffer.proofs.HeldOf.{boundaries_held}
 use Rattle.session_core.specs.Kept.{FindsSpare, HasFrameLength, KeepsAll, has_boundary}
 
@@ -86,18 +87,19 @@ last_spelled (d ∷ done) frame (f ∷ fs) is =
     (f ∷ l.0, l.1, ap (λ xs. f ∷ xs) l.2, (cc), l.4)
 
 -- what is kept of the first frames
-pub record IsKeeping (old now : Buffer) (done : List (List ℕ)) : Type 0 where
+pub record IsKeeping (old now : Waiting) (done : List (List ℕ)) : Type 0 where
   pub kept : KeepsAll old.held done now.held
   pub hold : now.held.hold ≡ old.held.hold
   pub end : end_of now.held ≡ end_of old.held + pos_by length done
-  pub frames : now.spare.frames ≡ old.spare.frames - length done
-  pub bytes : now.spare.bytes ≡ old.spare.bytes - pos_by length done
+  pub frames : now.room.spare.frames ≡ old.room.spare.frames - length done
+  pub bytes : now.room.spare.bytes ≡ old.room.spare.bytes - pos_by length done
+  pub queue : now.queue ≡ old.queue
 
 none_kept : (made : List Frame) (told : ℕ) (h : Held) (fs : List Frame) → IsHeldOf made told h → [] ≡ map canonical fs → IsHeldOf (made ++ fs) told h
 none_kept made told h [] is none = subst (λ l. IsHeldOf l told h) (sym (append-nil made)) is
 none_kept made told h (f ∷ fs) is none = absurd (cc)
 
-pub keeping_none : (b : Buffer) → IsKeeping b b []
+pub keeping_none : (b : Waiting) → IsKeeping b b []
 unfolding pos_by
 keeping_none b = record {
   kept = λ made told more is low same. none_kept made told b.held more is same;
@@ -105,9 +107,10 @@ keeping_none b = record {
   end = omega arith;
   frames = omega arith;
   bytes = omega arith;
+  queue = refl;
 }
 
-one_more : (old now : Buffer) (done : List (List ℕ)) (frame : List ℕ) (new : Held) → KeepsAll old.held done now.held
+one_more : (old now : Waiting) (done : List (List ℕ)) (frame : List ℕ) (new : Held) → KeepsAll old.held done now.held
     → ((made : List Frame) (told : ℕ) (newest : Frame) → IsHeldOf made told now.held → told ≤ pos made → frame ≡ canonical newest → IsHeldOf (made ++ newest ∷ []) told new)
     → KeepsAll old.held (done ++ frame ∷ []) new
 one_more old now done frame new kept of_made made told more is low same =
@@ -120,12 +123,12 @@ one_more old now done frame new kept of_made made told more is low same =
     let grouped : (made ++ front) ++ newest ∷ [] ≡ made ++ more = append_assoc made front (newest ∷ []) ∙ ap (λ xs. made ++ xs) (sym l.2) in
     subst (λ xs. IsHeldOf xs told new) grouped after
 
-pub keeping_more : (old now new : Buffer) (done : List (List ℕ)) (frame : List ℕ) → IsKeeping old now done
+pub keeping_more : (old now new : Waiting) (done : List (List ℕ)) (frame : List ℕ) → IsKeeping old now done
     → ((made : List Frame) (told : ℕ) (newest : Frame) → IsHeldOf made told now.held → told ≤ pos made → frame ≡ canonical newest → IsHeldOf (made ++ newest ∷ []) told new.held)
-    → new.held.hold ≡ now.held.hold → end_of new.held ≡ end_of now.held + length frame → new.spare.frames ≡ now.spare.frames - 1 → new.spare.bytes ≡ now.spare.bytes - length frame
+    → new.held.hold ≡ now.held.hold → end_of new.held ≡ end_of now.held + length frame → new.room.spare.frames ≡ now.room.spare.frames - 1 → new.room.spare.bytes ≡ now.room.spare.bytes - length frame → new.queue ≡ now.queue
     → IsKeeping old new (done ++ frame ∷ [])
 unfolding pos_by
-keeping_more old now new done frame h of_made hold end frames bytes =
+keeping_more old now new done frame h of_made hold end frames bytes queue =
     let sum = pos-append length done (frame ∷ []) in
     let one : pos_by length (frame ∷ []) ≡ length frame = omega arith in
     let count = length-append done (frame ∷ []) in
@@ -135,6 +138,7 @@ keeping_more old now new done frame h of_made hold end frames bytes =
       end = omega (arith, end, h.end, sum, one);
       frames = omega (arith, frames, h.frames, count);
       bytes = omega (arith, bytes, h.bytes, sum, one);
+      queue = queue ∙ h.queue;
     }
 
 -- ---- frame by frame
@@ -152,8 +156,8 @@ next_within frames i f h is =
     let whole = ap (pos_by length) (take-append-drop (i + 1) frames) in
     omega (arith, next, sum, all, whole)
 
-pub next_fits : (old now : Buffer) (frames : List (List ℕ)) (i : ℕ) (f : List ℕ) → i < length frames → f ≡ get_or frames i f → IsKeeping old now (take i frames) → FindsSpare old.spare frames
-    → HasSpare now.spare (length f)
+pub next_fits : (old now : Waiting) (frames : List (List ℕ)) (i : ℕ) (f : List ℕ) → i < length frames → f ≡ get_or frames i f → IsKeeping old now (take i frames) → FindsSpare old.room.spare frames
+    → HasSpare now.room.spare (length f)
 next_fits old now frames i f h is k spare =
     let within = next_within frames i f h is in
     (omega (arith, h, k.frames, spare.frames, length-take i frames), omega (arith, k.bytes, spare.bytes, within))
@@ -166,22 +170,22 @@ long_at (x ∷ xs) (suc i) f h lt = long_at xs i f h.1 (omega (arith, lt))
 pub next_long : (frames : List (List ℕ)) (i : ℕ) (f : List ℕ) → AllByRecursion HasFrameLength frames → i < length frames → f ≡ get_or frames i f → HasFrameLength f
 next_long frames i f long h is = subst HasFrameLength (sym is) (long_at frames i f long h)
 
-pub next_below : (old now : Buffer) (frames : List (List ℕ)) (i : ℕ) (f : List ℕ) → i < length frames → f ≡ get_or frames i f → IsKeeping old now (take i frames)
+pub next_below : (old now : Waiting) (frames : List (List ℕ)) (i : ℕ) (f : List ℕ) → i < length frames → f ≡ get_or frames i f → IsKeeping old now (take i frames)
     → end_of old.held + pos_by length frames < 2 ^ 63 → end_of now.held + length f < 2 ^ 63
 next_below old now frames i f h is k top = omega (arith, k.end, top, next_within frames i f h is)
 
-pub next_kept : (old now new : Buffer) (frames : List (List ℕ)) (i : ℕ) (f : List ℕ) → i < length frames → f ≡ get_or frames i f → IsKeeping old new (take i frames ++ f ∷ [])
+pub next_kept : (old now new : Waiting) (frames : List (List ℕ)) (i : ℕ) (f : List ℕ) → i < length frames → f ≡ get_or frames i f → IsKeeping old new (take i frames ++ f ∷ [])
     → IsKeeping old new (take (i + 1) frames)
 next_kept old now new frames i f h is k = subst (IsKeeping old new) (sym (next_of frames i f h is)) k
 
 -- one frame more, whose bytes were handed in as `bytes`
-pub keeping_step : (old now new : Buffer) (done : List (List ℕ)) (f bytes : List ℕ) → bytes ≡ f → IsKeeping old now done
+pub keeping_step : (old now new : Waiting) (done : List (List ℕ)) (f bytes : List ℕ) → bytes ≡ f → IsKeeping old now done
     → ((made : List Frame) (told : ℕ) (newest : Frame) → IsHeldOf made told now.held → told ≤ pos made → bytes ≡ canonical newest → IsHeldOf (made ++ newest ∷ []) told new.held)
-    → new.held ≡ from_least (with_newest now.held bytes) (end_of (with_newest now.held bytes) - now.held.hold) → end_of new.held ≡ end_of now.held + length bytes → new.spare ≡ spare_after now.spare (length bytes)
+    → new.held ≡ from_least (with_newest now.held bytes) (end_of (with_newest now.held bytes) - now.held.hold) → end_of new.held ≡ end_of now.held + length bytes → new.room.spare ≡ spare_after now.room.spare (length bytes) → new.queue ≡ now.queue
     → IsKeeping old new (done ++ f ∷ [])
-keeping_step old now new done f bytes same h of_made held end spare =
+keeping_step old now new done f bytes same h of_made held end spare queue =
     subst (λ (x : List ℕ). IsKeeping old new (done ++ x ∷ [])) same
-    (keeping_more old now new done bytes h of_made (ap (λ (k : Held). k.hold) held) end (ap (λ (s : Spare). s.frames) spare) (ap (λ (s : Spare). s.bytes) spare))
+    (keeping_more old now new done bytes h of_made (ap (λ (k : Held). k.hold) held) end (ap (λ (s : Spare). s.frames) spare) (ap (λ (s : Spare). s.bytes) spare) queue)
 
 -- ---- bytes in sum
 

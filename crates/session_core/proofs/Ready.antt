@@ -12,7 +12,7 @@ use Rattle.tape.specs.declared.answer.Answer.{Answer}
 use Rattle.tape.specs.declared.answer.Answer.TheVariants as answer
 use Rattle.fragment.specs.Joining.{Gathered}
 use Rattle.reassembly.specs.Gathering.{ReassemblyView, gathered_at}
-use Rattle.replay_buffer.specs.Held.{Spare}
+use Rattle.outbox.specs.Waiting.{Room}
 use Rattle.interactions.specs.Seen.{known_to}
 use Rattle.session_model.specs.Answers.{answer_to}
 use Rattle.session_model.specs.Frames.{makes}
@@ -40,17 +40,17 @@ use Rattle.session_core.proofs.Sums.{six_each}
 frames_below : (frames position top : ℕ) (more : List Frame) → 6 * frames ≤ position → position + pos more ≤ top → top < 2 ^ 63 → frames + length more < 2 ^ 63
 frames_below frames position top more six within low = omega (arith, six_each more)
 
-pub ready_lined : (g : Settings) (s : State) (past : List Entry) (told : Option (List Entry)) (count : ℕ) (e : Event) (a : Answer) (p : Prepared) (ready : Option ℕ) (parts : ReassemblyView) (spare : Spare)
+pub ready_lined : (g : Settings) (s : State) (past : List Entry) (told : Option (List Entry)) (count : ℕ) (e : Event) (a : Answer) (p : Prepared) (ready : Option ℕ) (parts : ReassemblyView) (waits : Room)
     → IsSound g s past told count → a ≡ answer_to g past e → IsFair g e → length past < 2 ^ 63
-    → AreReady g s e a p → FindsSpare spare p.spelled.items → FindsRoom (speaks_on a e) ready → FindsPlaceFor parts p.incoming.is_part a e → IsSameGathered s.parts parts → IsSameKept s.parts parts
-    → IsReadyFor g (with_room (with_line g s e a) ready parts spare) e a p
-ready_lined g s past told count e a p ready parts spare sound is fair short prepared finds room place same kept =
+    → AreReady g s e a p → FindsSpare waits.spare p.spelled.items → FindsRoom (speaks_on a e) ready → FindsPlaceFor parts p.incoming.is_part a e → IsSameGathered s.parts parts → IsSameKept s.parts parts
+    → IsReadyFor g (with_room (with_line g s e a) ready parts waits) e a p
+ready_lined g s past told count e a p ready parts waits sound is fair short prepared finds room place same kept =
     let means = means_of g s past e a sound.fits is in
     let within : s.made.position + pos (makes g (covers_next g s) (known_to s.streams) a e) ≤ g.top_position = makes_fit g (facts_of s) e a means sound.made.position in
     let held = held_below g s past e a p.spelled.items sound.fits prepared.spelled in
     let top : g.top_position < 2 ^ 63 = omega (arith, sound.checked.top_position) in
     let above : HasRoom s = room_of g s past told count sound short in
-    let says = can_say g s past ready parts spare e a sound.fits short fair means room in
+    let says = can_say g s past ready parts waits e a sound.fits short fair means room in
     let gathered : gathered_at parts ≡ gathered_at s.parts = fun_ext same in
     let frames = frames_below s.made.frames s.made.position g.top_position (makes g (covers_next g s) (known_to s.streams) a e) sound.made.frames within top in
     record {
@@ -62,7 +62,7 @@ ready_lined g s past told count e a p ready parts spare sound is fair short prep
       arrival = prepared.arrival;
       spellable = prepared.spellable;
       long = prepared.long;
-      before = omega (arith, prepared.before, length-append s.queue (lined_on (live_after a s.live) (line_of g s a e)));
+      before = omega (arith, prepared.before, length-append s.outbox.queue (lined_on (live_after a s.live) (line_of g s a e)));
       room = record {
         openings = above.openings;
         made_frames = above.made_frames;
@@ -77,8 +77,8 @@ ready_lined g s past told count e a p ready parts spare sound is fair short prep
       spare = finds;
       place = place;
       starts = starts_of g s past told count e a sound is;
-      says = subst (λ (b : Bool). CanSay (with_room s ready parts spare).streams a e (arrival_for b (gathered_at parts) a e)) (sym prepared.covered)
-          (subst (λ (k : ℕ → Gathered). CanSay (with_room s ready parts spare).streams a e (arrival_for (covers_next g s) k a e)) (sym gathered) says);
+      says = subst (λ (b : Bool). CanSay (with_room s ready parts waits).streams a e (arrival_for b (gathered_at parts) a e)) (sym prepared.covered)
+          (subst (λ (k : ℕ → Gathered). CanSay (with_room s ready parts waits).streams a e (arrival_for (covers_next g s) k a e)) (sym gathered) says);
       heard = λ i off. kept i ∙ sound.fits.heard i off;
     }
 
@@ -99,7 +99,7 @@ idle_cut g s conn _ h = absurd h
 
 pub ready_cut : (g : Settings) (s : State) (past : List Entry) (told : Option (List Entry)) (count conn : ℕ) (a : Answer) (p : Prepared)
     → IsSound g s past told count → length past < 2 ^ 63 → IsOfCut a → a ≡ answer_to g past (event.Cut conn)
-    → p.setup ≡ None → p.made.items ≡ [] → p.spelled.items ≡ [] → p.incoming.arrival ≡ None → p.incoming.covered ≡ covers_next g s → p.before ≡ length s.queue
+    → p.setup ≡ None → p.made.items ≡ [] → p.spelled.items ≡ [] → p.incoming.arrival ≡ None → p.incoming.covered ≡ covers_next g s → p.before ≡ length s.outbox.queue
     → IsReadyFor g s (event.Cut conn) a p
 unfolding pos_by
 ready_cut g s past told count conn a p sound short of_cut is setup made spelled arrival covered before =

@@ -28,7 +28,7 @@ use Rattle.session_model.specs.Streams.{arrival_in, known, unfinished}
 use Rattle.session_model.specs.Frames.{spoken}
 use Rattle.session_model.specs.Answers.{Facts, facts, broken_rule}
 use Rattle.session_model.specs.Legal.{IsFair}
-use Rattle.replay_buffer.specs.Held.{Spare}
+use Rattle.outbox.specs.Waiting.{Room}
 use Rattle.session_model.specs.Means.{Does, MayCome, Means}
 use Rattle.session_model.proofs.Fairness.{arrival_counted, can_act, can_arrive}
 use Rattle.session_model.proofs.Refusals.{Unrefused, streams_allow, unrefused}
@@ -61,10 +61,10 @@ is_some_room : (ready : Option ℕ) (n : ℕ) → ready ≡ Some n → IsSome re
 is_some_room ready n is = subst IsSome (sym is) refl
 
 -- what a frame says that breaks no rule comes
-comes : (g : Settings) (s : State) (past : List Entry) (ready : Option ℕ) (parts : ReassemblyView) (spare : Spare) (f : Frame) (o : Option Arrival) → Fits g s past → length past < 2 ^ 63 → IsSpellable f
-    → broken_rule g (facts_of s) f ≡ None → arrival_in (covers_next g s) (gathered_at s.parts) f ≡ o → FindsRoom (heard_on f) ready → IfSome o (Comes (with_room s ready parts spare).streams)
-comes g s past ready parts spare f None h short spellable unbroken is room = tt
-comes g s past ready parts spare f (Some what) h short spellable unbroken is room =
+comes : (g : Settings) (s : State) (past : List Entry) (ready : Option ℕ) (parts : ReassemblyView) (waits : Room) (f : Frame) (o : Option Arrival) → Fits g s past → length past < 2 ^ 63 → IsSpellable f
+    → broken_rule g (facts_of s) f ≡ None → arrival_in (covers_next g s) (gathered_at s.parts) f ≡ o → FindsRoom (heard_on f) ready → IfSome o (Comes (with_room s ready parts waits).streams)
+comes g s past ready parts waits f None h short spellable unbroken is room = tt
+comes g s past ready parts waits f (Some what) h short spellable unbroken is room =
     record {
       room = heard_there (covers_next g s) (gathered_at s.parts) f what ready is room;
       fits = subst (λ (t : Known). CanArrive t what) (same_streams g s past h)
@@ -76,15 +76,15 @@ comes g s past ready parts spare f (Some what) h short spellable unbroken is roo
     }
 
 -- and so does what may come
-may_come : (g : Settings) (s : State) (past : List Entry) (ready : Option ℕ) (parts : ReassemblyView) (spare : Spare) (f : Frame) → Fits g s past → length past < 2 ^ 63 → IsSpellable f
-    → MayCome g (facts_of s) f → FindsRoom (heard_on f) ready → IfSome (arrival_in (covers_next g s) (gathered_at s.parts) f) (Comes (with_room s ready parts spare).streams)
-may_come g s past ready parts spare (frame.ResumeOk position) h short spellable may room = tt
-may_come g s past ready parts spare f h short spellable may room = comes g s past ready parts spare f (arrival_in (covers_next g s) (gathered_at s.parts) f) h short spellable may.1 refl room
+may_come : (g : Settings) (s : State) (past : List Entry) (ready : Option ℕ) (parts : ReassemblyView) (waits : Room) (f : Frame) → Fits g s past → length past < 2 ^ 63 → IsSpellable f
+    → MayCome g (facts_of s) f → FindsRoom (heard_on f) ready → IfSome (arrival_in (covers_next g s) (gathered_at s.parts) f) (Comes (with_room s ready parts waits).streams)
+may_come g s past ready parts waits (frame.ResumeOk position) h short spellable may room = tt
+may_come g s past ready parts waits f h short spellable may room = comes g s past ready parts waits f (arrival_in (covers_next g s) (gathered_at s.parts) f) h short spellable may.1 refl room
 
 -- a call that is not refused and has a frame acts
-acts : (g : Settings) (s : State) (past : List Entry) (ready : Option ℕ) (parts : ReassemblyView) (spare : Spare) (asked : Call) (id : ℕ) (f : Frame) → Fits g s past → length past < 2 ^ 63 → CanBeAsked asked
-    → Unrefused g (facts_of s) asked → spoken (known g past) id asked ≡ Some f → IsSome ready → Acts (with_room s ready parts spare).streams asked
-acts g s past ready parts spare asked id f h short ask u is room =
+acts : (g : Settings) (s : State) (past : List Entry) (ready : Option ℕ) (parts : ReassemblyView) (waits : Room) (asked : Call) (id : ℕ) (f : Frame) → Fits g s past → length past < 2 ^ 63 → CanBeAsked asked
+    → Unrefused g (facts_of s) asked → spoken (known g past) id asked ≡ Some f → IsSome ready → Acts (with_room s ready parts waits).streams asked
+acts g s past ready parts waits asked id f h short ask u is room =
     record {
       room = room;
       accepted = subst (λ (l : Limits). refused_by l (known_to s.streams) asked ≡ None) (sym h.limits_are) (streams_allow g (facts_of s) asked u);
@@ -93,38 +93,38 @@ acts g s past ready parts spare asked id f h short ask u is room =
     }
 
 -- a call that goes on
-goes_on : (g : Settings) (s : State) (past : List Entry) (ready : Option ℕ) (parts : ReassemblyView) (spare : Spare) (asked : Call) → Fits g s past → length past < 2 ^ 63 → CanBeAsked asked
-    → Does g (facts_of s) (event.Asked asked) → FindsRoom (named asked) ready → GoesOn (with_room s ready parts spare).streams asked
-goes_on g s past ready parts spare (call.Request kind initial message complete) h short ask does room = absurd does
-goes_on g s past ready parts spare (call.Next n message complete) h short ask does room =
-    acts g s past ready parts spare (call.Next n message complete) 0 _ h short ask (unrefused g (facts_of s) (call.Next n message complete) does) refl (is_some_room ready n room)
-goes_on g s past ready parts spare (call.Done n) h short ask does room = acts g s past ready parts spare (call.Done n) 0 _ h short ask (unrefused g (facts_of s) (call.Done n) does) refl (is_some_room ready n room)
-goes_on g s past ready parts spare (call.Grant n k) h short ask does room = acts g s past ready parts spare (call.Grant n k) 0 _ h short ask (unrefused g (facts_of s) (call.Grant n k) does) refl (is_some_room ready n room)
-goes_on g s past ready parts spare (call.Cancel n) h short ask does room = acts g s past ready parts spare (call.Cancel n) 0 _ h short ask (unrefused g (facts_of s) (call.Cancel n) does) refl (is_some_room ready n room)
-goes_on g s past ready parts spare (call.Fail n code content) h short ask does room =
-    acts g s past ready parts spare (call.Fail n code content) 0 _ h short ask (unrefused g (facts_of s) (call.Fail n code content) does) refl (is_some_room ready n room)
-goes_on g s past ready parts spare (call.Push metadata) h short ask does room = tt
-goes_on g s past ready parts spare (call.Lease ttl count metadata) h short ask does room = tt
-goes_on g s past ready parts spare (call.Take n) h short ask does room = absurd does
-goes_on g s past ready parts spare call.TakeJob h short ask does room = absurd does
-goes_on g s past ready parts spare call.Close h short ask does room = tt
+goes_on : (g : Settings) (s : State) (past : List Entry) (ready : Option ℕ) (parts : ReassemblyView) (waits : Room) (asked : Call) → Fits g s past → length past < 2 ^ 63 → CanBeAsked asked
+    → Does g (facts_of s) (event.Asked asked) → FindsRoom (named asked) ready → GoesOn (with_room s ready parts waits).streams asked
+goes_on g s past ready parts waits (call.Request kind initial message complete) h short ask does room = absurd does
+goes_on g s past ready parts waits (call.Next n message complete) h short ask does room =
+    acts g s past ready parts waits (call.Next n message complete) 0 _ h short ask (unrefused g (facts_of s) (call.Next n message complete) does) refl (is_some_room ready n room)
+goes_on g s past ready parts waits (call.Done n) h short ask does room = acts g s past ready parts waits (call.Done n) 0 _ h short ask (unrefused g (facts_of s) (call.Done n) does) refl (is_some_room ready n room)
+goes_on g s past ready parts waits (call.Grant n k) h short ask does room = acts g s past ready parts waits (call.Grant n k) 0 _ h short ask (unrefused g (facts_of s) (call.Grant n k) does) refl (is_some_room ready n room)
+goes_on g s past ready parts waits (call.Cancel n) h short ask does room = acts g s past ready parts waits (call.Cancel n) 0 _ h short ask (unrefused g (facts_of s) (call.Cancel n) does) refl (is_some_room ready n room)
+goes_on g s past ready parts waits (call.Fail n code content) h short ask does room =
+    acts g s past ready parts waits (call.Fail n code content) 0 _ h short ask (unrefused g (facts_of s) (call.Fail n code content) does) refl (is_some_room ready n room)
+goes_on g s past ready parts waits (call.Push metadata) h short ask does room = tt
+goes_on g s past ready parts waits (call.Lease ttl count metadata) h short ask does room = tt
+goes_on g s past ready parts waits (call.Take n) h short ask does room = absurd does
+goes_on g s past ready parts waits call.TakeJob h short ask does room = absurd does
+goes_on g s past ready parts waits call.Close h short ask does room = tt
 
 -- what an event and its answer say can be said, where room was made for it
-pub can_say : (g : Settings) (s : State) (past : List Entry) (ready : Option ℕ) (parts : ReassemblyView) (spare : Spare) (e : Event) (a : Answer) → Fits g s past → length past < 2 ^ 63 → IsFair g e → Means g (facts_of s) e a
-    → FindsRoom (speaks_on a e) ready → CanSay (with_room s ready parts spare).streams a e (arrival_for (covers_next g s) (gathered_at s.parts) a e)
-can_say g s past ready parts spare (event.Came conn f) answer.Handled h short fair m room = may_come g s past ready parts spare f h short fair m.may room
-can_say g s past ready parts spare e answer.Handled h short fair m room = absurd m
-can_say g s past ready parts spare (event.Asked (call.Request kind initial message complete)) (answer.Started id) h short fair m room =
+pub can_say : (g : Settings) (s : State) (past : List Entry) (ready : Option ℕ) (parts : ReassemblyView) (waits : Room) (e : Event) (a : Answer) → Fits g s past → length past < 2 ^ 63 → IsFair g e → Means g (facts_of s) e a
+    → FindsRoom (speaks_on a e) ready → CanSay (with_room s ready parts waits).streams a e (arrival_for (covers_next g s) (gathered_at s.parts) a e)
+can_say g s past ready parts waits (event.Came conn f) answer.Handled h short fair m room = may_come g s past ready parts waits f h short fair m.may room
+can_say g s past ready parts waits e answer.Handled h short fair m room = absurd m
+can_say g s past ready parts waits (event.Asked (call.Request kind initial message complete)) (answer.Started id) h short fair m room =
     let asked = call.Request kind initial message complete in
     record {
-      acts = acts g s past ready parts spare asked id _ h short fair.0 (unrefused g (facts_of s) asked m.accepted) refl (is_some_room ready id room);
+      acts = acts g s past ready parts waits asked id _ h short fair.0 (unrefused g (facts_of s) asked m.accepted) refl (is_some_room ready id room);
       next = subst (λ (l : Limits). id ≡ next_id l.side (known_to s.streams)) (sym h.limits_are) m.next;
     }
-can_say g s past ready parts spare e (answer.Started id) h short fair m room = absurd m
-can_say g s past ready parts spare (event.Asked asked) answer.Done h short fair m room = goes_on g s past ready parts spare asked h short fair.0 m room
-can_say g s past ready parts spare e answer.Done h short fair m room = absurd m
-can_say g s past ready parts spare (event.Asked (call.Take n)) (answer.Got d) h short fair m room = m
-can_say g s past ready parts spare e (answer.Got d) h short fair m room = absurd m
-can_say g s past ready parts spare (event.Asked call.TakeJob) (answer.GotJob job) h short fair m room = m
-can_say g s past ready parts spare e (answer.GotJob job) h short fair m room = absurd m
-can_say g s past ready parts spare e a h short fair m room = tt
+can_say g s past ready parts waits e (answer.Started id) h short fair m room = absurd m
+can_say g s past ready parts waits (event.Asked asked) answer.Done h short fair m room = goes_on g s past ready parts waits asked h short fair.0 m room
+can_say g s past ready parts waits e answer.Done h short fair m room = absurd m
+can_say g s past ready parts waits (event.Asked (call.Take n)) (answer.Got d) h short fair m room = m
+can_say g s past ready parts waits e (answer.Got d) h short fair m room = absurd m
+can_say g s past ready parts waits (event.Asked call.TakeJob) (answer.GotJob job) h short fair m room = m
+can_say g s past ready parts waits e (answer.GotJob job) h short fair m room = absurd m
+can_say g s past ready parts waits e a h short fair m room = tt

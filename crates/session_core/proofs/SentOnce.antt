@@ -20,7 +20,7 @@ use Rattle.stream_model.specs.Known.{Known, next_id}
 use Rattle.stream_model.specs.Arriving.{no_message}
 use Rattle.interactions.specs.Answers.{next_within}
 use Rattle.interactions.specs.Seen.{Seen, known_to}
-use Rattle.replay_buffer.specs.Held.{Buffer, Spare}
+use Rattle.outbox.specs.Waiting.{Room, Waiting, with_last, with_queue, with_spare}
 use Rattle.session_model.specs.Answers.{accepted, answer_to, refused_or}
 use Rattle.session_model.specs.Frames.{if_carrying, in_fragments, makes, request_frame, sent_as, spoken}
 use Rattle.session_model.specs.Legal.{IsFair, LeavesEntry}
@@ -187,19 +187,25 @@ sent_lined g s asked on is out made =
     ∙ (ap (λ (b : Bool). cond {A = List ℕ} b (line_of g s a e) []) (sym out.connected)
     ∙ ap (λ (n : ℕ). lined_on n (line_of g s a e)) (sym (still_live asked on s.live)))))
 
-pub sent_in_line : (g : Settings) (s : State) (asked : Call) (on : ℕ) (queue : List ℕ) (streams : Seen) (replay : Buffer) → IsCallOn (own_next s.streams) asked on → GoesOut s
+-- what comes last in line, where spare was made before
+in_line : (old mid now : Waiting) (bytes more : List ℕ) → now ≡ with_last mid bytes → mid ≡ with_spare old mid.room.spare → bytes ≡ more → now ≡ record old { queue = old.queue ++ more; room = now.room }
+in_line old mid now bytes more last kept is =
+    let all : now ≡ with_last (with_spare old mid.room.spare) bytes = last ∙ ap (λ (k : Waiting). with_last k bytes) kept in
+    all
+    ∙ ap (λ (r : Room). record old { queue = old.queue ++ bytes; room = r }) (ap (λ (k : Waiting). k.room) (sym all))
+    ∙ ap (λ (l : List ℕ). record old { queue = old.queue ++ l; room = now.room }) is
+
+pub sent_in_line : (g : Settings) (s : State) (asked : Call) (on : ℕ) (mid now : Waiting) (streams : Seen) → IsCallOn (own_next s.streams) asked on → GoesOut s
     → makes g (covers_next g s) (known_to s.streams) (answer_on asked on) (event.Asked asked) ≡ option_to_list (spoken (known_to s.streams) on asked)
-    → queue ≡ s.queue ++ framed_all (option_to_list (spoken (known_to s.streams) on asked)) → streams ≡ record s.streams { ready = Some on } → replay ≡ record s.replay { spare = replay.spare }
-    → record s { streams = streams; queue = queue; replay = replay } ≡ with_room (with_line g s (event.Asked asked) (answer_on asked on)) (Some on) s.parts replay.spare
-sent_in_line g s asked on queue streams replay is out made q ready kept =
-    ap (λ (b : Buffer). record s { streams = streams; queue = queue; replay = b }) kept
-    ∙ ap (λ (k : Seen). record s { streams = k; queue = queue; replay = record s.replay { spare = replay.spare } }) ready
-    ∙ ap (λ (k : List ℕ). record s { streams = record s.streams { ready = Some on }; queue = k; replay = record s.replay { spare = replay.spare } }) (q ∙ ap (λ (bytes : List ℕ). s.queue ++ bytes) (sent_lined g s asked on is out made))
+    → now ≡ with_last mid (framed_all (option_to_list (spoken (known_to s.streams) on asked))) → streams ≡ record s.streams { ready = Some on } → mid ≡ with_spare s.outbox mid.room.spare
+    → record s { streams = streams; outbox = now } ≡ with_room (with_line g s (event.Asked asked) (answer_on asked on)) (Some on) s.parts now.room
+sent_in_line g s asked on mid now streams is out made last ready kept =
+    ap (λ (k : Seen). record s { streams = k; outbox = now }) ready
+    ∙ ap (λ (k : Waiting). record s { streams = record s.streams { ready = Some on }; outbox = k }) (in_line s.outbox mid now _ _ last kept (sent_lined g s asked on is out made))
 
 -- where the tape has no room for it, the frame is taken out of line again
-pub sent_forgotten : (g : Settings) (s mid : State) (asked : Call) (a : Answer) (on before : ℕ) (queue : List ℕ) (spare : Spare) → before ≡ length s.queue
-    → mid ≡ with_room (with_line g s (event.Asked asked) a) (Some on) s.parts spare → queue ≡ take before mid.queue
-    → record mid { queue = queue } ≡ with_room s (Some on) s.parts spare
-sent_forgotten g s mid asked a on before queue spare is lined q =
-    forgotten g s (record mid { queue = queue }) (event.Asked asked) a before (Some on) s.parts spare is
-    (ap (λ (k : List ℕ). record mid { queue = k }) q ∙ ap (λ (k : State). record k { queue = take before k.queue }) lined)
+pub sent_forgotten : (g : Settings) (s mid : State) (asked : Call) (a : Answer) (on before : ℕ) (now : Waiting) (room : Room) → before ≡ length s.outbox.queue
+    → mid ≡ with_room (with_line g s (event.Asked asked) a) (Some on) s.parts room → now ≡ with_queue mid.outbox (take before mid.outbox.queue) now.room.loose
+    → record mid { outbox = now } ≡ with_room s (Some on) s.parts now.room
+sent_forgotten g s mid asked a on before now room is lined q =
+    forgotten g s mid (record mid { outbox = now }) (event.Asked asked) a before now.room.loose (Some on) s.parts room is lined (ap (λ (k : Waiting). record mid { outbox = k }) q)

@@ -60,8 +60,8 @@ frame_goes g s e a checked even odd fair means = tt
 -- the frames of the connection
 greeting_spelled : (g : Settings) (s : State) (e : Event) → IsChecked g → ArePositionsBelow g s → AllByRecursion IsSpellable (greeting g (facts_of s) e)
 greeting_spelled g s (event.Open None taken) checked below = (
-  elim s.begun as (λ v. IsSpellable (cond v (resume_frame g s.handled.position s.replay.held.first) (setup_frame g))) [
-    | true ↦ resume_spellable g s.handled.position s.replay.held.first checked below.handled below.first
+  elim s.begun as (λ v. IsSpellable (cond v (resume_frame g s.handled.position s.outbox.held.first) (setup_frame g))) [
+    | true ↦ resume_spellable g s.handled.position s.outbox.held.first checked below.handled below.first
     | false ↦ setup_spellable g checked
   ],
   tt,
@@ -97,9 +97,9 @@ notices_spelled g s (event.Asked call.Close) answer.Done checked below fair mean
 notices_spelled g s e a checked below fair means = tt
 
 -- frames are sent again from a held boundary on
-held_where : (s : State) (o : Option ℕ) → IfSome o (IsAccepted (facts_of s)) → IfSome o (IsHeldBoundary s.replay.held)
+held_where : (s : State) (o : Option ℕ) → IfSome o (IsAccepted (facts_of s)) → IfSome o (IsHeldBoundary s.outbox.held)
 held_where s None is = tt
-held_where s (Some p) is = held_test s.replay.held p is.boundary
+held_where s (Some p) is = held_test s.outbox.held p is.boundary
 
-pub again_held : (g : Settings) (s : State) (e : Event) (a : Answer) → Means g (facts_of s) e a → IfSome (again_from a e) (IsHeldBoundary s.replay.held)
+pub again_held : (g : Settings) (s : State) (e : Event) (a : Answer) → Means g (facts_of s) e a → IfSome (again_from a e) (IsHeldBoundary s.outbox.held)
 again_held g s e a means = held_where s (again_from a e) (again_accepted g (facts_of s) a e means)

@@ -16,5 +16,5 @@ use Rattle.session_core.specs.declared.state.State.{State}
 abbrev pub line_of : Settings → State → Answer → Event → List ℕ
 line_of g s a e =
     framed_all (notices g (facts_of s) a e)
-    ++ (sent_again s.replay.held (again_from a e)
+    ++ (sent_again s.outbox.held (again_from a e)
     ++ framed_all (if_carrying s.carrying (makes g (covers_next g s) (known_to s.streams) a e)))

@@ -11,7 +11,7 @@ use Rattle.session_model.specs.Frames.{makes}
 use Rattle.stream_model.specs.Known.{limits_of}
 use Rattle.interactions.specs.Seen.{known_to}
 use Rattle.reassembly.specs.Gathering.{ReassemblyView}
-use Rattle.replay_buffer.specs.Held.{new_buffer}
+use Rattle.outbox.specs.Waiting.{nothing_waits}
 use Rattle.session_core.specs.Gathering.{ready_for}
 use Rattle.session_core.specs.Kept.{HasFrameLength, keeps}
 use Rattle.session_core.specs.Leasing.{covers_next}
@@ -34,11 +34,11 @@ pub record AreReady (g : Settings) (old : State) (e : Event) (a : Answer) (p : P
   pub arrival : p.incoming.arrival ≡ ready_for p.incoming.covered p.incoming.is_part a e
   pub covered : p.incoming.covered ≡ covers_next g old
   pub spellable : AllByRecursion IsSpellable p.made.items
-  pub before : p.before ≡ length old.queue
+  pub before : p.before ≡ length old.outbox.queue
 
 -- what the event puts in line stands after what waits
 abbrev pub with_line : Settings → State → Event → Answer → State
-with_line g old e a = record old { queue = old.queue ++ lined_on (live_after a old.live) (line_of g old a e) }
+with_line g old e a = record old { outbox = record old.outbox { queue = old.outbox.queue ++ lined_on (live_after a old.live) (line_of g old a e) } }
 
 -- what stays in line: on an opened connection what was put in line for it, on one that is parted or whose peer is dead nothing
 abbrev pub left_in_line : Answer → ℕ → List ℕ → List ℕ
@@ -58,10 +58,9 @@ nothing_yet g parts = record {
   closed = None;
   made = record { frames = 0; position = 0 };
   handled = record { frames = 0; position = 0 };
-  replay = new_buffer g.hold;
+  outbox = nothing_waits g.hold;
   streams = record { limits = limits_of g; marks = []; ready = None };
   parts = parts;
-  queue = [];
   timer = begun_at g None 0;
   lease = None;
   granted = record { granted = 0; admitted = 0 };

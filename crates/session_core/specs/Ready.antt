@@ -34,14 +34,14 @@ pub record IsReadyFor (g : Settings) (s : State) (e : Event) (a : Answer) (p : P
   pub spellable : AllByRecursion IsSpellable p.made.items
   pub long : AllByRecursion HasFrameLength p.spelled.items
   -- what waited before the event still waits
-  pub before : p.before ≤ length s.queue
+  pub before : p.before ≤ length s.outbox.queue
   -- counts and positions stay in their range
   pub room : HasRoom s
   pub frames : s.made.frames + length p.made.items < 2 ^ 63
   pub position : s.made.position + pos p.made.items < 2 ^ 63
-  pub held_position : end_of s.replay.held + pos_by length p.spelled.items < 2 ^ 63
+  pub held_position : end_of s.outbox.held + pos_by length p.spelled.items < 2 ^ 63
   -- room was made for the frames that are kept, and for a part of a message
-  pub spare : FindsSpare s.replay.spare p.spelled.items
+  pub spare : FindsSpare s.outbox.room.spare p.spelled.items
   pub place : FindsPlaceFor s.parts p.incoming.is_part a e
   -- the lease lets a request start that is started
   pub starts : LetsStart (agrees_leases g s.setup) a s.lease

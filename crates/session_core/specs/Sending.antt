@@ -14,7 +14,7 @@ use Rattle.stream_model.specs.Known.{Known, hears_on, is_open_response, next_id}
 use Rattle.stream_model.specs.Arriving.{no_message}
 use Rattle.interactions.specs.Seen.{Seen, acted, known_to}
 use Rattle.reassembly.specs.Gathering.{ReassemblyView, gathered_at, has_part_at}
-use Rattle.replay_buffer.specs.Held.{Buffer, HasSpare, end_of}
+use Rattle.outbox.specs.Waiting.{Waiting}
 use Rattle.lease.specs.declared.requester.Terms.{Terms}
 use Rattle.session_model.specs.Answers.{refused_call}
 use Rattle.session_model.specs.Frames.{makes, request_frame, spoken}
@@ -81,28 +81,21 @@ pub record LetsGo (t : Known) (on : ℕ) (old new : ReassemblyView) : Type 0 whe
   pub over : (s : ℕ) → (on == s) ≡ true → hears_on (t.kept s) ≡ false → has_part_at new s ≡ false
   pub others : (s : ℕ) → (on == s) ≡ false → has_part_at new s ≡ has_part_at old s
 
--- these many last bytes of a queue are those of the frame, which has the length of one
-pub record IsLastOf (queue : List ℕ) (n : ℕ) (f : Frame) : Type 0 where
-  pub bytes : drop (length queue - n) queue ≡ canonical f
-  pub within : n ≤ length queue
+-- these many last bytes that wait are those of the frame, which has the length of one, and lie in one piece
+pub record IsLastOf (o : Waiting) (n : ℕ) (f : Frame) : Type 0 where
+  pub bytes : drop (length o.queue - n) o.queue ≡ canonical f
+  pub within : n ≤ length o.queue
+  pub loose : n ≤ o.room.loose
   pub shortest : 6 ≤ n
   pub longest : n < 2 ^ 24
-
--- the last bytes of a queue can be kept as a frame
-pub record CanKeepLast (b : Buffer) (queue : List ℕ) (n : ℕ) : Type 0 where
-  pub spare : HasSpare b.spare n
-  pub shortest : 6 ≤ n
-  pub longest : n < 2 ^ 24
-  pub top : end_of b.held + n < 2 ^ 63
-  pub within : n ≤ length queue
 
 -- the state after a call that made one frame of that length, where these parts, these frames and this lease are kept
-abbrev pub spoken_after : State → Call → ℕ → ReassemblyView → Buffer → Option Terms → State
-spoken_after s asked n parts replay lease = record s {
+abbrev pub spoken_after : State → Call → ℕ → ReassemblyView → Waiting → Option Terms → State
+spoken_after s asked n parts kept lease = record s {
   made = record { frames = s.made.frames + 1; position = s.made.position + n };
   streams = acted s.streams asked;
   parts = parts;
-  replay = replay;
+  outbox = record s.outbox { held = kept.held; room = kept.room };
   lease = lease;
 }
 

@@ -20,7 +20,7 @@ use Rattle.stream_model.specs.Arriving.{CanAct, CanArrive, effect_by, heard, sai
 use Rattle.fragment.specs.Joining.{Gathered}
 use Rattle.reassembly.specs.Gathering.{ReassemblyView}
 use Rattle.interactions.specs.Seen.{Seen, known_to, stream_of_call}
-use Rattle.replay_buffer.specs.Held.{Spare}
+use Rattle.outbox.specs.Waiting.{Room}
 use Rattle.session_model.specs.Streams.{arrival_in}
 use Rattle.session_core.specs.declared.state.State.{State}
 
@@ -70,8 +70,8 @@ FindsRoom None ready = Unit {0}
 FindsRoom (Some s) ready = ready ≡ Some s
 
 -- all is as before, but for the room that was made on the streams, for parts and for frames that are kept
-abbrev pub with_room : State → Option ℕ → ReassemblyView → Spare → State
-with_room s ready parts spare = record s { streams = record s.streams { ready = ready }; parts = parts; replay = record s.replay { spare = spare } }
+abbrev pub with_room : State → Option ℕ → ReassemblyView → Room → State
+with_room s ready parts room = record s { streams = record s.streams { ready = ready }; parts = parts; outbox = record s.outbox { room = room } }
 
 abbrev pub IsNoRule : Effect → Type 0
 IsNoRule (effect.Broken rule) = ⊥

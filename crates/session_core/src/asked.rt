@@ -76,7 +76,7 @@ pub fn find_full(settings: &Checked, state: &State, size: SplitSize) -> bool
         find_full settings.now (facts_of state.now) fs }
 {
     let bytes = LENGTH_FIELD * size.frames + size.bytes;
-    state.carrying && state.queue.len() + bytes > settings.out_limit()
+    state.carrying && state.outbox.len() + bytes > settings.out_limit()
 }
 
 // Frames of this size can't be made.
@@ -91,7 +91,7 @@ fn refused_frames(settings: &Checked, state: &State, size: SplitSize) -> Option<
         return Some(Refusal::NotConnected);
     }
     if find_full(settings, state, size) {
-        return Some(Refusal::OutFull(state.queue.len()));
+        return Some(Refusal::OutFull(state.outbox.len()));
     }
     if state.made.position + size.bytes > settings.settings().top_position {
         return Some(Refusal::PositionSpent);
@@ -117,7 +117,7 @@ fn refused_closing(settings: &Checked, state: &State) -> Option<Refusal>
     ensures { result ≡ by_sending settings.now (facts_of state.now) Call.Close }
 {
     if find_full(settings, state, closing_size()) {
-        return Some(Refusal::OutFull(state.queue.len()));
+        return Some(Refusal::OutFull(state.outbox.len()));
     }
     None
 }
@@ -133,7 +133,7 @@ fn refused_beside(settings: &Checked, state: &State, size: SplitSize) -> Option<
         return Some(Refusal::NotConnected);
     }
     if find_full(settings, state, size) {
-        return Some(Refusal::OutFull(state.queue.len()));
+        return Some(Refusal::OutFull(state.outbox.len()));
     }
     None
 }

@@ -257,7 +257,7 @@ pub fn to_frame(settings: &Checked, state: &State, conn: u64, frame: &Frame) -> 
     if let Some(cause) = state.closed {
         return Answer::Closed(cause);
     }
-    let queued = state.queue.len();
+    let queued = state.outbox.len();
     if queued + u64::from(rs_frame::length(frame)) + ANSWER_ROOM > settings.out_limit() {
         return Answer::OutBusy(queued);
     }

@@ -6,10 +6,11 @@ ghost use Rattle.rs_frame.specs.declared.frame.Frame.{Frame as Sent};
 ghost use Rattle.rs_frame.specs.Spelling.{IsSpellable, canonical};
 ghost use Rattle.position.specs.Boundaries.{pos_by};
 ghost use Rattle.replay_buffer.specs.Held.{end_of};
+ghost use Rattle.outbox.specs.Waiting.{with_spare};
 ghost use Rattle.session_model.specs.Frames.{if_agreed};
 ghost use Rattle.session_core.specs.Kept.{FindsSpare, HasFrameLength, HoldsMore, KeepsAll};
 
-use replay_buffer::Replay;
+use outbox::Outbox;
 use rs_frame::{Frame, encode};
 use rs_wire::{Blob, OutOfMemory};
 use std::alloc::Global;
@@ -52,49 +53,51 @@ fn size_of(frames: &[Blob]) -> Option<usize>
 #[tactic(auto, using(crate::proofs::Keeping::spelled_long))]
 pub fn make_ready(
     alloc: Global,
-    replay: &mut Replay,
+    outbox: &mut Outbox,
     agreed: bool,
     made: &[Frame],
 ) -> Result<Vec<Blob>, OutOfMemory>
     requires { AllByRecursion IsSpellable made.now }
     ensures spelled { IfOk result (λ v. v.items ≡ map canonical (if_agreed agreed made.now)) }
     ensures long { IfOk result (λ v. AllByRecursion HasFrameLength v.items) }
-    ensures spare { IfOk result (λ v. FindsSpare replay.new.spare v.items) }
-    ensures same { replay.new ≡ record replay.old { spare = replay.new.spare } }
-    ensures err { OnErr result (replay.new ≡ replay.old) }
+    ensures spare { IfOk result (λ v. FindsSpare outbox.new.room.spare v.items) }
+    ensures same { outbox.new ≡ with_spare outbox.old outbox.new.room.spare }
+    ensures err { OnErr result (outbox.new ≡ outbox.old) }
 {
     if !agreed {
         return Ok(Vec::new(alloc));
     }
     let spelled = spell_all(alloc, made)?;
     let size = size_of(&spelled).ok_or(OutOfMemory)?;
-    replay.reserve(spelled.len(), size)?;
+    outbox.reserve(spelled.len(), size)?;
     Ok(spelled)
 }
 
 // Keeps each frame.
-fn keep_all(replay: &mut Replay, frames: &[Blob])
-    requires spare { FindsSpare replay.old.spare frames.now }
+fn keep_all(outbox: &mut Outbox, frames: &[Blob])
+    requires spare { FindsSpare outbox.old.room.spare frames.now }
     requires long { AllByRecursion HasFrameLength frames.now }
-    requires top { end_of replay.old.held + pos_by length frames.now < 2 ^ 63 }
-    ensures kept { KeepsAll replay.old.held frames.now replay.new.held }
-    ensures hold { replay.new.held.hold ≡ replay.old.held.hold }
+    requires top { end_of outbox.old.held + pos_by length frames.now < 2 ^ 63 }
+    ensures kept { KeepsAll outbox.old.held frames.now outbox.new.held }
+    ensures hold { outbox.new.held.hold ≡ outbox.old.held.hold }
+    ensures queue { outbox.new.queue ≡ outbox.old.queue }
 {
     for frame in frames {
-        replay.keep(frame.as_slice());
+        outbox.keep(frame.as_slice());
     }
 }
 
 /// Keeps these frames, for which memory was reserved, and forgets those that end at or before the
 /// position, since the peer has handled them.
-pub fn keep(replay: &mut Replay, frames: &[Blob], position: u64)
-    requires spare { FindsSpare replay.old.spare frames.now }
+pub fn keep(outbox: &mut Outbox, frames: &[Blob], position: u64)
+    requires spare { FindsSpare outbox.old.room.spare frames.now }
     requires long { AllByRecursion HasFrameLength frames.now }
-    requires top { end_of replay.old.held + pos_by length frames.now < 2 ^ 63 }
+    requires top { end_of outbox.old.held + pos_by length frames.now < 2 ^ 63 }
     ensures held { (more : List Sent) → frames.now ≡ map canonical more →
-        HoldsMore replay.old.held more position replay.new.held }
-    ensures hold { replay.new.held.hold ≡ replay.old.held.hold }
+        HoldsMore outbox.old.held more position outbox.new.held }
+    ensures hold { outbox.new.held.hold ≡ outbox.old.held.hold }
+    ensures queue { outbox.new.queue ≡ outbox.old.queue }
 {
-    keep_all(replay, frames);
-    replay.release(position);
+    keep_all(outbox, frames);
+    outbox.release(position);
 }

@@ -56,13 +56,13 @@
 //! - Make: `outgoing`, the frames of an event; `notices`, those of the connection; `turned_away`,
 //!   the ERROR for a request that opens no stream; `sizes`, how long frames are; `arrivals`, what a
 //!   frame brings, owned.
-//! - Queue: `queue`, the bytes that wait; `line`, what an event puts there.
+//! - Queue: `line`, what an event puts after the bytes that wait.
 //! - Apply: `life`, the openings, the live connection, the SETUP and the end; `counting`, the
 //!   positions; `kept`, the frames that are held for a resumption; `leasing`, the leases; `timing`,
 //!   the timer; `gathering`, the parts of messages; `speak`, the streams.
 //! - Short ways: `calling`, of any call; `taking`, of what waits; `sending`, of what a call says on a
 //!   stream in one frame; `bringing` and `hearing`, of a message that comes whole; `parting`, of a
-//!   cut.
+//!   cut; `quiet`, of a tick at which nothing is due.
 //! - Shown: `counts`, of frames and their positions; `amounts`, the range of what an event grants;
 //!   `refusal`, the frame that refuses a connection.
 #![tactic(auto)]
@@ -86,7 +86,7 @@ mod line;
 mod notices;
 mod outgoing;
 mod parting;
-mod queue;
+mod quiet;
 mod refusal;
 mod resuming;
 mod sending;

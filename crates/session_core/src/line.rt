@@ -5,103 +5,101 @@ ghost use Rattle.std.specs.List.{AllByRecursion};
 ghost use Rattle.rs_frame.specs.Spelling.{IsSpellable};
 ghost use Rattle.rs_frame.specs.Framed.{framed_all};
 ghost use Rattle.replay_buffer.specs.Held.{IsHeldBoundary};
+ghost use Rattle.outbox.specs.Waiting.{with_queue};
 ghost use Rattle.session_model.specs.Frames.{if_carrying};
 ghost use Rattle.session_core.specs.Kept.{sent_again};
 ghost use Rattle.session_core.specs.Prepared.{left_in_line, lined_on};
 
 use crate::outgoing::Outgoing;
-use crate::queue::Queue;
-use replay_buffer::Replay;
+use outbox::Outbox;
 use rs_frame::Frame;
 use rs_wire::OutOfMemory;
 use tape::Answer;
 
 // Appends the held frames from a held boundary on, where there is one.
-fn append_again(queue: &mut Queue, replay: &Replay, again: Option<u64>) -> Result<(), OutOfMemory>
-    requires { IfSome again (IsHeldBoundary replay.now.held) }
-    ensures ok { OnOk result (queue.new ≡ queue.old ++ sent_again replay.now.held again) }
-    ensures err { OnErr result (queue.new ≡ queue.old) }
+fn append_again(outbox: &mut Outbox, again: Option<u64>) -> Result<(), OutOfMemory>
+    requires { IfSome again (IsHeldBoundary outbox.old.held) }
+    ensures ok { OnOk result (outbox.new ≡ with_queue outbox.old
+        (outbox.old.queue ++ sent_again outbox.old.held again) outbox.new.room.loose) }
+    ensures err { OnErr result (outbox.new ≡ outbox.old) }
 {
     match again {
-        Some(position) => queue.append_bytes(replay.framed(position)),
+        Some(position) => outbox.send_from(position),
         None => Ok(()),
     }
 }
 
 // Appends the frames that are made, where they go out at once.
-fn append_made(queue: &mut Queue, carrying: bool, made: &[Frame]) -> Result<(), OutOfMemory>
+fn append_made(outbox: &mut Outbox, carrying: bool, made: &[Frame]) -> Result<(), OutOfMemory>
     requires { AllByRecursion IsSpellable made.now }
-    ensures ok { OnOk result (queue.new ≡
-        queue.old ++ framed_all (if_carrying carrying made.now)) }
-    ensures err { OnErr result (queue.new ≡ queue.old) }
+    ensures ok { OnOk result (outbox.new ≡ with_queue outbox.old
+        (outbox.old.queue ++ framed_all (if_carrying carrying made.now)) outbox.new.room.loose) }
+    ensures err { OnErr result (outbox.new ≡ outbox.old) }
 {
     if !carrying {
         return Ok(());
     }
-    queue.append(made)
+    outbox.append(made)
 }
 
 // Appends the frames that are sent again, and those that are made.
-fn append_resumable(
-    queue: &mut Queue,
-    replay: &Replay,
-    carrying: bool,
-    line: &Outgoing,
-) -> Result<(), OutOfMemory>
-    requires again { IfSome line.now.again (IsHeldBoundary replay.now.held) }
+fn append_resumable(outbox: &mut Outbox, carrying: bool, line: &Outgoing) -> Result<(), OutOfMemory>
+    requires again { IfSome line.now.again (IsHeldBoundary outbox.old.held) }
     requires made { AllByRecursion IsSpellable line.now.made.items }
-    ensures ok { OnOk result (queue.new ≡ queue.old
-        ++ (sent_again replay.now.held line.now.again
-        ++ framed_all (if_carrying carrying line.now.made.items))) }
-    ensures err { OnErr result (queue.new ≡ queue.old) }
+    ensures ok { OnOk result (outbox.new ≡ with_queue outbox.old (outbox.old.queue
+        ++ (sent_again outbox.old.held line.now.again
+        ++ framed_all (if_carrying carrying line.now.made.items))) outbox.new.room.loose) }
+    ensures err { OnErr result (outbox.new ≡
+        with_queue outbox.old outbox.old.queue outbox.new.room.loose) }
 {
-    let before = queue.len();
-    append_again(queue, replay, line.again)?;
-    let done = append_made(queue, carrying, &line.made);
+    let before = outbox.len();
+    append_again(outbox, line.again)?;
+    let done = append_made(outbox, carrying, &line.made);
     if done.is_err() {
-        queue.truncate(before);
+        outbox.truncate(before);
     }
     done
 }
 
 /// Appends what is put in line to what waits, where a connection is live then.
 pub fn line_up(
-    queue: &mut Queue,
-    replay: &Replay,
+    outbox: &mut Outbox,
     live: u64,
     carrying: bool,
     line: &Outgoing,
 ) -> Result<(), OutOfMemory>
     requires notices { AllByRecursion IsSpellable line.now.notices.items }
-    requires again { IfSome line.now.again (IsHeldBoundary replay.now.held) }
+    requires again { IfSome line.now.again (IsHeldBoundary outbox.old.held) }
     requires made { AllByRecursion IsSpellable line.now.made.items }
-    ensures ok { OnOk result (queue.new ≡ queue.old
+    ensures ok { OnOk result (outbox.new ≡ with_queue outbox.old (outbox.old.queue
         ++ lined_on live (framed_all line.now.notices.items
-        ++ (sent_again replay.now.held line.now.again
-        ++ framed_all (if_carrying carrying line.now.made.items)))) }
-    ensures err { OnErr result (queue.new ≡ queue.old) }
+        ++ (sent_again outbox.old.held line.now.again
+        ++ framed_all (if_carrying carrying line.now.made.items)))) outbox.new.room.loose) }
+    ensures err { OnErr result (outbox.new ≡
+        with_queue outbox.old outbox.old.queue outbox.new.room.loose) }
 {
     if live == 0 {
         return Ok(());
     }
-    let before = queue.len();
-    queue.append(&line.notices)?;
-    let done = append_resumable(queue, replay, carrying, line);
+    let before = outbox.len();
+    outbox.append(&line.notices)?;
+    let done = append_resumable(outbox, carrying, line);
     if done.is_err() {
-        queue.truncate(before);
+        outbox.truncate(before);
     }
     done
 }
 
 /// Drops what stays no longer in line: what waited before an opening, and all that waits where the
 /// connection ends.
-pub fn settle(queue: &mut Queue, answer: &Answer, before: u64)
-    requires { before ≤ length queue.old }
-    ensures { queue.new ≡ left_in_line answer.now before queue.old }
+pub fn settle(outbox: &mut Outbox, answer: &Answer, before: u64)
+    requires { before ≤ length outbox.old.queue }
+    ensures { outbox.new ≡ with_queue outbox.old
+        (left_in_line answer.now before outbox.old.queue) outbox.new.room.loose }
 {
     match answer {
-        Answer::Opened(_) => queue.drop_front(before),
-        Answer::Parted | Answer::Dead(_) => queue.truncate(0),
+        Answer::Opened(_) => outbox.drop_front(before),
+        Answer::Parted | Answer::Dead(_) => outbox.truncate(0),
         _ => {}
     }
 }

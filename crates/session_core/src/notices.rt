@@ -99,7 +99,7 @@ fn client_greeting(alloc: Global, settings: &Checked, state: &State) -> Result<F
     let settings = settings.settings();
     if state.begun {
         let handled = state.handled.position;
-        return resume_frame(alloc, settings, handled, state.replay.first());
+        return resume_frame(alloc, settings, handled, state.outbox.first());
     }
     setup_frame(alloc, settings)
 }

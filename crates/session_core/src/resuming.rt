@@ -13,16 +13,16 @@ use tape::Answer;
 
 // Whether a held frame begins or ends at the position.
 fn has_boundary(state: &State, position: u64) -> bool
-    ensures { result ≡ has_boundary state.now.replay.held position }
+    ensures { result ≡ has_boundary state.now.outbox.held position }
 {
-    state.replay.is_boundary(position)
+    state.outbox.is_boundary(position)
 }
 
 // The first thing that is wrong with a RESUME, where the session resumes by this token.
 fn gone_with(state: &State, resume: &Resume, token: &Blob) -> Option<Gone>
     ensures { result ≡ gone_with (facts_of state.now) resume.now (Some token.now) }
 {
-    let first = state.replay.first();
+    let first = state.outbox.first();
     let made = state.made.position;
     let boundary = has_boundary(state, resume.server_position);
     let handled = state.handled.position;
@@ -64,7 +64,7 @@ pub fn to_resume(state: &State, resume: &Resume) -> Answer
 pub fn to_resume_ok(state: &State, position: u64) -> Answer
     ensures { result ≡ handled_unless_gone (ok_gone (facts_of state.now) position) }
 {
-    let first = state.replay.first();
+    let first = state.outbox.first();
     let boundary = has_boundary(state, position);
     match judge_ok(position, first, state.made.position, boundary) {
         Ok(()) => Answer::Handled,

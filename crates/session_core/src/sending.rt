@@ -10,6 +10,7 @@ ghost use Rattle.rs_frame.specs.Spelling.{IsSpellable, canonical, length_of};
 ghost use Rattle.tape.specs.declared.event.Event.TheVariants as events;
 ghost use Rattle.interactions.specs.Seen.{acted, known_to};
 ghost use Rattle.replay_buffer.specs.Held.{HasSpare};
+ghost use Rattle.outbox.specs.Waiting.{CanKeepLast, with_last, with_spare};
 ghost use Rattle.session_model.specs.Answers.{answer_to};
 ghost use Rattle.session_model.specs.Frames.{if_agreed, spoken};
 ghost use Rattle.session_model.specs.Legal.{IsFair};
@@ -19,7 +20,7 @@ ghost use Rattle.session_core.specs.Kept.{HoldsMore};
 ghost use Rattle.session_core.specs.Leasing.{LetsStart, lease_after};
 ghost use Rattle.session_core.specs.Prepared.{with_line};
 ghost use Rattle.session_core.specs.Seen.{IsOrOutOfMemory, entries_after};
-ghost use Rattle.session_core.specs.Sending.{CanKeepLast, IsCallOn, IsLastOf, LetsGo, MaySend, Sends, answer_on, frame_on, is_last, own_next, spoken_after};
+ghost use Rattle.session_core.specs.Sending.{IsCallOn, IsLastOf, LetsGo, MaySend, Sends, answer_on, frame_on, is_last, own_next, spoken_after};
 ghost use Rattle.session_core.specs.Speaking.{Acts, with_room};
 
 use crate::amounts::call_amounts_fit;
@@ -27,14 +28,13 @@ use crate::asked::refused_call;
 use crate::gathering::let_stream_go;
 use crate::life::{agrees_leases, agrees_resumption};
 use crate::outgoing::nothing_more;
-use crate::queue::Queue;
 use crate::session::Session;
 use crate::sizes::{HEADER, NUMBER, fits, mtu};
 use crate::speak::{completes, named};
 use crate::state::State;
 use interactions::Streams;
 use lease::Lease;
-use replay_buffer::Replay;
+use outbox::Outbox;
 use rs_frame::Frame;
 use rs_wire::{Call, Checked, OutOfMemory};
 use std::alloc::Global;
@@ -119,15 +119,15 @@ fn frame_length(on: u32, last: bool, call: &Call) -> u32
 // Puts the frame of a call on a stream in line; nothing of any other call.
 fn append_frame(
     alloc: Global,
-    queue: &mut Queue,
+    outbox: &mut Outbox,
     on: u32,
     last: bool,
     call: &Call,
 ) -> Result<(), OutOfMemory>
     requires { IfSome (frame_on on last call.now) IsSpellable }
-    ensures ok { OnOk result (queue.new ≡ queue.old ++
-        framed_all (option_to_list (frame_on on last call.now))) }
-    ensures err { OnErr result (queue.new ≡ queue.old) }
+    ensures ok { OnOk result (outbox.new ≡ with_last outbox.old
+        (framed_all (option_to_list (frame_on on last call.now)))) }
+    ensures err { OnErr result (outbox.new ≡ outbox.old) }
 {
     match call {
         Call::Request {
@@ -135,12 +135,12 @@ fn append_frame(
             initial,
             message,
             ..
-        } => queue.append_request(on, *kind, initial, last, message),
-        Call::Next { message, .. } => queue.append_item(on, last, message),
-        Call::Done { .. } => queue.append(&[nothing_more(alloc, on)]),
-        Call::Grant { n, .. } => queue.append(&[Frame::RequestN { stream: on, n: *n }]),
-        Call::Cancel { .. } => queue.append(&[Frame::Cancel { stream: on }]),
-        Call::Fail { code, content, .. } => queue.append(&[Frame::Error {
+        } => outbox.append_request(on, *kind, initial, last, message),
+        Call::Next { message, .. } => outbox.append_item(on, last, message),
+        Call::Done { .. } => outbox.append(&[nothing_more(alloc, on)]),
+        Call::Grant { n, .. } => outbox.append(&[Frame::RequestN { stream: on, n: *n }]),
+        Call::Cancel { .. } => outbox.append(&[Frame::Cancel { stream: on }]),
+        Call::Fail { code, content, .. } => outbox.append(&[Frame::Error {
             stream: on,
             code: *code,
             content: content.copy(alloc)?,
@@ -160,27 +160,29 @@ fn answer_on(call: &Call, on: u32) -> Answer
 }
 
 // Reserves memory to keep a frame of so many bytes, where frames are kept.
-fn reserve_one(replay: &mut Replay, count: u32, keeps: bool) -> Result<(), OutOfMemory>
-    ensures same { replay.new ≡ record replay.old { spare = replay.new.spare } }
-    ensures spare { OnOk result (keeps ≡ true → HasSpare replay.new.spare count) }
+fn reserve_one(outbox: &mut Outbox, count: u32, keeps: bool) -> Result<(), OutOfMemory>
+    ensures same { outbox.new ≡ with_spare outbox.old outbox.new.room.spare }
+    ensures spare { OnOk result (keeps ≡ true → HasSpare outbox.new.room.spare count) }
 {
     if !keeps {
         return Ok(());
     }
-    replay.reserve(1, count as usize)
+    outbox.reserve(1, count as usize)
 }
 
 // Keeps the frame of so many bytes that was put in line last, where frames are kept.
-fn keep_last(replay: &mut Replay, queue: &Queue, count: u32, keeps: bool)
-    requires { keeps ≡ true → CanKeepLast replay.old queue.now count }
-    ensures held { (f : Sent) → drop (length queue.now - count) queue.now ≡ canonical f →
-        HoldsMore replay.old.held (if_agreed keeps (f ∷ [])) 0 replay.new.held }
-    ensures hold { replay.new.held.hold ≡ replay.old.held.hold }
+fn keep_last(outbox: &mut Outbox, count: u32, keeps: bool)
+    requires { keeps ≡ true → CanKeepLast outbox.old count }
+    ensures held { (f : Sent) →
+        drop (length outbox.old.queue - count) outbox.old.queue ≡ canonical f →
+        HoldsMore outbox.old.held (if_agreed keeps (f ∷ [])) 0 outbox.new.held }
+    ensures hold { outbox.new.held.hold ≡ outbox.old.held.hold }
+    ensures queue { outbox.new.queue ≡ outbox.old.queue }
 {
     if !keeps {
         return;
     }
-    replay.keep(queue.last(count as usize));
+    outbox.keep_last(count as usize);
 }
 
 // Counts a request, where leases are agreed.
@@ -216,15 +218,15 @@ impl State {
             Sends settings.now self.old call.now on n)) }
         ensures lined { IfOk result (λ o. IfSome o (λ _. self.new ≡ with_room
             (with_line settings.now self.old (events.Asked call.now) (answer_on call.now on))
-            (Some on) self.old.parts self.new.replay.spare)) }
+            (Some on) self.old.parts self.new.outbox.room)) }
         ensures last { IfOk result (λ o. IfSome o (λ n. IfSome
             (spoken (known_to self.old.streams) on call.now)
-            (IsLastOf self.new.queue n))) }
+            (IsLastOf self.new.outbox n))) }
         ensures spare { IfOk result (λ o. IfSome o (λ n.
-            keeps ≡ true → HasSpare self.new.replay.spare n)) }
+            keeps ≡ true → HasSpare self.new.outbox.room.spare n)) }
         ensures none { IfOk result (λ o. o ≡ None → self.new ≡ self.old) }
         ensures err { OnErr result (self.new ≡ with_room
-            self.old self.new.streams.ready self.old.parts self.new.replay.spare) }
+            self.old self.new.streams.ready self.old.parts self.new.outbox.room) }
     {
         // The ids of the streams have 31 bits, so that the frames on them can be spelled.
         self.streams.fair();
@@ -237,8 +239,8 @@ impl State {
             return Ok(None);
         }
         self.streams.reserve(on)?;
-        reserve_one(&mut self.replay, count, keeps)?;
-        append_frame(alloc, &mut self.queue, on, last, call)?;
+        reserve_one(&mut self.outbox, count, keeps)?;
+        append_frame(alloc, &mut self.outbox, on, last, call)?;
         Ok(Some(count))
     }
 
@@ -250,16 +252,16 @@ impl State {
         requires frames { self.old.made.frames < 2 ^ 63 }
         requires position { self.old.made.position < 2 ^ 63 }
         requires keeps { agreed.resumption ≡ true →
-            CanKeepLast self.old.replay self.old.queue count }
+            CanKeepLast self.old.outbox count }
         requires lets { (id : ℕ) →
             LetsStart agreed.leases (answer_on call.now id) self.old.lease }
         ensures after { self.new ≡ spoken_after
-            self.old call.now count self.new.parts self.new.replay self.new.lease }
+            self.old call.now count self.new.parts self.new.outbox self.new.lease }
         ensures held { (f : Sent) →
-            drop (length self.old.queue - count) self.old.queue ≡ canonical f →
-            HoldsMore self.old.replay.held (if_agreed agreed.resumption (f ∷ [])) 0
-            self.new.replay.held }
-        ensures hold { self.new.replay.held.hold ≡ self.old.replay.held.hold }
+            drop (length self.old.outbox.queue - count) self.old.outbox.queue ≡ canonical f →
+            HoldsMore self.old.outbox.held (if_agreed agreed.resumption (f ∷ [])) 0
+            self.new.outbox.held }
+        ensures hold { self.new.outbox.held.hold ≡ self.old.outbox.held.hold }
         ensures lease { (id now : ℕ) → self.new.lease ≡ lease_after
             agreed.leases now (answer_on call.now id) (events.Asked call.now) self.old.lease }
         ensures parts { LetsGo
@@ -267,7 +269,7 @@ impl State {
     {
         self.made.frames += 1;
         self.made.position += u64::from(count);
-        keep_last(&mut self.replay, &self.queue, count, agreed.resumption);
+        keep_last(&mut self.outbox, count, agreed.resumption);
         use_lease(&mut self.lease, agreed.leases, call);
         let _stream = self.streams.act(call);
         let_stream_go(&mut self.parts, &self.streams, on);
@@ -295,7 +297,7 @@ impl<T: Tape> Session<T> {
         let on = stream_of(&self.state.streams, call)?;
         // It does nothing: it says that the amounts of the call have their range.
         call_amounts_fit(call);
-        let before = self.state.queue.len();
+        let before = self.state.outbox.len();
         let agreed = agreed_by(&self.settings, &self.state);
         let count = match self
             .state
@@ -307,7 +309,7 @@ impl<T: Tape> Session<T> {
         };
         let answer = answer_on(call, on);
         if let Err(OutOfMemory) = self.tape.note_call(who, call, &answer) {
-            self.state.queue.truncate(before);
+            self.state.outbox.truncate(before);
             return Some(Answer::OutOfMemory);
         }
         self.history.note_call(who, call, &answer);

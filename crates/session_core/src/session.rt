@@ -169,6 +169,10 @@ impl<T: Tape> Session<T> {
         }
         match event {
             Event::Cut { conn } => self.cut(who, *conn),
+            Event::Tick { now } => match self.tick(who, event, *now) {
+                Some(answer) => answer,
+                None => self.answer(who, event),
+            },
             Event::Asked(call) => match self.ask_shortly(who, call) {
                 Some(answer) => answer,
                 None => self.answer(who, event),
@@ -328,7 +332,7 @@ impl<T: Tape> Session<T> {
     pub fn queued(&self) -> u64
         ensures { result ≡ queued self.now.settings self.now.entries }
     {
-        self.state.queue.len()
+        self.state.outbox.len()
     }
 
     /// The first moment, in milliseconds, at which an [`Event::Tick`] does more than take its

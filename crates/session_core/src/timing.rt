@@ -55,8 +55,8 @@ pub fn begun_at(settings: &Settings, setup: &Option<Setup>, now: u64) -> Timer
     Timer::new(interval, lifetime(settings, setup), now, sends)
 }
 
-// A moment is taken; a KEEPALIVE may be sent at it.
-fn tick(timer: &mut Timer, now: u64, answer: &Answer)
+/// Takes the moment of a tick; a KEEPALIVE may be sent at it.
+pub fn tick(timer: &mut Timer, now: u64, answer: &Answer)
     ensures { timer.new ≡ ticked_to now answer.now timer.old }
 {
     let _due = timer.tick(later(timer.moment(), now));

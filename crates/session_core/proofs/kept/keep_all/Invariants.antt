@@ -3,4 +3,4 @@ use Rattle.session_core.proofs.Keeping.{IsKeeping}
 use Rattle.session_core.proofs.kept.keep_all.Given as goal
 
 abbrev pub invariant-loop-frame : goal.invariant-loop-frame
-invariant-loop-frame l = IsKeeping l.fn.replay l.replay (take l.frame-index l.frames)
+invariant-loop-frame l = IsKeeping l.fn.outbox l.outbox (take l.frame-index l.frames)

@@ -48,7 +48,7 @@ apply_whole-requires-clause-says g c =
     let fair : IsFair settings e = subst (λ (v : Seen). IsFair v.settings e) (sym c.self.view_is) c.requires.fair in
     let means = means_of settings s past e answer.Handled c.self.invariant.fits is in
     subst (λ (v : Streams). CanSay v answer.Handled e (arrival_for (covers_next settings s) (gathered_at s.parts) answer.Handled e)) (sym c.in_ok-make_room.ensures.same)
-    (can_say settings s past c.make_room.new.streams.ready s.parts s.replay.spare e answer.Handled c.self.invariant.fits short fair means c.in_ok-make_room.ensures.room)
+    (can_say settings s past c.make_room.new.streams.ready s.parts s.outbox.room e answer.Handled c.self.invariant.fits short fair means c.in_ok-make_room.ensures.room)
 
 pub invariant_of-self-2 : goal.invariant_of-self-2
 invariant_of-self-2 g c =

@@ -29,9 +29,9 @@ invariant_of-self-in-Err-note_call g c =
     let asked = c.args.call.now in
     let on = c.in_ok-on.on in
     let mid = c.line_call.new.self in
-    let lined : mid ≡ with_room (with_line settings s (event.Asked asked) (answer_on asked on)) (Some on) s.parts c.line_call.new.self.replay.spare =
-    subst (λ (o : Option ℕ). IfSome o (λ k. mid ≡ with_room (with_line settings s (event.Asked asked) (answer_on asked on)) (Some on) s.parts c.line_call.new.self.replay.spare)) c.in-Ok-Some.field-0-is c.in-Ok-Some.ensures.lined in
-    let same = sent_forgotten settings s mid asked (answer_on asked on) on c.len-before.result c.truncate.new.self mid.replay.spare c.len-before.ensures.value lined c.truncate.ensures in
+    let lined : mid ≡ with_room (with_line settings s (event.Asked asked) (answer_on asked on)) (Some on) s.parts c.line_call.new.self.outbox.room =
+    subst (λ (o : Option ℕ). IfSome o (λ k. mid ≡ with_room (with_line settings s (event.Asked asked) (answer_on asked on)) (Some on) s.parts c.line_call.new.self.outbox.room)) c.in-Ok-Some.field-0-is c.in-Ok-Some.ensures.lined in
+    let same = sent_forgotten settings s mid asked (answer_on asked on) on c.len-before.result c.truncate.new.self mid.outbox.room c.len-before.ensures.value lined c.truncate.ensures in
     rw (same, c.in-Err-note_call.ensures.err_told, c.in-Err-note_call.ensures.err_count) (sound_with_room _ _ _ _ _ _ _ _ (λ i. refl) (λ i. refl) c.self.invariant)
 
 pub speak_once-requires-clause-acts : goal.speak_once-requires-clause-acts
@@ -44,8 +44,8 @@ speak_once-requires-clause-acts g c =
     let short : length past < 2 ^ 63 = subst (λ (v : Seen). length v.entries < 2 ^ 63) (sym c.self.view_is) c.requires.not_full in
     let sends : Sends settings s asked on c.in-Ok-Some.count =
     subst (λ (o : Option ℕ). IfSome o (λ n. Sends settings s asked on n)) c.in-Ok-Some.field-0-is c.in-Ok-Some.ensures.sends in
-    let lined : c.line_call.new.self ≡ with_room (with_line settings s (event.Asked asked) (answer_on asked on)) (Some on) s.parts c.line_call.new.self.replay.spare =
-    subst (λ (o : Option ℕ). IfSome o (λ n. c.line_call.new.self ≡ with_room (with_line settings s (event.Asked asked) (answer_on asked on)) (Some on) s.parts c.line_call.new.self.replay.spare)) c.in-Ok-Some.field-0-is c.in-Ok-Some.ensures.lined in
+    let lined : c.line_call.new.self ≡ with_room (with_line settings s (event.Asked asked) (answer_on asked on)) (Some on) s.parts c.line_call.new.self.outbox.room =
+    subst (λ (o : Option ℕ). IfSome o (λ n. c.line_call.new.self ≡ with_room (with_line settings s (event.Asked asked) (answer_on asked on)) (Some on) s.parts c.line_call.new.self.outbox.room)) c.in-Ok-Some.field-0-is c.in-Ok-Some.ensures.lined in
     subst (λ (k : State). Acts k.streams asked) (sym lined)
     (sent_acts settings s past asked on c.self.invariant.fits short (c.requires.askable, c.call_amounts_fit.ensures) c.in_ok-on.ensures sends.may)
 
@@ -58,12 +58,12 @@ speak_once-requires-clause-keeps g c = λ keeps.
     let mid = c.line_call.new.self in
     let sends : Sends settings s asked on c.in-Ok-Some.count =
     subst (λ (o : Option ℕ). IfSome o (λ n. Sends settings s asked on n)) c.in-Ok-Some.field-0-is c.in-Ok-Some.ensures.sends in
-    let lined : mid ≡ with_room (with_line settings s (event.Asked asked) (answer_on asked on)) (Some on) s.parts mid.replay.spare =
-    subst (λ (o : Option ℕ). IfSome o (λ n. mid ≡ with_room (with_line settings s (event.Asked asked) (answer_on asked on)) (Some on) s.parts mid.replay.spare)) c.in-Ok-Some.field-0-is c.in-Ok-Some.ensures.lined in
-    let last : IfSome (spoken (known_to s.streams) on asked) (IsLastOf mid.queue c.in-Ok-Some.count) =
-    subst (λ (o : Option ℕ). IfSome o (λ n. IfSome (spoken (known_to s.streams) on asked) (IsLastOf mid.queue n))) c.in-Ok-Some.field-0-is c.in-Ok-Some.ensures.last in
-    let spare : HasSpare mid.replay.spare c.in-Ok-Some.count =
-    subst (λ (o : Option ℕ). IfSome o (λ n. c.agreed_by-agreed.result.resumption ≡ true → HasSpare mid.replay.spare n)) c.in-Ok-Some.field-0-is c.in-Ok-Some.ensures.spare keeps in
+    let lined : mid ≡ with_room (with_line settings s (event.Asked asked) (answer_on asked on)) (Some on) s.parts mid.outbox.room =
+    subst (λ (o : Option ℕ). IfSome o (λ n. mid ≡ with_room (with_line settings s (event.Asked asked) (answer_on asked on)) (Some on) s.parts mid.outbox.room)) c.in-Ok-Some.field-0-is c.in-Ok-Some.ensures.lined in
+    let last : IfSome (spoken (known_to s.streams) on asked) (IsLastOf mid.outbox c.in-Ok-Some.count) =
+    subst (λ (o : Option ℕ). IfSome o (λ n. IfSome (spoken (known_to s.streams) on asked) (IsLastOf mid.outbox n))) c.in-Ok-Some.field-0-is c.in-Ok-Some.ensures.last in
+    let spare : HasSpare mid.outbox.room.spare c.in-Ok-Some.count =
+    subst (λ (o : Option ℕ). IfSome o (λ n. c.agreed_by-agreed.result.resumption ≡ true → HasSpare mid.outbox.room.spare n)) c.in-Ok-Some.field-0-is c.in-Ok-Some.ensures.spare keeps in
     sent_keeps settings s c.self.inside.history _ _ mid asked on c.in-Ok-Some.count c.self.invariant c.in_ok-on.ensures sends lined last spare
 
 pub speak_once-requires-clause-lets : goal.speak_once-requires-clause-lets
@@ -75,8 +75,8 @@ speak_once-requires-clause-lets g c =
     let mid = c.line_call.new.self in
     let sends : Sends settings s asked on c.in-Ok-Some.count =
     subst (λ (o : Option ℕ). IfSome o (λ n. Sends settings s asked on n)) c.in-Ok-Some.field-0-is c.in-Ok-Some.ensures.sends in
-    let lined : mid ≡ with_room (with_line settings s (event.Asked asked) (answer_on asked on)) (Some on) s.parts mid.replay.spare =
-    subst (λ (o : Option ℕ). IfSome o (λ n. mid ≡ with_room (with_line settings s (event.Asked asked) (answer_on asked on)) (Some on) s.parts mid.replay.spare)) c.in-Ok-Some.field-0-is c.in-Ok-Some.ensures.lined in
+    let lined : mid ≡ with_room (with_line settings s (event.Asked asked) (answer_on asked on)) (Some on) s.parts mid.outbox.room =
+    subst (λ (o : Option ℕ). IfSome o (λ n. mid ≡ with_room (with_line settings s (event.Asked asked) (answer_on asked on)) (Some on) s.parts mid.outbox.room)) c.in-Ok-Some.field-0-is c.in-Ok-Some.ensures.lined in
     sent_lets settings s c.self.inside.history _ _ mid asked on c.in-Ok-Some.count c.agreed_by-agreed.result.leases c.self.invariant c.in_ok-on.ensures sends c.agreed_by-agreed.ensures.leases lined
 
 pub invariant_of-self-2 : goal.invariant_of-self-2
@@ -92,10 +92,10 @@ invariant_of-self-2 g c =
     let fits = c.self.invariant.fits in
     let sends : Sends settings s asked on c.in-Ok-Some.count =
     subst (λ (o : Option ℕ). IfSome o (λ n. Sends settings s asked on n)) c.in-Ok-Some.field-0-is c.in-Ok-Some.ensures.sends in
-    let lined : mid ≡ with_room (with_line settings s (event.Asked asked) (answer_on asked on)) (Some on) s.parts c.line_call.new.self.replay.spare =
-    subst (λ (o : Option ℕ). IfSome o (λ n. mid ≡ with_room (with_line settings s (event.Asked asked) (answer_on asked on)) (Some on) s.parts c.line_call.new.self.replay.spare)) c.in-Ok-Some.field-0-is c.in-Ok-Some.ensures.lined in
-    let last : IfSome (spoken (known_to s.streams) on asked) (IsLastOf mid.queue c.in-Ok-Some.count) =
-    subst (λ (o : Option ℕ). IfSome o (λ n. IfSome (spoken (known_to s.streams) on asked) (IsLastOf mid.queue n))) c.in-Ok-Some.field-0-is c.in-Ok-Some.ensures.last in
+    let lined : mid ≡ with_room (with_line settings s (event.Asked asked) (answer_on asked on)) (Some on) s.parts c.line_call.new.self.outbox.room =
+    subst (λ (o : Option ℕ). IfSome o (λ n. mid ≡ with_room (with_line settings s (event.Asked asked) (answer_on asked on)) (Some on) s.parts c.line_call.new.self.outbox.room)) c.in-Ok-Some.field-0-is c.in-Ok-Some.ensures.lined in
+    let last : IfSome (spoken (known_to s.streams) on asked) (IsLastOf mid.outbox c.in-Ok-Some.count) =
+    subst (λ (o : Option ℕ). IfSome o (λ n. IfSome (spoken (known_to s.streams) on asked) (IsLastOf mid.outbox n))) c.in-Ok-Some.field-0-is c.in-Ok-Some.ensures.last in
     let after = sent_after settings s past mid new asked on c.in-Ok-Some.count c.agreed_by-agreed.result.resumption c.agreed_by-agreed.result.leases fits c.in_ok-on.ensures sends
     c.agreed_by-agreed.ensures.resumption c.agreed_by-agreed.ensures.leases lined last c.speak_once.ensures.after c.speak_once.ensures.held c.speak_once.ensures.hold c.speak_once.ensures.lease c.speak_once.ensures.parts in
     let same : answer_on asked on ≡ a = sym c.answer_on-answer.ensures in

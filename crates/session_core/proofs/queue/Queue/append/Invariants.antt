@@ -1,5 +1,0 @@
-use Rattle.rs_frame.specs.Framed.{framed_all}
-use Rattle.session_core.proofs.queue.Queue.append.Given as goal
-
-abbrev pub ghost-append_with : goal.ghost-append_with
-ghost-append_with a = framed_all a.write.0.now
