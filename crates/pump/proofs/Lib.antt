@@ -8,3 +8,4 @@ pub mod Progress
 pub mod Going
 pub mod ReadOut
 pub mod Running
+pub mod Numbered

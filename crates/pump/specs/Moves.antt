@@ -5,6 +5,10 @@ use Rattle.outside.specs.Causes.{Rose}
 use Rattle.outside.specs.Links.{Shown}
 use Rattle.outside.specs.declared.link.Taken.{Taken}
 use Rattle.outside.specs.declared.link.Taken.TheVariants as takes
+use Rattle.rs_chunk.specs.Stream.{IsWhole, first_frame}
+use Rattle.rs_frame.specs.declared.frame.Frame.{Frame}
+use Rattle.rs_frame.specs.Spelling.{Spells}
+use Rattle.rs_frame.specs.Views.{IsBare}
 use Rattle.tape.specs.declared.event.Event.{Event}
 use Rattle.link_model.specs.Reading.{IsInFront, IsPart}
 use Rattle.pump.specs.declared.numbers.TheConstants.{PIECE}
@@ -98,3 +102,7 @@ taken_in _ = 0
 abbrev pub IsNext : ℕ → List ℕ → ℕ → Option Event → Type 0
 IsNext c bytes most None = IsPart bytes most
 IsNext c bytes most (Some e) = IsInFront c bytes most e
+
+-- a whole frame within the limit stands in front, and carries bytes beside its numbers
+abbrev pub CarriesBytes : List ℕ → ℕ → Type 0
+CarriesBytes bytes most = (f : Frame) × IsWhole bytes most × Spells f (first_frame bytes) × (¬ (IsBare f))

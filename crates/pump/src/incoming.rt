@@ -1,15 +1,14 @@
 //! Bytes that a link gave, on their way to the session.
 
-ghost use Rattle.std.specs.Prelude.{◌≡◌, ◌<◌, ◌≤◌, ◌^◌, ◌++◌, ◌∷◌, ℕ, List, [], false, true, IfOk, OnErr, OnOk};
+ghost use Rattle.std.specs.Prelude.{◌≡◌, ◌<◌, ◌≤◌, ◌^◌, ◌++◌, ◌∷◌, ℕ, List, [], false, true, IfErr, IfOk, OnErr, OnOk};
 ghost use Rattle.rs_chunk.specs.Stream.{IsCut, IsWhole, after_frame, first_frame};
 ghost use Rattle.outside.specs.Links.{NoneFell};
 ghost use Rattle.link_model.specs.Reading.{IsPart, IsWaiting};
-ghost use Rattle.pump.specs.Moves.{HasGrown, IsCaused, IsCounted, IsNext, TakesMore, all_of};
+ghost use Rattle.pump.specs.Moves.{CarriesBytes, HasGrown, IsCaused, IsCounted, IsNext, TakesMore, all_of};
 
 use crate::numbers::PIECE;
 use outside::{Link, Taken};
-use rs_chunk::{Front, Reader};
-use rs_frame::{decode, rule_number};
+use rs_chunk::{Front, FrontView, Reader};
 use rs_wire::OutOfMemory;
 use session_model::LONG_FRAME;
 use std::alloc::Global;
@@ -144,23 +143,23 @@ impl Incoming {
         !matches!(self.reader.front(), Front::Part)
     }
 
-    /// What stands in front, as an event of connection `conn`.
+    /// What stands in front, as an event of connection `conn`. Only a frame that carries bytes needs
+    /// memory.
     pub(crate) fn next(&self, alloc: Global, conn: u64) -> Result<Option<Event>, OutOfMemory>
-        ensures { IfOk result (IsNext conn self.now.bytes self.now.max_in) }
+        ensures next { IfOk result (IsNext conn self.now.bytes self.now.max_in) }
+        ensures memory { IfErr result (λ _. CarriesBytes self.now.bytes self.now.max_in) }
     {
-        match self.reader.front() {
-            Front::Part => Ok(None),
-            Front::TooLong(_) => Ok(Some(Event::Bad {
+        match self.reader.front_view() {
+            FrontView::Part => Ok(None),
+            FrontView::TooLong(_) => Ok(Some(Event::Bad {
                 conn,
                 rule: LONG_FRAME,
             })),
-            Front::Whole(bytes) => match decode(alloc, bytes) {
-                Ok(frame) => Ok(Some(Event::Came { conn, frame })),
-                Err(fault) => match rule_number(fault) {
-                    Some(rule) => Ok(Some(Event::Bad { conn, rule })),
-                    None => Err(OutOfMemory),
-                },
-            },
+            FrontView::Wrong(rule) => Ok(Some(Event::Bad { conn, rule })),
+            FrontView::Frame(frame) => Ok(Some(Event::Came {
+                conn,
+                frame: frame.to_frame(alloc)?,
+            })),
         }
     }
 

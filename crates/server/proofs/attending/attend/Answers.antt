@@ -33,7 +33,7 @@ loop-preserved g c =
     let me = c.args.caller.now in
     let was = c.loop.caller in
     let mid = c.turn-turned.new.caller in
-    let now = c.help.new.caller in
+    let now = c.help-idle.new.caller in
     let moments = g.K.Clock.moments c.args.host.now.clock.now in
     let helps = is_some c.args.jobs.now in
     let conn = c.args.pump.now.conn in
@@ -44,33 +44,33 @@ loop-preserved g c =
     let turn = c.turn-turned.ensures.turned in
     let pumped : GoesOn (IsPumped moments conn) was mid.front = subst (λ n. GoesOn (IsPumped moments n) was mid.front) i.3 (turn_goes c.args.connection.now.settings moments was c.loop.pump.conn _ turn.left mid.front turn.turn) in
     let turned : GoesOn P was mid.front = goes_as (IsPumped moments conn) P was mid.front (pumped_attended moments helps conn) pumped in
-    let helped : GoesOn P mid now.front = goes_as (IsHelped (is_some c.loop.jobs)) P mid now.front (λ e h. helped_attended moments helps conn e (subst (λ b. IsHelped b e) i.6 h)) c.help.ensures.goes in
+    let helped : GoesOn P mid now.front = goes_as (IsHelped (is_some c.loop.jobs)) P mid now.front (λ e h. helped_attended moments helps conn e (subst (λ b. IsHelped b e) i.6 h)) c.help-idle.ensures.goes in
     let on_mid = on_both me was mid i.0 c.turn-turned.ensures.same in
     let st = c.args.connection.now.settings in
     let short : c.loop.pump.max_in < 2 ^ 24 = subst (λ n. n < 2 ^ 24) (sym i.4) c.requires.short in
     let going : is_last c.turn-turned.result ≡ false = search rules in
     let named_was : was.names ≡ me.names = on_names me was i.0 in
     let named_mid : mid.names ≡ me.names = on_names me mid on_mid in
-    let own_mid : MovesAlone now conn → MovesAlone mid conn = λ own. own_before mid now conn c.help.ensures.same (goes_continues P mid now.front helped) own in
+    let own_mid : MovesAlone now conn → MovesAlone mid conn = λ own. own_before mid now conn c.help-idle.ensures.same (goes_continues P mid now.front helped) own in
     let own_was : MovesAlone mid conn → MovesAlone was conn = λ own. own_before was mid conn c.turn-turned.ensures.same (goes_continues P was mid.front turned) own in
     let on_time : MovesAlone mid conn → IsOnTime st me.names me.front mid s t c.turn-turned.new.self = λ own.
     on_time_turn st moments me.names me.front was mid s m t c.loop.pump c.turn-turned.new.self c.turn-turned.result named_was c.turn-turned.ensures.same short c.turn-turned.ensures.counted going
     (subst (MovesAlone mid) (sym i.3) own) turn (c.turn-turned.ensures.read (late_of c.turn-turned.result going)) (i.9 (own_was own)) in
-    let spares : GoesOn (Spares c.turn-turned.new.self.conn) mid now.front = goes_as (IsHelped (is_some c.loop.jobs)) (Spares c.turn-turned.new.self.conn) mid now.front (helped_spares (is_some c.loop.jobs) c.turn-turned.new.self.conn) c.help.ensures.goes in
-    let quiet : GoesOn IsNoTick mid now.front = goes_as (IsHelped (is_some c.loop.jobs)) IsNoTick mid now.front (helped_quiet (is_some c.loop.jobs)) c.help.ensures.goes in (
-      on_both me mid now on_mid c.help.ensures.same,
-      λ k. kept_goes mid now t c.turn-turned.new.self c.help.ensures.same spares (c.turn-turned.ensures.kept (i.1 k)),
+    let spares : GoesOn (Spares c.turn-turned.new.self.conn) mid now.front = goes_as (IsHelped (is_some c.loop.jobs)) (Spares c.turn-turned.new.self.conn) mid now.front (helped_spares (is_some c.loop.jobs) c.turn-turned.new.self.conn) c.help-idle.ensures.goes in
+    let quiet : GoesOn IsNoTick mid now.front = goes_as (IsHelped (is_some c.loop.jobs)) IsNoTick mid now.front (helped_quiet (is_some c.loop.jobs)) c.help-idle.ensures.goes in (
+      on_both me mid now on_mid c.help-idle.ensures.same,
+      λ k. kept_goes mid now t c.turn-turned.new.self c.help-idle.ensures.same spares (c.turn-turned.ensures.kept (i.1 k)),
       goes_both P me mid now.front on_mid (goes_both P me was mid.front i.0 i.2 turned) helped,
       c.turn-turned.ensures.conn ∙ i.3,
       c.turn-turned.ensures.max_in ∙ i.4,
       none_fell_both s.counts m.counts t.counts i.5 c.turn-turned.ensures.counted,
-      c.help.ensures.shape ∙ i.6,
-      c.help.ensures.routed,
-      work_both me.names c.args.host.now.routes.now me.front was.front now.front c.args.jobs.now c.loop.jobs c.help.new.jobs i.8
-          (work_both me.names c.args.host.now.routes.now was.front mid.front now.front c.loop.jobs c.loop.jobs c.help.new.jobs
+      c.help-idle.ensures.shape ∙ i.6,
+      c.help-idle.ensures.routed,
+      work_both me.names c.args.host.now.routes.now me.front was.front now.front c.args.jobs.now c.loop.jobs c.help-idle.new.jobs i.8
+          (work_both me.names c.args.host.now.routes.now was.front mid.front now.front c.loop.jobs c.loop.jobs c.help-idle.new.jobs
           (work_kept_on me was mid.front c.args.host.now.routes.now c.loop.jobs i.0 (IsPumped moments c.loop.pump.conn) (pumped_idle moments c.loop.pump.conn) (turn_goes c.args.connection.now.settings moments was c.loop.pump.conn _ turn.left mid.front turn.turn))
-          (work_on me mid now.front c.args.host.now.routes.now c.loop.jobs c.help.new.jobs on_mid c.help.ensures.kept)),
-      λ own. on_time_helped st me.names me.front mid now s t c.turn-turned.new.self named_mid c.help.ensures.same spares quiet (on_time (own_mid own)),
+          (work_on me mid now.front c.args.host.now.routes.now c.loop.jobs c.help-idle.new.jobs on_mid c.help-idle.ensures.kept)),
+      λ own. on_time_helped st me.names me.front mid now s t c.turn-turned.new.self named_mid c.help-idle.ensures.same spares quiet (on_time (own_mid own)),
       grown_both s.taken m.taken t.taken i.10 turn.grown.1,
     )
 
