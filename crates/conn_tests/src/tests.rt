@@ -1,6 +1,7 @@
 //! Trials of what threads share: a bell, a lock, and a session. Those of a session are written for
 //! any tape, since a proof is dearer the more types a function knows.
 
+mod answers;
 mod bells;
 mod calls;
 mod ends;

@@ -1,8 +1,8 @@
 //! Frames out of a stream that comes in pieces.
 
 use crate::frames::decoded;
-use rs_chunk::{Front, Reader, frame_bytes, item_bytes, request_bytes, split_frame};
-use rs_frame::{Frame, Request, spellable};
+use rs_chunk::{Front, FrontView, Reader, frame_bytes, item_bytes, request_bytes, split_frame};
+use rs_frame::{Frame, FrameRef, Request, spellable};
 use std::alloc::Global;
 use std::process::Abort;
 
@@ -27,6 +27,50 @@ fn a_length_above_the_limit_is_told(rt: HostRuntime) {
     assert!(rt; matches!(reader.front(), Front::TooLong(65)));
     assert!(rt; reader.feed(&[1, 2, 3]).is_ok());
     assert!(rt; matches!(reader.front(), Front::TooLong(65)));
+}
+
+/// What lies in front of a stream.
+#[derive(Clone, Copy, Debug, PartialEq, Eq)]
+enum InFront {
+    Cancel(u32),
+    OtherFrame,
+    Wrong(u8),
+    TooLong(u32),
+    Part,
+}
+
+fn look(reader: &Reader) -> InFront {
+    match reader.front_view() {
+        FrontView::Frame(FrameRef::Cancel { stream }) => InFront::Cancel(stream),
+        FrontView::Frame(_) => InFront::OtherFrame,
+        FrontView::Wrong(rule) => InFront::Wrong(rule),
+        FrontView::TooLong(length) => InFront::TooLong(length),
+        FrontView::Part => InFront::Part,
+    }
+}
+
+/// Bytes that came, and what lies in front of them where a frame may have 64 bytes.
+const FRONTS: [(&[u8], InFront); 7] = [
+    (b"\0\0\x06\0\0\0\x07\x24\0\0", InFront::Cancel(7)),
+    (b"\0\0\x08\0\0\0\0\x30\0\x61\x62", InFront::OtherFrame),
+    (b"\0\0\x07\0\0\0\x07\x24\0\0", InFront::Wrong(5)),
+    (b"\0\0\x0a\0\0\0\x01\x20\0\0\0\0\0", InFront::Wrong(6)),
+    (b"\0\0\x41", InFront::TooLong(65)),
+    (b"\0\0\x06\0\0\0\x07\x24", InFront::Part),
+    (b"\0\0", InFront::Part),
+];
+
+fn first(rt: &impl Abort, alloc: Global, bytes: &[u8]) -> InFront {
+    let mut reader = Reader::new(alloc, 64);
+    reader.feed(bytes).expect(rt, "there is memory");
+    look(&reader)
+}
+
+#[test]
+fn what_lies_in_front_is_seen(rt: HostRuntime) {
+    for (bytes, front) in FRONTS {
+        assert_eq!(rt; first(&rt, rt.alloc(), bytes), front, "{bytes:?}");
+    }
 }
 
 #[test]

@@ -4,7 +4,7 @@ ghost use Rattle.rs_frame.specs.Spelling.{IsSpellable};
 
 use rs_frame::{
     Frame, FrameFault, Request, decode, encode, grammar_laws, length, resumable, rule_number,
-    spellable, stream,
+    spellable, stream, view,
 };
 use rs_wire::{Blob, Kind, Message};
 use std::alloc::Global;
@@ -41,10 +41,22 @@ fn number(alloc: Global, bytes: &[u8]) -> Option<u8> {
     }
 }
 
+// The number of the rule, where the bytes are only looked at.
+fn number_seen(bytes: &[u8]) -> Option<u8> {
+    if bytes.len() > 0xff_ffff {
+        return None;
+    }
+    match view(bytes) {
+        Err(rule) => Some(rule),
+        Ok(_) => None,
+    }
+}
+
 #[test]
 fn each_rule_is_named(rt: HostRuntime) {
     for (rule, bytes) in BROKEN {
         assert_eq!(rt; number(rt.alloc(), bytes), Some(rule));
+        assert_eq!(rt; number_seen(bytes), Some(rule));
     }
     assert!(rt;
         rule_number(FrameFault::OutOfMemory).is_none(),
@@ -127,6 +139,25 @@ fn each_type_comes_back(rt: HostRuntime) {
         assert!(rt; comes_back(&rt, rt.alloc(), bytes, bytes), "{bytes:?}");
     }
     grammar_laws();
+}
+
+// Whether the frame that lies in the bytes is the one that they are read as.
+fn lies_there(rt: &impl Abort, alloc: Global, bytes: &[u8]) -> bool {
+    assert!(rt; bytes.len() <= 0xff_ffff);
+    match view(bytes) {
+        Ok(frame) => {
+            let own = frame.to_frame(alloc).expect(rt, "there is memory");
+            own == decoded(rt, alloc, bytes)
+        }
+        Err(_) => false,
+    }
+}
+
+#[test]
+fn each_type_lies_in_its_bytes(rt: HostRuntime) {
+    for bytes in CANONICAL {
+        assert!(rt; lies_there(&rt, rt.alloc(), bytes), "{bytes:?}");
+    }
 }
 
 #[test]

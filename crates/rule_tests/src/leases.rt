@@ -3,54 +3,109 @@
 use lease::{Granted, Lease, LeaseFault};
 use rs_wire::Amount;
 
-#[test]
-fn a_lease_is_used_up_by_its_count(rt: HostRuntime) {
+/// What happens at a lease. Moments and spans are in milliseconds.
+#[derive(Clone, Copy)]
+enum Step {
+    /// It is granted at a moment, for a span, and for so many requests.
+    Grant(u64, u32, u32),
+    /// A request may be made at this moment, and is.
+    Use(u64),
+    /// Its connection is gone, and it is as a new one.
+    Gone,
+    /// Whether a request may be made at this moment.
+    May(u64, Result<(), LeaseFault>),
+}
+
+/// What happens at a new lease, in turn.
+const ROWS: [(&str, &[Step]); 5] = [
+    (
+        "a lease is used up by its count",
+        &[
+            Step::May(0, Err(LeaseFault::Used(0))),
+            Step::Grant(0, 1_000, 2),
+            Step::May(0, Ok(())),
+            Step::Use(0),
+            Step::May(0, Ok(())),
+            Step::Use(0),
+            Step::May(0, Err(LeaseFault::Used(2))),
+        ],
+    ),
+    (
+        "a lease is over at its end",
+        &[
+            Step::Grant(100, 50, 10),
+            Step::May(149, Ok(())),
+            Step::May(150, Err(LeaseFault::Over(150))),
+            Step::May(151, Err(LeaseFault::Over(150))),
+        ],
+    ),
+    (
+        "a lease that is used up and over in one moment is used up",
+        &[
+            Step::Grant(100, 50, 1),
+            Step::Use(100),
+            Step::May(150, Err(LeaseFault::Used(1))),
+        ],
+    ),
+    (
+        "a lease of no time or no count lets nothing through",
+        &[
+            Step::Grant(0, 0, 5),
+            Step::May(0, Err(LeaseFault::Over(0))),
+            Step::Grant(0, 1_000, 0),
+            Step::May(0, Err(LeaseFault::Used(0))),
+        ],
+    ),
+    (
+        "a lease replaces the former one and ends with its connection",
+        &[
+            Step::Grant(0, 1_000, 1),
+            Step::Use(0),
+            Step::Grant(u64::MAX, u32::MAX, 1),
+            Step::May(u64::MAX, Ok(())),
+            Step::Gone,
+            Step::May(0, Err(LeaseFault::Used(0))),
+        ],
+    ),
+];
+
+// Whether the step comes at the lease as it says.
+fn comes(lease: &mut Lease, step: Step) -> bool {
+    match step {
+        Step::Grant(now, span, count) => {
+            lease.grant(now, span, count);
+            true
+        }
+        Step::Use(now) => {
+            let may = lease.may(now).is_ok();
+            if may {
+                lease.use_one();
+            }
+            may
+        }
+        Step::Gone => {
+            lease.gone();
+            *lease == Lease::new()
+        }
+        Step::May(now, wanted) => lease.may(now) == wanted,
+    }
+}
+
+// Whether all steps come as they say.
+fn plays(steps: &[Step]) -> bool {
     let mut lease = Lease::new();
-    assert_eq!(rt; lease.may(0), Err(LeaseFault::Used(0)));
-    lease.grant(0, 1_000, 2);
-    assert_eq!(rt; lease.may(0), Ok(()));
-    lease.use_one();
-    assert_eq!(rt; lease.may(0), Ok(()));
-    lease.use_one();
-    assert_eq!(rt; lease.may(0), Err(LeaseFault::Used(2)));
+    let mut right = true;
+    for step in steps {
+        right = comes(&mut lease, *step) && right;
+    }
+    right
 }
 
 #[test]
-fn a_lease_is_over_at_its_end(rt: HostRuntime) {
-    let mut lease = Lease::new();
-    lease.grant(100, 50, 10);
-    assert_eq!(rt; lease.may(149), Ok(()));
-    assert_eq!(rt; lease.may(150), Err(LeaseFault::Over(150)));
-    assert_eq!(rt; lease.may(151), Err(LeaseFault::Over(150)));
-}
-
-#[test]
-fn a_lease_used_up_and_over_in_one_moment_is_used_up(rt: HostRuntime) {
-    let mut lease = Lease::new();
-    lease.grant(100, 50, 1);
-    lease.use_one();
-    assert_eq!(rt; lease.may(150), Err(LeaseFault::Used(1)));
-}
-
-#[test]
-fn a_lease_of_no_time_or_no_count_lets_nothing_through(rt: HostRuntime) {
-    let mut lease = Lease::new();
-    lease.grant(0, 0, 5);
-    assert_eq!(rt; lease.may(0), Err(LeaseFault::Over(0)));
-    lease.grant(0, 1_000, 0);
-    assert_eq!(rt; lease.may(0), Err(LeaseFault::Used(0)));
-}
-
-#[test]
-fn a_lease_replaces_the_former_one_and_ends_with_its_connection(rt: HostRuntime) {
-    let mut lease = Lease::new();
-    lease.grant(0, 1_000, 1);
-    lease.use_one();
-    lease.grant(u64::MAX, u32::MAX, 1);
-    assert_eq!(rt; lease.may(u64::MAX), Ok(()));
-    lease.gone();
-    assert_eq!(rt; lease.may(0), Err(LeaseFault::Used(0)));
-    assert_eq!(rt; lease, Lease::new());
+fn a_lease_lets_through_what_it_counts_until_its_end(rt: HostRuntime) {
+    for (shows, steps) in ROWS {
+        assert!(rt; plays(steps), "{shows}");
+    }
 }
 
 #[test]

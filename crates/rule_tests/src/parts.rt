@@ -6,40 +6,12 @@ use rs_wire::{Blob, Message};
 use std::alloc::Global;
 use std::process::Abort;
 
-// Metadata, where there is some, and content.
+/// Metadata, where there is some, and content.
 type Text = (Option<&'static [u8]>, &'static [u8]);
 
-// A part that comes on a stream, and the message that is whole then, with its C and N.
-#[derive(Clone, Copy)]
-struct Row {
-    stream: u32,
-    follows: bool,
-    part: Text,
-    flags: (bool, bool),
-    whole: Option<(Text, bool, bool)>,
-}
-
-// A part after which more follow, without C and N.
-fn part(stream: u32, part: Text) -> Row {
-    Row {
-        stream,
-        follows: true,
-        part,
-        flags: (false, false),
-        whole: None,
-    }
-}
-
-// The last part of a message, without C and N.
-fn last(stream: u32, part: Text, whole: Text) -> Row {
-    Row {
-        stream,
-        follows: false,
-        part,
-        flags: (false, false),
-        whole: Some((whole, false, false)),
-    }
-}
+/// A part that comes: its stream, whether more follow, what it has, and its C and N; and the message
+/// that is whole then, with its C and N.
+type Row = (u32, bool, Text, (bool, bool), Option<(Text, bool, bool)>);
 
 fn blob(rt: &impl Abort, alloc: Global, bytes: &[u8]) -> Blob {
     Blob::from_slice(alloc, bytes).expect(rt, "there is memory")
@@ -57,117 +29,174 @@ fn message(rt: &impl Abort, alloc: Global, text: Text) -> Message {
     }
 }
 
-fn answer(rt: &impl Abort, alloc: Global, row: &Row) -> Glued {
-    match row.whole {
-        None => Glued::Part,
-        Some((whole, complete, next)) => Glued::Whole {
-            message: message(rt, alloc, whole),
-            complete,
-            next,
-        },
+// Whether a message has this metadata and content.
+fn is_text(message: &Message, text: Text) -> bool {
+    let (metadata, content) = text;
+    let is_metadata = match (&message.metadata, metadata) {
+        (Some(given), Some(bytes)) => given.as_slice() == bytes,
+        (None, None) => true,
+        _ => false,
+    };
+    is_metadata && message.content.as_slice() == content
+}
+
+// Whether the part is answered as its row says.
+fn is_answer(given: &Glued, row: &Row) -> bool {
+    let (_, _, _, _, whole) = *row;
+    match (given, whole) {
+        (Glued::Part, None) => true,
+        (
+            Glued::Whole {
+                message,
+                complete,
+                next,
+            },
+            Some((whole, is_complete, is_next)),
+        ) => *complete == is_complete && *next == is_next && is_text(message, whole),
+        _ => false,
     }
 }
 
 // What is answered to the part.
 fn given(rt: &impl Abort, alloc: Global, reassembly: &mut Reassembly, row: &Row) -> Glued {
-    let part = message(rt, alloc, row.part);
+    let (stream, follows, text, (complete, next), _) = *row;
+    let part = message(rt, alloc, text);
     reassembly
-        .reserve(row.stream, &part)
+        .reserve(stream, &part)
         .expect(rt, "there is memory");
-    let (complete, next) = row.flags;
-    reassembly.push(row.stream, row.follows, &part, complete, next)
+    reassembly.push(stream, follows, &part, complete, next)
 }
 
-// That each part is answered as its row says.
+// That each part is answered as its row says, and is there until its message is whole.
 fn comes(rt: &impl Abort, alloc: Global, reassembly: &mut Reassembly, rows: &[Row]) {
     for row in rows {
         let given = given(rt, alloc, reassembly, row);
-        assert!(rt; given == answer(rt, alloc, row));
+        assert!(rt; is_answer(&given, row));
+        let (stream, follows, _, _, _) = *row;
+        assert!(rt; reassembly.has_part(stream) == follows);
     }
 }
 
-#[test]
-fn parts_of_two_streams_come_in_turn(rt: HostRuntime) {
-    let mut reassembly = Reassembly::new(rt.alloc());
-    let rows = [
-        part(1, (None, b"ab")),
-        part(3, (None, b"x")),
-        last(1, (None, b"c"), (None, b"abc")),
-        last(3, (None, b"y"), (None, b"xy")),
-    ];
-    comes(&rt, rt.alloc(), &mut reassembly, &rows);
-}
+/// Parts that come in turn, where no part was before.
+const LISTS: [&[Row]; 4] = [
+    // Parts of two streams come in turn.
+    &[
+        (1, true, (None, b"ab"), (false, false), None),
+        (3, true, (None, b"x"), (false, false), None),
+        (
+            1,
+            false,
+            (None, b"c"),
+            (false, false),
+            Some(((None, b"abc"), false, false)),
+        ),
+        (
+            3,
+            false,
+            (None, b"y"),
+            (false, false),
+            Some(((None, b"xy"), false, false)),
+        ),
+    ],
+    // Metadata comes in two parts.
+    &[
+        (1, true, (Some(b"m"), b""), (false, false), None),
+        (1, true, (Some(b"n"), b"a"), (false, false), None),
+        (
+            1,
+            false,
+            (None, b"b"),
+            (false, false),
+            Some(((Some(b"mn"), b"ab"), false, false)),
+        ),
+    ],
+    // An empty part is a part.
+    &[
+        (1, true, (None, b""), (false, false), None),
+        (
+            1,
+            false,
+            (Some(b""), b""),
+            (false, false),
+            Some(((Some(b""), b""), false, false)),
+        ),
+    ],
+    // Flags are taken from any part.
+    &[
+        (5, true, (None, b"a"), (true, false), None),
+        (
+            5,
+            false,
+            (None, b"b"),
+            (false, true),
+            Some(((None, b"ab"), true, true)),
+        ),
+    ],
+];
 
 #[test]
-fn metadata_comes_in_two_parts(rt: HostRuntime) {
-    let mut reassembly = Reassembly::new(rt.alloc());
-    let rows = [
-        part(1, (Some(b"m"), b"")),
-        part(1, (Some(b"n"), b"a")),
-        last(1, (None, b"b"), (Some(b"mn"), b"ab")),
-    ];
-    comes(&rt, rt.alloc(), &mut reassembly, &rows);
+fn parts_are_joined_by_stream(rt: HostRuntime) {
+    for rows in LISTS {
+        let mut reassembly = Reassembly::new(rt.alloc());
+        comes(&rt, rt.alloc(), &mut reassembly, rows);
+    }
 }
 
-#[test]
-fn an_empty_part_is_a_part(rt: HostRuntime) {
-    let mut reassembly = Reassembly::new(rt.alloc());
-    comes(&rt, rt.alloc(), &mut reassembly, &[part(1, (None, b""))]);
-    assert!(rt; reassembly.has_part(1));
-    let rows = [last(1, (Some(b""), b""), (Some(b""), b""))];
-    comes(&rt, rt.alloc(), &mut reassembly, &rows);
-}
+/// A part with N.
+const NEXT: [Row; 1] = [(1, true, (Some(b"m"), b"ab"), (false, true), None)];
 
-#[test]
-fn flags_are_taken_from_any_part(rt: HostRuntime) {
-    let mut reassembly = Reassembly::new(rt.alloc());
-    let mut first = part(5, (None, b"a"));
-    first.flags = (true, false);
-    let mut second = last(5, (None, b"b"), (None, b"ab"));
-    second.flags = (false, true);
-    second.whole = Some(((None, b"ab"), true, true));
-    comes(&rt, rt.alloc(), &mut reassembly, &[first, second]);
+// How large the message would be with more on this stream, and whether N stood on any part of it.
+fn measure(rt: &impl Abort, reassembly: &Reassembly, stream: u32, more: &Message) -> (u64, bool) {
+    assert!(rt; more.size() < 1000);
+    (
+        reassembly.size_with(stream, more),
+        reassembly.next_with(stream, false),
+    )
 }
 
 #[test]
 fn a_part_is_measured_before_it_is_pushed(rt: HostRuntime) {
     let mut reassembly = Reassembly::new(rt.alloc());
     let more = message(&rt, rt.alloc(), (Some(b"mn"), b"c"));
-    assert!(rt; more.size() < 1000);
-    assert_eq!(rt; reassembly.size_with(1, &more), 3);
-    assert!(rt; !reassembly.next_with(1, false));
-    let mut first = part(1, (Some(b"m"), b"ab"));
-    first.flags = (false, true);
-    comes(&rt, rt.alloc(), &mut reassembly, &[first]);
-    assert_eq!(rt; reassembly.size_with(1, &more), 6);
-    assert_eq!(rt; reassembly.size_with(3, &more), 3);
-    assert!(rt; reassembly.next_with(1, false) && !reassembly.next_with(3, false));
+    assert!(rt; measure(&rt, &reassembly, 1, &more) == (3, false));
+    comes(&rt, rt.alloc(), &mut reassembly, &NEXT);
+    assert!(rt; measure(&rt, &reassembly, 1, &more) == (6, true));
+    assert!(rt; measure(&rt, &reassembly, 3, &more) == (3, false));
 }
+
+/// Parts of two streams.
+const BEGUN: [Row; 2] = [
+    (1, true, (None, b"a"), (false, false), None),
+    (3, true, (None, b"b"), (false, false), None),
+];
+
+/// The last part of the second.
+const SECOND: [Row; 1] = [(
+    3,
+    false,
+    (None, b""),
+    (false, false),
+    Some(((None, b"b"), false, false)),
+)];
+
+/// A whole message on the first, where no part is.
+const FIRST: [Row; 1] = [(
+    1,
+    false,
+    (None, b"c"),
+    (false, false),
+    Some(((None, b"c"), false, false)),
+)];
 
 #[test]
 fn a_whole_or_forgotten_message_leaves_nothing(rt: HostRuntime) {
     let mut reassembly = Reassembly::new(rt.alloc());
     assert!(rt; reassembly.is_empty());
-    comes(
-        &rt,
-        rt.alloc(),
-        &mut reassembly,
-        &[part(1, (None, b"a")), part(3, (None, b"b"))],
-    );
+    comes(&rt, rt.alloc(), &mut reassembly, &BEGUN);
     reassembly.forget(1);
     assert!(rt; !reassembly.has_part(1) && reassembly.has_part(3));
-    comes(
-        &rt,
-        rt.alloc(),
-        &mut reassembly,
-        &[last(3, (None, b""), (None, b"b"))],
-    );
+    comes(&rt, rt.alloc(), &mut reassembly, &SECOND);
     assert!(rt; reassembly.is_empty());
-    comes(
-        &rt,
-        rt.alloc(),
-        &mut reassembly,
-        &[last(1, (None, b"c"), (None, b"c"))],
-    );
+    comes(&rt, rt.alloc(), &mut reassembly, &FIRST);
     assert!(rt; reassembly.is_empty());
 }

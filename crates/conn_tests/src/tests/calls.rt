@@ -1,16 +1,15 @@
 //! One caller, with nobody beside it.
 
 ghost use Rattle.std.specs.Prelude.{◌≡◌};
-ghost use Rattle.rs_wire.specs.declared.words.Side.TheVariants.{Client};
-ghost use Rattle.rs_wire.specs.Settings.{usual};
 
-use super::ends::{ask, compare, connected, frame, open_server};
+use super::answers::{Wanted, check, check_try};
+use super::ends::{ask, bring, close, connected, frame, let_go, open_server};
 use conn::{Caller, Connection, Looked};
-use rs_wire::{Call, Job, Kind, Refusal, Side};
+use rs_wire::{Call, Side};
 use std::alloc::Global;
 use std::process::Abort;
 use std::sync::Wait;
-use tape::{Answer, Blank, Event, Tape};
+use tape::{Blank, Event, Tape};
 
 /// What a session is like of which nothing happened.
 const NOTHING: Looked = Looked {
@@ -21,20 +20,15 @@ const NOTHING: Looked = Looked {
 };
 
 // Takes from a stream that is not there, and looks at a client of which nothing happened.
-fn take_nothing<R: Abort + Wait, T: Tape + Drop>(rt: &R, alloc: Global, tape: T)
+fn take_nothing<R: Abort + Wait, T: Tape>(rt: &R, alloc: Global, tape: T) -> T
     requires empty { T.count tape ≡ 0 }
 {
-    let (connection, mut caller) = connected(rt, alloc, Side::Client, tape);
-    let refused = Answer::Refused(Refusal::UnknownStream);
-    ask(
-        rt,
-        &connection,
-        &mut caller,
-        &Call::Take { stream: 1 },
-        &refused,
-    );
-    assert!(rt; connection.max_in() == 16_777_215);
-    assert!(rt; connection.look(rt, &mut caller) == NOTHING);
+    let (client, mut caller) = connected(rt, alloc, Side::Client, false, tape);
+    let take = Call::Take { stream: 1 };
+    ask(rt, &client, &mut caller, take, Wanted::UnknownStream);
+    assert!(rt; client.max_in() == 16_777_215);
+    assert!(rt; client.look(rt, &mut caller) == NOTHING);
+    close(rt, client, caller)
 }
 
 #[test]
@@ -48,77 +42,34 @@ pub const SETUP: &[u8; 28] = b"\
     \x00\x00\x00\x00\x04\x00\x00\x01\x00\x00\x00\x00\x4e\x20\x00\x01\x5f\x90\
     \x03a/b\x03a/bhi";
 
-// A REQUEST_FNF of stream 1, without metadata and with the content `hi`, comes to the server.
-fn arrive<R: Abort + Wait, T: Tape>(
-    rt: &R,
-    alloc: Global,
-    connection: &Connection<T>,
-    caller: &mut Caller<T>,
-)
-    requires of { caller.old.of ≡ connection.now }
-    ensures of { caller.new.of ≡ connection.now }
+/// A REQUEST_FNF of stream 1, without metadata and with the content `hi`.
+const FNF: &[u8; 8] = b"\x00\x00\x00\x01\x14\x00hi";
+
+// Takes the one job that there is, and then tries to take another.
+fn take_job<R: Abort + Wait, T: Tape>(rt: &R, server: &Connection<T>, caller: &mut Caller<T>)
+    requires of { caller.old.of ≡ server.now }
+    ensures of { caller.new.of ≡ server.now }
 {
-    let event = Event::arrived(1, frame(rt, alloc, b"\x00\x00\x00\x01\x14\x00hi"));
-    compare(rt, &connection.bring(rt, caller, event), &Answer::Handled);
+    check(rt, server.wait_job(rt, caller), Wanted::Fnf);
+    check_try(rt, server.try_call(caller, &Call::TakeJob), Wanted::NotYet);
 }
 
-// Whether the answer is the job of a fire-and-forget of `hi` on stream 1.
-fn is_the_job(answer: &Answer) -> bool {
-    match answer {
-        Answer::GotJob(
-            Job::Asked {
-                stream: 1,
-                kind: Kind::Fnf,
-                message,
-                ..
-            },
-        ) => message.content.as_slice() == b"hi".as_slice(),
-        _ => false,
-    }
-}
-
-// Waits for the one job that there is.
-fn wait_job<R: Abort + Wait, T: Tape>(rt: &R, connection: &Connection<T>, caller: &mut Caller<T>)
-    requires of { caller.old.of ≡ connection.now }
-    ensures of { caller.new.of ≡ connection.now }
-{
-    assert!(rt; is_the_job(&connection.wait_job(rt, caller)));
-}
-
-fn has_not_yet(answer: &Option<Answer>) -> bool {
-    matches!(answer, Some(Answer::NotYet))
-}
-
-// Tries to take a job, where there is none.
-fn try_job<R: Abort, T: Tape>(rt: &R, connection: &Connection<T>, caller: &mut Caller<T>)
-    requires of { caller.old.of ≡ connection.now }
-    ensures of { caller.new.of ≡ connection.now }
-{
-    assert!(rt; has_not_yet(&connection.try_call(caller, &Call::TakeJob)));
-}
-
-// Waits for what comes on a stream that is not there.
-fn wait_in_vain<R: Abort + Wait, T: Tape>(
-    rt: &R,
-    connection: &Connection<T>,
-    caller: &mut Caller<T>,
-)
-    requires of { caller.old.of ≡ connection.now }
-{
-    let refused = Answer::Refused(Refusal::UnknownStream);
-    compare(rt, &connection.wait_take(rt, caller, 3), &refused);
-}
-
-// Brings a server its first two events, and takes what waits, which is one job.
-fn take_all<R: Abort + Wait, T: Tape + Drop>(rt: &R, alloc: Global, tape: T)
+// Brings a server its first two events, and takes what waits, which is one job, and nothing of a
+// stream that is not there.
+fn take_all<R: Abort + Wait, T: Tape>(rt: &R, alloc: Global, tape: T) -> T
     requires empty { T.count tape ≡ 0 }
 {
-    let (connection, mut caller) = connected(rt, alloc, Side::Server, tape);
-    open_server(rt, alloc, &connection, &mut caller, SETUP);
-    arrive(rt, alloc, &connection, &mut caller);
-    wait_job(rt, &connection, &mut caller);
-    try_job(rt, &connection, &mut caller);
-    wait_in_vain(rt, &connection, &mut caller);
+    let (server, mut caller) = connected(rt, alloc, Side::Server, false, tape);
+    open_server(rt, alloc, &server, &mut caller, SETUP);
+    let event = Event::arrived(1, frame(rt, alloc, FNF));
+    check(rt, server.bring(rt, &mut caller, event), Wanted::Handled);
+    take_job(rt, &server, &mut caller);
+    check(
+        rt,
+        server.wait_take(rt, &mut caller, 3),
+        Wanted::UnknownStream,
+    );
+    close(rt, server, caller)
 }
 
 #[test]
@@ -126,35 +77,24 @@ fn what_waits_is_taken_at_once(rt: HostRuntime) {
     take_all(&rt, rt.alloc(), Blank::new());
 }
 
-fn has_opened(answer: &Option<Answer>) -> bool {
-    matches!(answer, Some(Answer::Opened(1)))
-}
-
-// Opens a client by a try.
-fn try_open<R: Abort, T: Tape>(rt: &R, connection: &Connection<T>, caller: &mut Caller<T>)
-    requires of { caller.old.of ≡ connection.now }
-    requires settings { connection.now.settings ≡ usual Client }
-    ensures of { caller.new.of ≡ connection.now }
+// Opens a client by a try, and draws its SETUP by another: 68 bytes after their length of 3.
+fn try_to_open<R: Abort, T: Tape>(rt: &R, alloc: Global, tape: T) -> T
+    requires empty { T.count tape ≡ 0 }
 {
+    let (client, mut caller) = connected(rt, alloc, Side::Client, false, tape);
     let event = Event::opening();
-    assert!(rt; has_opened(&connection.try_event(caller, &event)));
-}
-
-fn has_drawn(answer: &Option<Answer>) -> bool {
-    matches!(answer, Some(Answer::Drawn(71)))
-}
-
-// Draws the SETUP of the client by a try: 68 bytes after their length of 3.
-fn try_draw<R: Abort, T: Tape>(rt: &R, connection: &Connection<T>, caller: &mut Caller<T>)
-    requires of { caller.old.of ≡ connection.now }
-{
+    check_try(rt, client.try_event(&mut caller, &event), Wanted::Opened);
+    let_go(event);
     let mut buffer = [0; 100];
-    assert!(rt; has_drawn(&connection.try_draw(caller, 1, &mut buffer)));
+    check_try(
+        rt,
+        client.try_draw(&mut caller, 1, &mut buffer),
+        Wanted::Drawn(71),
+    );
+    close(rt, client, caller)
 }
 
 #[test]
 fn a_try_has_its_turn_where_nobody_else_has(rt: HostRuntime) {
-    let (connection, mut caller) = connected(&rt, rt.alloc(), Side::Client, Blank::new());
-    try_open(&rt, &connection, &mut caller);
-    try_draw(&rt, &connection, &mut caller);
+    try_to_open(&rt, rt.alloc(), Blank::new());
 }

@@ -3,76 +3,85 @@
 ghost use Rattle.std.specs.Prelude.{◌≡◌, ◌<◌, ◌^◌, [], length};
 ghost use Rattle.rs_wire.specs.declared.words.Side.TheVariants.{Client, Server};
 ghost use Rattle.rs_wire.specs.Calls.{CanBeAsked};
-ghost use Rattle.rs_wire.specs.Settings.{usual};
 ghost use Rattle.rs_frame.specs.Spelling.{IsSpellable};
 ghost use Rattle.session_model.specs.Legal.{CanBring};
 ghost use Rattle.session_core.specs.Seen.{IsNoDrawEvent};
 
+use super::answers::{Wanted, check};
 use conn::{Caller, Connection};
 use rs_frame::{Frame, decode};
-use rs_wire::{Blob, Call, Checked, Settings, Side, check};
+use rs_wire::{Blob, Call, Checked, Settings, Side, check as check_settings};
 use session_core::Session;
 use std::alloc::Global;
 use std::process::Abort;
 use std::sync::Wait;
-use tape::{Answer, Event, Tape};
+use tape::{Event, Tape};
 
-fn usual_settings<R: Abort>(rt: &R, alloc: Global, side: Side) -> Checked
-    ensures { result ≡ usual side }
+/// The token of a client that resumes.
+pub const TOKEN: &[u8; 4] = b"tok1";
+
+/// These bytes.
+pub fn blob<R: Abort>(rt: &R, alloc: Global, bytes: &[u8]) -> Blob {
+    Blob::from_slice(alloc, bytes).expect(rt, "there is memory")
+}
+
+// The token of this end: a server has none, nor a client that does not resume.
+fn token<R: Abort>(rt: &R, alloc: Global, side: Side, resume: bool) -> Blob {
+    if resume && side == Side::Client {
+        blob(rt, alloc, TOKEN)
+    } else {
+        blob(rt, alloc, b"")
+    }
+}
+
+// The usual settings, with resumption where it is asked for.
+fn settings<R: Abort>(rt: &R, alloc: Global, side: Side, resume: bool) -> Checked
+    ensures side { result.side ≡ side }
 {
-    let settings = Settings::usual(alloc, side).expect(rt, "there is memory");
-    match check(settings) {
+    let mut settings = Settings::usual(alloc, side).expect(rt, "there is memory");
+    settings.resume = settings.resume || resume;
+    settings.token = token(rt, alloc, side, resume);
+    match check_settings(settings) {
         Ok(settings) => settings,
         Err(_) => panic!(rt; "the settings are right"),
     }
 }
 
-fn session<R: Abort, T: Tape + Drop>(
+fn session<R: Abort, T: Tape>(
     rt: &R,
     alloc: Global,
-    settings: Checked,
+    side: Side,
+    resume: bool,
     tape: T,
 ) -> Session<T>
     requires empty { T.count tape ≡ 0 }
-    ensures settings { result.settings ≡ settings }
+    ensures side { result.settings.side ≡ side }
     ensures entries { result.entries ≡ [] }
 {
+    let settings = settings(rt, alloc, side, resume);
     match Session::new(alloc, settings, tape) {
         Ok(session) => session,
         Err(_) => panic!(rt; "there is memory"),
     }
 }
 
-/// A connection round a session with these settings, of which nothing happened yet, and its first
-/// caller.
-pub fn connected_as<R: Abort, T: Tape + Drop>(
-    rt: &R,
-    alloc: Global,
-    settings: Checked,
-    tape: T,
-) -> (Connection<T>, Caller<T>)
-    requires empty { T.count tape ≡ 0 }
-    ensures of { result.1.of ≡ result.0 }
-    ensures settings { result.0.settings ≡ settings }
-{
-    match Connection::new(alloc, session(rt, alloc, settings, tape)) {
-        Ok(made) => made,
-        Err(_) => panic!(rt; "there is memory"),
-    }
-}
-
-/// The same with the usual settings.
-pub fn connected<R: Abort, T: Tape + Drop>(
+/// A connection round a session with the usual settings, of which nothing happened yet, and its first
+/// caller. It resumes where that is asked for.
+pub fn connected<R: Abort, T: Tape>(
     rt: &R,
     alloc: Global,
     side: Side,
+    resume: bool,
     tape: T,
 ) -> (Connection<T>, Caller<T>)
     requires empty { T.count tape ≡ 0 }
     ensures of { result.1.of ≡ result.0 }
-    ensures settings { result.0.settings ≡ usual side }
+    ensures side { result.0.settings.side ≡ side }
 {
-    connected_as(rt, alloc, usual_settings(rt, alloc, side), tape)
+    match Connection::new(alloc, session(rt, alloc, side, resume, tape)) {
+        Ok(made) => made,
+        Err(_) => panic!(rt; "there is memory"),
+    }
 }
 
 /// One more caller.
@@ -88,23 +97,15 @@ pub fn one_more<R: Abort + Wait, T: Tape>(
     connection.split(rt, caller).expect(rt, "there are parts")
 }
 
-/// The session of a connection, whose caller has all parts again.
-pub fn close<R: Abort, T: Tape + Drop>(
-    rt: &R,
-    connection: Connection<T>,
-    caller: Caller<T>,
-) -> Session<T>
+/// The tape of the session of a connection, whose caller has all parts again. All trials end so: a
+/// connection or a session that is let go is dear to prove, and here a tape need not be `Drop`.
+pub fn close<R: Abort, T: Tape>(rt: &R, connection: Connection<T>, caller: Caller<T>) -> T
     requires of { caller.of ≡ connection }
 {
     match connection.close(caller) {
-        Ok(session) => session,
+        Ok(session) => session.into_tape(),
         Err(_) => panic!(rt; "all parts are there"),
     }
-}
-
-/// These bytes.
-pub fn blob<R: Abort>(rt: &R, alloc: Global, bytes: &[u8]) -> Blob {
-    Blob::from_slice(alloc, bytes).expect(rt, "there is memory")
 }
 
 /// The frame that the bytes spell.
@@ -118,25 +119,24 @@ pub fn frame<R: Abort>(rt: &R, alloc: Global, bytes: &[u8]) -> Frame
     }
 }
 
-/// Stops the test where an answer is another than the wanted one.
-pub fn compare<R: Abort>(rt: &R, answer: &Answer, wanted: &Answer) {
-    assert_eq!(rt; *answer, *wanted);
-}
+/// Lets an event go. Each place where that is done is dear to prove.
+pub fn let_go(_event: Event) {}
 
 /// Brings an event, to which the answer is the wanted one.
 pub fn bring<R: Abort + Wait, T: Tape>(
     rt: &R,
     connection: &Connection<T>,
     caller: &mut Caller<T>,
-    event: &Event,
-    wanted: &Answer,
+    event: Event,
+    wanted: Wanted,
 )
     requires of { caller.old.of ≡ connection.now }
-    requires fair { CanBring connection.now.settings event.now }
-    requires no_draw { IsNoDrawEvent event.now }
+    requires fair { CanBring connection.now.settings event }
+    requires no_draw { IsNoDrawEvent event }
     ensures of { caller.new.of ≡ connection.now }
 {
-    compare(rt, &connection.event(rt, caller, event), wanted);
+    check(rt, connection.event(rt, caller, &event), wanted);
+    let_go(event);
 }
 
 /// Opens a client.
@@ -145,7 +145,7 @@ pub fn open<R: Abort + Wait, T: Tape>(rt: &R, client: &Connection<T>, caller: &m
     requires side { client.now.settings.side ≡ Client }
     ensures of { caller.new.of ≡ client.now }
 {
-    bring(rt, client, caller, &Event::opening(), &Answer::Opened(1));
+    bring(rt, client, caller, Event::opening(), Wanted::Opened);
 }
 
 /// Opens a server by the SETUP that the bytes spell.
@@ -162,7 +162,7 @@ pub fn open_server<R: Abort + Wait, T: Tape>(
     ensures of { caller.new.of ≡ server.now }
 {
     let event = Event::opened_by(frame(rt, alloc, setup));
-    bring(rt, server, caller, &event, &Answer::Opened(1));
+    bring(rt, server, caller, event, Wanted::Opened);
 }
 
 /// Asks, to which the answer is the wanted one.
@@ -170,12 +170,12 @@ pub fn ask<R: Abort + Wait, T: Tape>(
     rt: &R,
     connection: &Connection<T>,
     caller: &mut Caller<T>,
-    call: &Call,
-    wanted: &Answer,
+    call: Call,
+    wanted: Wanted,
 )
     requires of { caller.old.of ≡ connection.now }
-    requires askable { CanBeAsked call.now }
+    requires askable { CanBeAsked call }
     ensures of { caller.new.of ≡ connection.now }
 {
-    compare(rt, &connection.call(rt, caller, call), wanted);
+    check(rt, connection.call(rt, caller, &call), wanted);
 }

@@ -4,13 +4,14 @@ ghost use Rattle.std.specs.Prelude.{◌≡◌, ◌<◌, ℕ};
 ghost use Rattle.conn_lock.specs.Callers.{calls, times};
 ghost use Rattle.conn_shared.specs.Lines.{who_of};
 
+use super::answers::{Wanted, is};
 use super::ends::{ask, close, connected, one_more};
 use conn::{Caller, Connection};
-use rs_wire::{Call, Refusal, Side};
+use rs_wire::{Call, Side};
 use std::alloc::Global;
 use std::process::Abort;
 use std::sync::Wait;
-use tape::{Answer, Event, Kept, Tape};
+use tape::{Event, Kept, Tape};
 
 // Takes from a stream that is not there.
 fn take<R: Abort + Wait, T: Tape>(
@@ -22,8 +23,8 @@ fn take<R: Abort + Wait, T: Tape>(
     requires of { caller.old.of ≡ connection.now }
     ensures of { caller.new.of ≡ connection.now }
 {
-    let refused = Answer::Refused(Refusal::UnknownStream);
-    ask(rt, connection, caller, &Call::Take { stream }, &refused);
+    let take = Call::Take { stream };
+    ask(rt, connection, caller, take, Wanted::UnknownStream);
 }
 
 // Joins two callers: each entry of either is in the front.
@@ -66,43 +67,44 @@ fn is_take(event: &Event, from: u32) -> bool {
     }
 }
 
-fn is_refused(answer: &Answer) -> bool {
-    matches!(answer, Answer::Refused(Refusal::UnknownStream))
-}
-
-// The entry at this place is the take of this caller from this stream.
-fn check_take<R: Abort, T: Tape>(rt: &R, tape: &T, index: u64, who: u32, stream: u32) {
+// Whether the entry at this place is the take of this caller from this stream, which is refused.
+fn has_take<T: Tape>(tape: &T, index: u64, who: u32, stream: u32) -> bool {
     match tape.entry(index) {
-        None => panic!(rt; "no entry"),
+        None => false,
         Some(entry) => {
-            assert!(rt; entry.who == who);
-            assert!(rt; is_take(&entry.event, stream));
-            assert!(rt; is_refused(&entry.answer));
+            entry.who == who
+                && is_take(&entry.event, stream)
+                && is(&entry.answer, Wanted::UnknownStream)
         }
     }
 }
 
-// The takes of the two callers, numbers 0 and 1, in their order.
+/// The takes of the two callers, numbers 0 and 1, in their order: place, caller and stream.
+const TAKES: [(u64, u32, u32); 3] = [(0, 0, 1), (1, 1, 3), (2, 0, 5)];
+
+// The tape has the first two takes, or all three.
 fn check_tape<R: Abort, T: Tape>(rt: &R, tape: &T, again: bool) {
-    assert!(rt; tape.count() == if again { 3 } else { 2 });
-    check_take(rt, tape, 0, 0, 1);
-    check_take(rt, tape, 1, 1, 3);
-    if again {
-        check_take(rt, tape, 2, 0, 5);
+    let count = if again { 3 } else { 2 };
+    assert!(rt; tape.count() == count);
+    for (index, who, stream) in TAKES {
+        assert!(rt; has_take(tape, index, who, stream) == (index < count));
     }
 }
 
 // Two or three takes of two callers, after which they are joined and the connection is closed.
-fn close_after_takes<R: Abort + Wait, T: Tape + Drop>(rt: &R, alloc: Global, tape: T, again: bool)
+fn close_after_takes<R: Abort + Wait, T: Tape>(rt: &R, alloc: Global, tape: T, again: bool) -> T
     requires empty { T.count tape ≡ 0 }
 {
-    let (connection, mut caller) = connected(rt, alloc, Side::Client, tape);
+    let (connection, mut caller) = connected(rt, alloc, Side::Client, false, tape);
     take_in_turns(rt, &connection, &mut caller, again);
-    check_tape(rt, close(rt, connection, caller).tape(), again);
+    let tape = close(rt, connection, caller);
+    check_tape(rt, &tape, again);
+    tape
 }
 
 #[test]
 fn the_closed_session_has_the_entries_of_all_callers(rt: HostRuntime) {
-    close_after_takes(&rt, rt.alloc(), Kept::new(rt.alloc()), true);
-    close_after_takes(&rt, rt.alloc(), Kept::new(rt.alloc()), false);
+    for again in [true, false] {
+        close_after_takes(&rt, rt.alloc(), Kept::new(rt.alloc()), again);
+    }
 }

@@ -6,11 +6,12 @@ ghost use Rattle.rs_wire.specs.declared.words.Side.TheVariants.{Client, Server};
 ghost use Rattle.rs_wire.specs.Calls.{CanBeAsked};
 ghost use Rattle.rs_wire.specs.Settings.{usual};
 
-use super::ends::{ask, blob, connected, one_more, open, open_server};
+use super::answers::{Wanted, check, is, let_go};
+use super::ends::{ask, blob, close, connected, one_more, open, open_server};
 use super::ways::carry;
 use conn::{Caller, Connection};
 use rs_chunk::Reader;
-use rs_wire::{Amount, Blob, Call, Delivery, Kind, Message, Refusal, Side};
+use rs_wire::{Amount, Blob, Call, Kind, Message, Side};
 use std::alloc::Global;
 use std::process::Abort;
 use std::sync::Wait;
@@ -42,10 +43,6 @@ fn request(content: Blob) -> Call
     }
 }
 
-fn is_started(answer: &Answer) -> bool {
-    matches!(answer, Answer::Started(1))
-}
-
 // Asks for a stream.
 fn begin<R: Abort + Wait, T: Tape>(
     rt: &R,
@@ -57,7 +54,7 @@ fn begin<R: Abort + Wait, T: Tape>(
     ensures of { asker.new.of ≡ client.now }
 {
     let call = request(blob(rt, alloc, b"hi"));
-    assert!(rt; is_started(&client.call(rt, asker, &call)));
+    ask(rt, client, asker, call, Wanted::Started(1));
 }
 
 // What a client draws first.
@@ -70,7 +67,11 @@ fn draw_first<R: Abort + Wait, T: Tape>(
     ensures of { caller.new.of ≡ client.now }
 {
     let mut first = [0; FIRST];
-    assert!(rt; client.draw(rt, caller, 1, &mut first).drawn() == Some(71));
+    check(
+        rt,
+        client.draw(rt, caller, 1, &mut first),
+        Wanted::Drawn(71),
+    );
     first
 }
 
@@ -90,43 +91,18 @@ fn grant_all<R: Abort + Wait, T: Tape>(
     client: &Connection<T>,
     granter: Caller<T>,
     taken: &AtomicU32,
-)
+) -> Caller<T>
     requires of { granter.of ≡ client.now }
+    ensures of { result.of ≡ client.now }
 {
     let mut granter = granter;
     let n = Amount::of(GRANTED).expect(rt, "an amount");
     for round in 1..ITEMS / GRANTED {
         wait_until(rt, taken, GRANTED * round);
         let call = Call::Grant { stream: 1, n };
-        ask(rt, client, &mut granter, &call, &Answer::Done);
+        ask(rt, client, &mut granter, call, Wanted::Done);
     }
-}
-
-// Whether the answer is the item of this number.
-fn is_item(answer: &Answer, number: u32) -> bool {
-    match answer {
-        Answer::Got(Delivery::Item(message)) => {
-            message.content.as_slice() == number.to_be_bytes().as_slice()
-        }
-        _ => false,
-    }
-}
-
-// Takes the item of this number.
-fn take_item<R: Abort + Wait, T: Tape>(
-    rt: &R,
-    client: &Connection<T>,
-    asker: &mut Caller<T>,
-    number: u32,
-)
-    requires of { asker.old.of ≡ client.now }
-    ensures of { asker.new.of ≡ client.now }
-{
-    assert!(rt; is_item(&client.wait_take(rt, asker, 1), number));
-}
-
-fn is_end(answer: &Answer) -> bool {
-    matches!(answer, Answer::Got(Delivery::Complete))
+    granter
 }
 
 // Takes all items, and then the end of the stream, which counts as one more.
@@ -135,26 +111,27 @@ fn take_items<R: Abort + Wait, T: Tape>(
     client: &Connection<T>,
     asker: Caller<T>,
     taken: &AtomicU32,
-)
+) -> Caller<T>
     requires of { asker.of ≡ client.now }
+    ensures of { result.of ≡ client.now }
 {
     let mut asker = asker;
     for number in 0..ITEMS {
-        take_item(rt, client, &mut asker, number);
+        let answer = client.wait_take(rt, &mut asker, 1);
+        check(rt, answer, Wanted::Item(number));
         taken.fetch_add(1, Ordering::SeqCst);
     }
-    assert!(rt; is_end(&client.wait_take(rt, &mut asker, 1)));
+    check(rt, client.wait_take(rt, &mut asker, 1), Wanted::End);
     taken.fetch_add(1, Ordering::SeqCst);
-}
-
-fn has_no_credit(answer: &Answer) -> bool {
-    matches!(answer, Answer::Refused(Refusal::NoCredit(_)))
+    asker
 }
 
 // Whether an item is sent. Where it is not, there is no credit for it yet: no other refusal passes.
-fn is_sent<R: Abort>(rt: &R, answer: &Answer) -> bool {
-    let is_done = matches!(answer, Answer::Done);
-    assert!(rt; is_done || has_no_credit(answer));
+fn is_sent<R: Abort>(rt: &R, answer: Answer) -> bool {
+    let is_done = is(&answer, Wanted::Done);
+    let has_no_credit = is(&answer, Wanted::NoCredit);
+    let_go(answer);
+    assert!(rt; is_done || has_no_credit);
     is_done
 }
 
@@ -170,7 +147,7 @@ fn send<R: Abort + Wait, T: Tape>(
     ensures of { answerer.new.of ≡ server.now }
 {
     for _ in rt.forever() {
-        if is_sent(rt, &server.call(rt, answerer, item)) {
+        if is_sent(rt, server.call(rt, answerer, item)) {
             return;
         }
         thread::yield_now();
@@ -192,25 +169,23 @@ fn item<R: Abort>(rt: &R, alloc: Global, number: u32) -> Call
     }
 }
 
-fn is_job(answer: &Answer) -> bool {
-    matches!(answer, Answer::GotJob(_))
-}
-
 // Waits for the request, and sends all items.
 fn send_items<R: Abort + Wait, T: Tape>(
     rt: &R,
     alloc: Global,
     server: &Connection<T>,
     answerer: Caller<T>,
-)
+) -> Caller<T>
     requires of { answerer.of ≡ server.now }
+    ensures of { result.of ≡ server.now }
 {
     let mut answerer = answerer;
-    assert!(rt; is_job(&server.wait_job(rt, &mut answerer)));
+    check(rt, server.wait_job(rt, &mut answerer), Wanted::Job);
     for number in 0..ITEMS {
         let item = item(rt, alloc, number);
         send(rt, server, &mut answerer, &item);
     }
+    answerer
 }
 
 // Carries the bytes of both ways, until the end of the stream is taken.
@@ -222,9 +197,11 @@ fn carry_all<R: Abort + Wait, T: Tape>(
     server: &Connection<T>,
     far: Caller<T>,
     taken: &AtomicU32,
-)
+) -> (Caller<T>, Caller<T>)
     requires near { near.of ≡ client.now }
     requires far { far.of ≡ server.now }
+    ensures near { result.0.of ≡ client.now }
+    ensures far { result.1.of ≡ server.now }
 {
     let mut near = near;
     let mut far = far;
@@ -234,13 +211,14 @@ fn carry_all<R: Abort + Wait, T: Tape>(
         carry(rt, alloc, client, &mut near, server, &mut far, &mut there);
         carry(rt, alloc, server, &mut far, client, &mut near, &mut back);
         if taken.load(Ordering::SeqCst) > ITEMS {
-            return;
+            return (near, far);
         }
     }
+    unreachable!()
 }
 
 // Sends the items in one thread more, and carries the bytes in this one.
-fn send_and_carry<R: Abort + Threads + Wait + Sync, T: Tape + Drop + Send>(
+fn send_and_carry<R: Abort + Threads + Wait + Sync, T: Tape + Send>(
     rt: &R,
     alloc: Global,
     client: &Connection<T>,
@@ -248,25 +226,32 @@ fn send_and_carry<R: Abort + Threads + Wait + Sync, T: Tape + Drop + Send>(
     server: &Connection<T>,
     answerer: Caller<T>,
     taken: &AtomicU32,
-)
+) -> (Caller<T>, Caller<T>)
     requires near { near.of ≡ client.now }
     requires far { answerer.of ≡ server.now }
+    ensures near { result.0.of ≡ client.now }
+    ensures far { result.1.of ≡ server.now }
 {
     let mut answerer = answerer;
     let far = one_more(rt, server, &mut answerer);
-    join(
+    let (mut answerer, carriers) = join(
         rt,
-        || -> ()
+        || -> Caller<T>
             requires { answerer.of ≡ server.now }
+            ensures { result.of ≡ server.entry.now }
         { send_items(rt, alloc, server, answerer) },
-        || -> ()
+        || -> (Caller<T>, Caller<T>)
             requires { (near.of ≡ client.now) × (far.of ≡ server.now) }
+            ensures { (result.0.of ≡ client.entry.now) × (result.1.of ≡ server.entry.now) }
         { carry_all(rt, alloc, client, near, server, far, taken) },
     );
+    let (near, far) = carriers;
+    server.join(&mut answerer, far);
+    (near, answerer)
 }
 
 // Grants more items in one thread more.
-fn grant_and_send<R: Abort + Threads + Wait + Sync, T: Tape + Drop + Send>(
+fn grant_and_send<R: Abort + Threads + Wait + Sync, T: Tape + Send>(
     rt: &R,
     alloc: Global,
     client: &Connection<T>,
@@ -274,65 +259,80 @@ fn grant_and_send<R: Abort + Threads + Wait + Sync, T: Tape + Drop + Send>(
     server: &Connection<T>,
     answerer: Caller<T>,
     taken: &AtomicU32,
-)
+) -> (Caller<T>, Caller<T>)
     requires near { granter.of ≡ client.now }
     requires far { answerer.of ≡ server.now }
+    ensures near { result.0.of ≡ client.now }
+    ensures far { result.1.of ≡ server.now }
 {
     let mut granter = granter;
     let near = one_more(rt, client, &mut granter);
-    join(
+    let (mut granter, others) = join(
         rt,
-        || -> ()
+        || -> Caller<T>
             requires { granter.of ≡ client.now }
+            ensures { result.of ≡ client.entry.now }
         { grant_all(rt, client, granter, taken) },
-        || -> ()
+        || -> (Caller<T>, Caller<T>)
             requires { (near.of ≡ client.now) × (answerer.of ≡ server.now) }
+            ensures { (result.0.of ≡ client.entry.now) × (result.1.of ≡ server.entry.now) }
         { send_and_carry(rt, alloc, client, near, server, answerer, taken) },
     );
+    let (near, answerer) = others;
+    client.join(&mut granter, near);
+    (granter, answerer)
 }
 
 // Lets the items cross, by four threads in all.
-fn cross<R: Abort + Threads + Wait + Sync, T: Tape + Drop + Send>(
+fn cross<R: Abort + Threads + Wait + Sync, T: Tape + Send>(
     rt: &R,
     alloc: Global,
     client: &Connection<T>,
     asker: Caller<T>,
     server: &Connection<T>,
     answerer: Caller<T>,
-)
+) -> (Caller<T>, Caller<T>)
     requires client { asker.of ≡ client.now }
     requires server { answerer.of ≡ server.now }
+    ensures client { result.0.of ≡ client.now }
+    ensures server { result.1.of ≡ server.now }
 {
     let mut asker = asker;
     let granter = one_more(rt, client, &mut asker);
     let taken = AtomicU32::new(0);
-    join(
+    let (mut asker, others) = join(
         rt,
-        || -> ()
+        || -> Caller<T>
             requires { asker.of ≡ client.now }
+            ensures { result.of ≡ client.entry.now }
         { take_items(rt, client, asker, &taken) },
-        || -> ()
+        || -> (Caller<T>, Caller<T>)
             requires { (granter.of ≡ client.now) × (answerer.of ≡ server.now) }
+            ensures { (result.0.of ≡ client.entry.now) × (result.1.of ≡ server.entry.now) }
         { grant_and_send(rt, alloc, client, granter, server, answerer, &taken) },
     );
+    let (granter, answerer) = others;
+    client.join(&mut asker, granter);
+    (asker, answerer)
 }
 
 // Opens both ends, asks for a stream, and lets its items cross.
-fn cross_all<R: Abort + Threads + Wait + Sync, T: Tape + Drop + Send>(
+fn cross_all<R: Abort + Threads + Wait + Sync, T: Tape + Send>(
     rt: &R,
     alloc: Global,
     near: T,
     far: T,
-)
+) -> (T, T)
     requires empty { (T.count near ≡ 0) × (T.count far ≡ 0) }
 {
-    let (client, mut asker) = connected(rt, alloc, Side::Client, near);
-    let (server, mut answerer) = connected(rt, alloc, Side::Server, far);
+    let (client, mut asker) = connected(rt, alloc, Side::Client, false, near);
+    let (server, mut answerer) = connected(rt, alloc, Side::Server, false, far);
     open(rt, &client, &mut asker);
     let first = draw_first(rt, &client, &mut asker);
     open_server(rt, alloc, &server, &mut answerer, &first[3..]);
     begin(rt, alloc, &client, &mut asker);
-    cross(rt, alloc, &client, asker, &server, answerer);
+    let (asker, answerer) = cross(rt, alloc, &client, asker, &server, answerer);
+    (close(rt, client, asker), close(rt, server, answerer))
 }
 
 #[test]

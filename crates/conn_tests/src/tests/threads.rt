@@ -3,14 +3,15 @@
 ghost use Rattle.std.specs.Prelude.{◌≡◌, ◌<◌, ◌*◌};
 ghost use Rattle.rs_wire.specs.Calls.{CanBeAsked};
 
+use super::answers::{Wanted, check, is, let_go};
 use super::ends::{ask, blob, close, connected, one_more, open};
 use conn::{Caller, Connection};
-use rs_wire::{Call, Cause, Refusal, Side};
+use rs_wire::{Call, Side};
 use std::alloc::Global;
 use std::process::Abort;
 use std::sync::Wait;
 use std::thread::{Threads, join};
-use tape::{Answer, Blank, Kept, Tape};
+use tape::{Blank, Kept, Tape};
 
 /// How often each of two callers asks.
 const TIMES: u32 = 100;
@@ -31,13 +32,13 @@ fn ask_often<R: Wait, T: Tape>(
 {
     let mut caller = caller;
     for _ in 0..TIMES {
-        connection.call(rt, &mut caller, call);
+        let_go(connection.call(rt, &mut caller, call));
     }
     caller
 }
 
 // Both callers ask as often, in two threads, and are joined.
-fn ask_in_two<R: Threads + Wait + Sync, T: Tape + Drop + Send>(
+fn ask_in_two<R: Threads + Wait + Sync, T: Tape + Send>(
     rt: &R,
     connection: &Connection<T>,
     first: Caller<T>,
@@ -64,20 +65,12 @@ fn ask_in_two<R: Threads + Wait + Sync, T: Tape + Drop + Send>(
     caller
 }
 
-// The id of the stream that a call started, where it started one.
-fn started(answer: &Answer) -> Option<u32> {
-    match answer {
-        Answer::Started(id) => Some(*id),
-        _ => None,
-    }
-}
-
 // Who made the call at this place of the tape, from 0. Its id is the next odd one.
 fn who_called<R: Abort, T: Tape>(rt: &R, tape: &T, number: u32) -> u32
     requires { number < 2 * 100 }
 {
     let entry = tape.entry(1 + u64::from(number)).expect(rt, "an entry");
-    assert!(rt; started(&entry.answer) == Some(2 * number + 1));
+    assert!(rt; is(&entry.answer, Wanted::Started(2 * number + 1)));
     entry.who
 }
 
@@ -100,16 +93,17 @@ fn check_calls<R: Abort, T: Tape>(rt: &R, tape: &T) {
 }
 
 // Opens a client, asks by two callers, and closes it.
-fn share<R: Abort + Threads + Wait + Sync, T: Tape + Drop + Send>(rt: &R, alloc: Global, tape: T)
+fn share<R: Abort + Threads + Wait + Sync, T: Tape + Send>(rt: &R, alloc: Global, tape: T) -> T
     requires empty { T.count tape ≡ 0 }
 {
-    let (connection, mut caller) = connected(rt, alloc, Side::Client, tape);
+    let (connection, mut caller) = connected(rt, alloc, Side::Client, false, tape);
     open(rt, &connection, &mut caller);
     let other = one_more(rt, &connection, &mut caller);
     let call = Call::fire_and_forget(blob(rt, alloc, b"hi"));
     let caller = ask_in_two(rt, &connection, caller, other, &call);
-    let session = close(rt, connection, caller);
-    check_calls(rt, session.tape());
+    let tape = close(rt, connection, caller);
+    check_calls(rt, &tape);
+    tape
 }
 
 #[test]
@@ -117,61 +111,74 @@ fn two_threads_share_one_list(rt: HostRuntime) {
     share(&rt, rt.alloc(), Kept::new(rt.alloc()));
 }
 
-// Whether the answer is that a caller of this end closed the session.
-fn is_closed(answer: &Answer) -> bool {
-    matches!(answer, Answer::Refused(Refusal::Closed(Cause::Local)))
-}
-
 // Waits for a job, which never comes.
-fn wait_in_vain<R: Abort + Wait, T: Tape>(rt: &R, connection: &Connection<T>, waiter: Caller<T>)
+fn wait_in_vain<R: Abort + Wait, T: Tape>(
+    rt: &R,
+    connection: &Connection<T>,
+    waiter: Caller<T>,
+) -> Caller<T>
     requires of { waiter.of ≡ connection.now }
+    ensures of { result.of ≡ connection.now }
 {
     let mut waiter = waiter;
-    assert!(rt; is_closed(&connection.wait_job(rt, &mut waiter)));
+    check(rt, connection.wait_job(rt, &mut waiter), Wanted::Closed);
+    waiter
 }
 
 // Closes the session, for which the other caller wakes.
-fn wake<R: Abort + Wait, T: Tape>(rt: &R, connection: &Connection<T>, closer: Caller<T>)
+fn wake<R: Abort + Wait, T: Tape>(
+    rt: &R,
+    connection: &Connection<T>,
+    closer: Caller<T>,
+) -> Caller<T>
     requires of { closer.of ≡ connection.now }
+    ensures of { result.of ≡ connection.now }
 {
     let mut closer = closer;
-    ask(rt, connection, &mut closer, &Call::Close, &Answer::Done);
+    ask(rt, connection, &mut closer, Call::Close, Wanted::Done);
+    closer
 }
 
 // One caller waits in this thread, and the other closes in a thread that is started for it, so that
 // the first mostly sleeps by then.
-fn wait_and_wake<R: Abort + Threads + Wait + Sync, T: Tape + Drop + Send>(
+fn wait_and_wake<R: Abort + Threads + Wait + Sync, T: Tape + Send>(
     rt: &R,
     connection: &Connection<T>,
     waiter: Caller<T>,
     closer: Caller<T>,
-)
+) -> Caller<T>
     requires waiter { waiter.of ≡ connection.now }
     requires closer { closer.of ≡ connection.now }
+    ensures of { result.of ≡ connection.now }
 {
-    join(
+    let (mut closer, waiter) = join(
         rt,
-        || -> ()
+        || -> Caller<T>
             requires { closer.of ≡ connection.now }
+            ensures { result.of ≡ connection.entry.now }
         { wake(rt, connection, closer) },
-        || -> ()
+        || -> Caller<T>
             requires { waiter.of ≡ connection.now }
+            ensures { result.of ≡ connection.entry.now }
         { wait_in_vain(rt, connection, waiter) },
     );
+    connection.join(&mut closer, waiter);
+    closer
 }
 
 // Opens a client, for whose end one caller waits until the other closes it.
-fn close_in_two<R: Abort + Threads + Wait + Sync, T: Tape + Drop + Send>(
+fn close_in_two<R: Abort + Threads + Wait + Sync, T: Tape + Send>(
     rt: &R,
     alloc: Global,
     tape: T,
-)
+) -> T
     requires empty { T.count tape ≡ 0 }
 {
-    let (connection, mut closer) = connected(rt, alloc, Side::Client, tape);
+    let (connection, mut closer) = connected(rt, alloc, Side::Client, false, tape);
     open(rt, &connection, &mut closer);
     let waiter = one_more(rt, &connection, &mut closer);
-    wait_and_wake(rt, &connection, waiter, closer);
+    let caller = wait_and_wake(rt, &connection, waiter, closer);
+    close(rt, connection, caller)
 }
 
 #[test]

@@ -3,7 +3,8 @@
 ghost use Rattle.std.specs.Prelude.{◌≡◌, IfSome};
 ghost use Rattle.rs_frame.specs.Spelling.{IsSpellable};
 
-use super::ends::frame;
+use super::answers::{Wanted, drawn};
+use super::ends::{bring, frame};
 use conn::{Caller, Connection};
 use rs_chunk::{Front, Reader};
 use rs_frame::Frame;
@@ -11,7 +12,7 @@ use std::alloc::Global;
 use std::process::Abort;
 use std::sync::Wait;
 use std::thread;
-use tape::{Answer, Event, Tape};
+use tape::{Event, Tape};
 
 /// How many bytes are drawn at once.
 const ROOM: usize = 4096;
@@ -29,25 +30,6 @@ fn next_frame<R: Abort>(rt: &R, alloc: Global, reader: &mut Reader) -> Option<Fr
     Some(next)
 }
 
-fn is_handled(answer: &Answer) -> bool {
-    matches!(answer, Answer::Handled)
-}
-
-// Brings a frame.
-fn bring<R: Abort + Wait, T: Tape>(
-    rt: &R,
-    to: &Connection<T>,
-    bringer: &mut Caller<T>,
-    frame: Frame,
-)
-    requires of { bringer.old.of ≡ to.now }
-    requires spellable { IsSpellable frame }
-    ensures of { bringer.new.of ≡ to.now }
-{
-    let event = Event::arrived(1, frame);
-    assert!(rt; is_handled(&to.event(rt, bringer, &event)));
-}
-
 // Brings each whole frame.
 fn bring_all<R: Abort + Wait, T: Tape>(
     rt: &R,
@@ -62,7 +44,7 @@ fn bring_all<R: Abort + Wait, T: Tape>(
     for _ in rt.forever() {
         match next_frame(rt, alloc, reader) {
             None => return,
-            Some(frame) => bring(rt, to, bringer, frame),
+            Some(frame) => bring(rt, to, bringer, Event::arrived(1, frame), Wanted::Handled),
         }
     }
     unreachable!()
@@ -79,7 +61,7 @@ fn draw_some<R: Abort + Wait, T: Tape>(
     ensures of { drawer.new.of ≡ from.now }
 {
     let mut buffer = [0; ROOM];
-    let count = from.draw(rt, drawer, 1, &mut buffer).drawn().unwrap_or(0);
+    let count = drawn(from.draw(rt, drawer, 1, &mut buffer));
     let piece = buffer.get(..count as usize).expect(rt, "within the buffer");
     reader.feed(piece).expect(rt, "there is memory");
     count
