@@ -225,7 +225,7 @@ impl Outbox {
         let own = self.own.as_slice();
         match start_of_last(&self.spans, own, count) {
             Some(start) => {
-                self.spans.keep_last(&own[start + LENGTH..], start as u64);
+                self.spans.keep_last(&own[start..], start as u64);
                 self.own.truncate(start);
             }
             // It stays among the own bytes.

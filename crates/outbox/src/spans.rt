@@ -18,9 +18,6 @@ use std::alloc::Global;
 use std::collections::VecDeque;
 use std::marker::Model;
 
-/// How long the length field before a frame is.
-const LENGTH: u64 = 3;
-
 /// More bytes than this never wait: one less than 2^63.
 const MOST: u64 = 9_223_372_036_854_775_807;
 
@@ -163,7 +160,9 @@ impl Spans {
         ensures ok { OnOk result (self.new.spare ≡ spare_for self.old.spare frames bytes) }
         ensures err { OnErr result (self.new.spare ≡ self.old.spare) }
     {
-        self.stretches.reserve(1)?;
+        if self.stretches.len() >= self.stretches.capacity() {
+            self.stretches.reserve(1)?;
+        }
         self.replay.reserve(frames, bytes)?;
         Ok(())
     }
@@ -189,25 +188,27 @@ impl Spans {
         self.reaches = false;
     }
 
-    /// Keeps a frame, and puts it in line after the first `own` own bytes.
-    pub fn keep_last(&mut self, frame: &[u8], own: u64)
-        requires spare { HasSpare self.old.spare (length frame.now) }
-        requires shortest { 6 ≤ length frame.now }
-        requires longest { length frame.now < 2 ^ 24 }
-        requires top { end_of self.old.held + length frame.now < 2 ^ 63 }
+    /// Keeps a frame that stands after its length, and puts it in line after the first `own` own
+    /// bytes.
+    pub fn keep_last(&mut self, bytes: &[u8], own: u64)
+        requires framed { bytes.now ≡ framed (drop 3 bytes.now) }
+        requires spare { HasSpare self.old.spare (length (drop 3 bytes.now)) }
+        requires shortest { 6 ≤ length (drop 3 bytes.now) }
+        requires top { end_of self.old.held + length (drop 3 bytes.now) < 2 ^ 63 }
         requires room { 0 < self.old.room }
         requires own { own_in self.old.bytes ≤ own }
-        requires few { own + length self.old.bytes + (3 + length frame.now) <
+        requires few { own + length self.old.bytes + length bytes.now <
             2 ^ 63 + own_in self.old.bytes }
-        ensures held { let all = with_newest self.old.held frame.now in
+        ensures held { let all = with_newest self.old.held (drop 3 bytes.now) in
             self.new.held ≡ from_least all (end_of all - all.hold) }
         ensures of_made { (made : List Sent) (told : ℕ) (newest : Sent) →
-            IsHeldOf made told self.old.held → told ≤ pos made → frame.now ≡ canonical newest →
+            IsHeldOf made told self.old.held → told ≤ pos made →
+            drop 3 bytes.now ≡ canonical newest →
             IsHeldOf (made ++ newest ∷ []) told self.new.held }
         ensures bytes { self.new.bytes ≡ self.old.bytes ++
-            run (own - own_in self.old.bytes) (framed frame.now) }
+            run (own - own_in self.old.bytes) bytes.now }
     {
-        let count = LENGTH + frame.len() as u64;
+        let count = bytes.len() as u64;
         let before = own - self.own;
         // It does nothing: it says where the frames start that can be read.
         let _floor = self.replay.floor();
@@ -218,13 +219,13 @@ impl Spans {
             before,
             count,
         ) {
-            self.replay.keep(frame);
+            self.replay.keep_framed(bytes);
             self.held += count;
             return;
         }
         let place = next_place(&mut self.replay, self.stretches.is_empty());
         let _floor = self.replay.floor();
-        self.replay.keep(frame);
+        self.replay.keep_framed(bytes);
         self.stretches.push_back_reserved(Stretch {
             own: before,
             place,

@@ -193,18 +193,14 @@ pub fn lengthen(
     if before > 0 {
         return false;
     }
-    if reaches {
-        let Some(last) = stretches.pop_back() else {
-            return false;
-        };
-        // It does nothing: it says that the frames lie in memory.
-        let _all = replay.framed_total();
-        stretches.push_back_reserved(Stretch {
-            own: last.own,
-            place: last.place,
-            count: last.count + count,
-        });
-        return true;
+    if !reaches {
+        return false;
     }
-    false
+    // It does nothing: it says that the frames lie in memory.
+    let _all = replay.framed_total();
+    let Some(last) = stretches.back_mut() else {
+        return false;
+    };
+    last.count += count;
+    true
 }

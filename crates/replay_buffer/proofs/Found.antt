@@ -66,7 +66,7 @@ boundary_is at fs p k longer c from boundary =
     grind (arith, e.1.is, e.1.within, c.bound, c.within k, c.after e.0, rising_more fs e.0 longer, rising fs (suc e.0) k) in
     omega (arith, e.1.is, ap (λ n. pos_by length (take n fs)) same)
 
-framed_all-drop : (fs : List (List ℕ)) (m : ℕ) → m ≤ length fs → drop (pos_by length (take m fs) + 3 * m) (flat_map framed fs) ≡ flat_map framed (drop m fs)
+pub framed_all-drop : (fs : List (List ℕ)) (m : ℕ) → m ≤ length fs → drop (pos_by length (take m fs) + 3 * m) (flat_map framed fs) ≡ flat_map framed (drop m fs)
 framed_all-drop fs m le =
     let parts : flat_map framed fs ≡ flat_map framed (take m fs) ++ flat_map framed (drop m fs) = ap (flat_map framed) (sym (take-append-drop m fs)) ∙ flat_map-append framed (take m fs) (drop m fs) in
     let len : length (flat_map framed (take m fs)) ≡ pos_by length (take m fs) + 3 * m = omega (arith, length-framed_all (take m fs), length-take-le m fs le) in

@@ -5,6 +5,7 @@ pub mod HeldOf
 pub mod Shown
 pub mod Copied
 pub mod Found
+pub mod Freed
 pub mod Known
 pub mod Popped
 pub mod Passed

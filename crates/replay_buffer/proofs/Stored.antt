@@ -44,7 +44,7 @@ pub record Reads (at : ℕ) (ends bytes : List ℕ) (fs : List (List ℕ)) : Typ
   pub stored : Stores at ends bytes (frames_in at ends bytes)
   pub same : frames_in at ends bytes ≡ fs
 
-reads : (at : ℕ) (ends bytes : List ℕ) (fs : List (List ℕ)) → Stores at ends bytes fs → Reads at ends bytes fs
+pub reads : (at : ℕ) (ends bytes : List ℕ) (fs : List (List ℕ)) → Stores at ends bytes fs → Reads at ends bytes fs
 reads at ends bytes fs s =
     let same : frames_in at ends bytes ≡ fs = rw (s.ends_are, s.bytes_are) (read_again at fs) in
     record { stored = rw same s; same = same }

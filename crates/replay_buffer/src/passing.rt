@@ -1,13 +1,13 @@
 //! Frames that are held no longer, and frames that are forgotten.
 
-ghost use Rattle.std.specs.Prelude.{◌≡◌, ◌≤◌, IfSome, ℕ};
+ghost use Rattle.std.specs.Prelude.{◌≡◌, ◌-◌, ◌≤◌, IfSome, ℕ};
 ghost use Rattle.replay_buffer.specs.Held.{from_acked, from_least, lesser};
 ghost use Rattle.replay_buffer.specs.Stored.{IsPassed, IsStart, IsTrimmed, end_of, held_in};
 
 use crate::store::Store;
 
-/// Holds the oldest frames no longer until the rest starts at `low` or later.
-pub fn pass_until(store: &mut Store, low: u64)
+// Holds the oldest frames no longer until the rest starts at `low` or later.
+fn pass_until(store: &mut Store, low: u64)
     requires { low ≤ end_of store.old }
     ensures held { (hold : ℕ) →
         held_in hold store.new ≡ from_least (held_in hold store.old) low }
@@ -16,6 +16,16 @@ pub fn pass_until(store: &mut Store, low: u64)
     while store.first() < low {
         store.pass_oldest();
     }
+}
+
+/// Holds the oldest frames no longer while more than `hold` bytes are held.
+pub fn pass_beyond(store: &mut Store, hold: u64)
+    ensures held { (most : ℕ) → held_in most store.new ≡
+        from_least (held_in most store.old) (end_of store.old - hold) }
+    ensures all { IsPassed store.old store.new }
+{
+    let low = store.end().saturating_sub(hold);
+    pass_until(store, low);
 }
 
 /// Holds the whole frames no longer that end at or before the position.
@@ -45,7 +55,15 @@ pub fn forget_unpinned(store: &mut Store, pin: Option<u64>)
     ensures all { IsTrimmed store.old store.new (lesser pin store.old.first) }
     ensures pinned { IfSome pin (IsStart store.new) }
 {
-    let low = lesser(pin, store.first());
+    let first = store.first();
+    let low = lesser(pin, first);
+    if store.floor() == low {
+        return;
+    }
+    if low == first {
+        store.forget_passed();
+        return;
+    }
     while store.floor() < low {
         store.forget_oldest();
     }

@@ -8,7 +8,7 @@ ghost use Rattle.rs_frame.specs.Framed.{framed};
 ghost use Rattle.position.specs.Boundaries.{pos, pos_by};
 ghost use Rattle.replay_buffer.specs.Held.{CanReadFrom, HasSpare, IsHeldBoundary, IsHeldOf, IsReadable, end_of, floor_of, framed_from, from_acked, from_boundary, from_least, lesser, new_buffer, readable, spare_after, spare_for, with_newest};
 
-use crate::passing::{forget_unpinned, pass_until, pass_up_to};
+use crate::passing::{forget_unpinned, pass_beyond, pass_up_to};
 use crate::store::{Place, Store};
 use rs_wire::OutOfMemory;
 use std::alloc::Global;
@@ -84,8 +84,33 @@ impl Replay {
         ensures spare { self.new.spare ≡ spare_after self.old.spare (length frame.now) }
     {
         self.store.append(frame);
-        let low = self.store.end().saturating_sub(self.hold);
-        pass_until(&mut self.store, low);
+        pass_beyond(&mut self.store, self.hold);
+        forget_unpinned(&mut self.store, self.pin);
+    }
+
+    /// Appends a frame that stands after its length field, as [`Replay::keep`] does.
+    pub fn keep_framed(&mut self, bytes: &[u8])
+        requires framed { bytes.now ≡ framed (drop 3 bytes.now) }
+        requires spare { HasSpare self.old.spare (length (drop 3 bytes.now)) }
+        requires shortest { 6 ≤ length (drop 3 bytes.now) }
+        requires top { end_of self.old.held + length (drop 3 bytes.now) < 2 ^ 63 }
+        ensures held { let all = with_newest self.old.held (drop 3 bytes.now) in
+            self.new.held ≡ from_least all (end_of all - all.hold) }
+        ensures of_made { (made : List Frame) (told : ℕ) (newest : Frame) →
+            IsHeldOf made told self.old.held → told ≤ pos made →
+            drop 3 bytes.now ≡ canonical newest →
+            IsHeldOf (made ++ newest ∷ []) told self.new.held }
+        ensures readable { readable self.new ≡ from_boundary
+            (with_newest (readable self.old) (drop 3 bytes.now))
+            (lesser self.old.pin self.new.held.first) }
+        ensures pin { self.new.pin ≡ self.old.pin }
+        ensures end { end_of self.new.held ≡
+            end_of self.old.held + length (drop 3 bytes.now) }
+        ensures spare { self.new.spare ≡
+            spare_after self.old.spare (length (drop 3 bytes.now)) }
+    {
+        self.store.append_framed(bytes);
+        pass_beyond(&mut self.store, self.hold);
         forget_unpinned(&mut self.store, self.pin);
     }
 

@@ -47,7 +47,7 @@ pub fn make_room<T: Copy + Drop>(
     if wanted > capacity {
         return move_over(ring, grown(wanted, least));
     }
-    if grown(wanted, least) < capacity / 4 {
+    if wanted.saturating_add(least) < capacity / 4 && grown(wanted, least) < capacity / 4 {
         // Where there is no memory for the smaller block, the larger one stays.
         let _moved = move_over(ring, grown(wanted, least));
     }
@@ -63,8 +63,15 @@ pub fn count_up_to(positions: &HeapCircularBuffer<u64>, position: u64) -> usize
     ensures after { (k : ℕ) → result ≤ k → k < length positions.now.items →
         position < slice_index positions.now.items k }
 {
-    let mut low = 0;
     let mut high = positions.len();
+    let mut step = 1;
+    let mut low = high;
+    // Mostly it is one of the last.
+    while low > 0 && at(positions, low - 1) > position {
+        high = low - 1;
+        low = high.saturating_sub(step);
+        step = step.saturating_mul(2);
+    }
     while low < high {
         let middle = low + (high - low) / 2;
         if at(positions, middle) <= position {
@@ -76,8 +83,8 @@ pub fn count_up_to(positions: &HeapCircularBuffer<u64>, position: u64) -> usize
     low
 }
 
-// Appends the bytes, for which there is room.
-fn put(bytes: &mut HeapCircularBuffer<u8>, more: &[u8])
+/// Appends the bytes, for which there is room.
+pub fn put(bytes: &mut HeapCircularBuffer<u8>, more: &[u8])
     requires { length bytes.old.items + length more.now ≤ bytes.old.capacity }
     ensures { bytes.new ≡ record bytes.old { items = bytes.old.items ++ more.now } }
 {

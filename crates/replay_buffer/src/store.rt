@@ -5,9 +5,9 @@ ghost use Rattle.std.specs.List.{flat_map};
 ghost use Rattle.rs_frame.specs.Framed.{framed};
 ghost use Rattle.position.specs.Boundaries.{pos_by};
 ghost use Rattle.replay_buffer.specs.Held.{HasSpare, spare_after, spare_for};
-ghost use Rattle.replay_buffer.specs.Stored.{IsStart, IsOldestUpTo, end_of, first_after, floor_of, frames_of, framed_from, held_from, nothing_stored};
+ghost use Rattle.replay_buffer.specs.Stored.{IsStart, IsOldestUpTo, IsTrimmed, end_of, first_after, floor_of, frames_of, framed_from, held_from, nothing_stored};
 
-use crate::rings::{at, copy_after, count_up_to, drop_front, make_room, push, put_framed};
+use crate::rings::{at, copy_after, count_up_to, drop_front, make_room, push, put, put_framed};
 use circular_buffer::HeapCircularBuffer;
 use rs_wire::OutOfMemory;
 use std::alloc::Global;
@@ -140,6 +140,25 @@ impl Store {
         self.spare_bytes -= frame.len();
     }
 
+    /// Appends a frame that stands after its length.
+    pub fn append_framed(&mut self, bytes: &[u8])
+        requires framed { bytes.now ≡ framed (drop 3 bytes.now) }
+        requires spare { HasSpare self.old.spare (length (drop 3 bytes.now)) }
+        requires shortest { 6 ≤ length (drop 3 bytes.now) }
+        requires top { end_of self.old + length (drop 3 bytes.now) < 2 ^ 63 }
+        ensures { self.new ≡ record self.old {
+          held = self.old.held ++ drop 3 bytes.now ∷ [];
+          spare = spare_after self.old.spare (length (drop 3 bytes.now));
+        } }
+    {
+        put(&mut self.bytes, bytes);
+        let count = bytes.len() - 3;
+        self.end += count as u64;
+        push(&mut self.ends, self.end);
+        self.spare_frames -= 1;
+        self.spare_bytes -= count;
+    }
+
     /// Whether a frame is held and the oldest such ends at or before the position.
     pub fn is_oldest_past(&self, position: u64) -> bool
         ensures { IsTrue result ↔ IsOldestUpTo self.now position }
@@ -172,6 +191,17 @@ impl Store {
         drop_front(&mut self.bytes, 3 + (end - self.floor) as usize);
         self.floor = end;
         self.passed -= 1;
+    }
+
+    /// Forgets the frames that are held no longer.
+    pub fn forget_passed(&mut self)
+        ensures { IsTrimmed self.old self.new self.old.first }
+    {
+        let size = (self.first - self.floor) as usize + 3 * self.passed;
+        drop_front(&mut self.bytes, size);
+        drop_front(&mut self.ends, self.passed);
+        self.floor = self.first;
+        self.passed = 0;
     }
 
     // How many of the frames end at or before the position. Where a frame starts there, it is the

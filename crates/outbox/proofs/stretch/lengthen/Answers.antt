@@ -1,5 +1,8 @@
-use Rattle.std.proofs.Common.{◌≡◌, ◌+◌, ◌<◌, ◌≤◌, ◌++◌, ◌∷◌, [], length, subst, arith}
+use Rattle.std.proofs.Common.{◌≡◌, ◌+◌, ◌-◌, ◌<◌, ◌≤◌, ◌++◌, ◌∷◌, [], length, refl, subst, arith, rules}
+use Rattle.std.specs.VecDeque.{deque_len}
 use Rattle.outbox.specs.Spans.{AreSpans, IsSpan, Reaches}
+use Rattle.outbox.specs.declared.stretch.Stretch.{Stretch}
+use Rattle.outbox.proofs.Ended.{ends_in}
 use Rattle.outbox.proofs.Pins.{within_all}
 use Rattle.outbox.proofs.Spanned.{are-last, reach-last}
 use Rattle.outbox.proofs.stretch.lengthen.Goals as goal
@@ -7,19 +10,21 @@ use Rattle.outbox.proofs.stretch.lengthen.Goals as goal
 pub overflow_add-last : goal.overflow_add-last
 overflow_add-last c =
     let b = c.args.replay.now in
-    let s = c.in-Some.last in
-    let one = are-last b c.pop_back.new.self.items (s ∷ []) (subst (AreSpans b) c.in-Some.ensures.items c.requires.each) in
+    let s = c.in-Some.last.now in
+    let end = ends_in c.args.stretches.now.items (deque_len c.args.stretches.now - 1) c.in-Some.last.now s (omega (arith, c.in-Some.ensures.variant.0 refl, c.args.stretches.now.ok.0)) c.in-Some.ensures.value in
+    let one = are-last b end.front (s ∷ []) (subst (AreSpans b) end.before c.requires.each) in
     omega (arith, one.0.1.within, within_all b s.place.position one.0.1.boundary, c.framed_total-all.ensures.value, c.framed_total-all.ensures.bound, c.requires.few)
 
-pub returns-then-reaches-clause-longer : goal.returns-then-reaches-clause-longer
-returns-then-reaches-clause-longer c = λ yes.
+pub returns-clause-longer : goal.returns-clause-longer
+returns-clause-longer c = λ yes.
     let b = c.args.replay.now in
-    let front = c.pop_back.new.self.items in
-    let s = c.in-Some.last in
+    let s = c.in-Some.last.now in
+    let t = record s { count = s.count + c.args.count } in
+    let end = ends_in c.args.stretches.now.items (deque_len c.args.stretches.now - 1) c.in-Some.last.now t (omega (arith, c.in-Some.ensures.variant.0 refl, c.args.stretches.now.ok.0)) c.in-Some.ensures.value in
     record {
-      front = front;
+      front = end.front;
       last = s;
-      before = c.in-Some.ensures.items;
-      after = c.push_back_reserved.ensures.items;
-      end = reach-last b front s (subst (Reaches b) c.in-Some.ensures.items (c.requires.reaches c.if-reaches.true));
+      before = end.before;
+      after = end.after;
+      end = reach-last b end.front s (subst (Reaches b) end.before (c.requires.reaches (search rules)));
     }

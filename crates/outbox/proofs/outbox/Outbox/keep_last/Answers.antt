@@ -1,9 +1,9 @@
 use Rattle.std.proofs.Common.{◌≡◌, ◌+◌, ◌-◌, ◌≤◌, ◌++◌, ◌∷◌, [], List, ℕ, length, take, drop, ap, sym, subst, ◌∙◌, arith}
-use Rattle.std.proofs.lemmas.List.{length-drop, take_all}
+use Rattle.std.proofs.lemmas.List.{drop-drop, length-drop, take_all}
 use Rattle.byte_queue.specs.Contents.{Contents}
 use Rattle.rs_frame.specs.Framed.{framed}
 use Rattle.replay_buffer.specs.Held.{Held, IsHeldOf, end_of, from_least, with_newest}
-use Rattle.outbox.specs.Line.{own_in}
+use Rattle.outbox.specs.Line.{own_in, run}
 use Rattle.outbox.specs.Waiting.{Waiting}
 use Rattle.outbox.specs.Woven.{IsWoven, waiting_of}
 use Rattle.outbox.specs.declared.outbox.Outbox.TheInside.{Inside}
@@ -22,6 +22,17 @@ frame_is o w own start count i view own_is loose sum =
     let place : start ≡ length o.own.bytes - count = omega (arith, sum, size) in
     rest_is own start ∙ (λ j. drop (place j) (own_is j)) ∙ sym (last_own o count i fits) ∙ ap (λ (x : Waiting). drop (length x.queue - count) x.queue) view
 
+-- the frame after its length
+cut_is : (own : List ℕ) (start : ℕ) → drop 3 (take (length own - start) (drop start own)) ≡ drop (start + 3) own
+cut_is own start = ap (drop 3) (rest_is own start) ∙ drop-drop 3 start own
+
+framed_is : (own : List ℕ) (start : ℕ) → drop start own ≡ framed (drop (start + 3) own)
+    → take (length own - start) (drop start own) ≡ framed (drop 3 (take (length own - start) (drop start own)))
+framed_is own start is = rest_is own start ∙ is ∙ ap framed (sym (cut_is own start))
+
+pub keep_last-requires-clause-framed : goal.keep_last-requires-clause-framed
+keep_last-requires-clause-framed c = framed_is c.as_slice-own.result.now c.in-Some.start c.in-Some.ensures.framed
+
 pub invariant_of-self : goal.invariant_of-self
 invariant_of-self c =
     let o = c.self.inside in
@@ -29,14 +40,15 @@ invariant_of-self c =
     let own_is = c.as_slice-own.ensures in
     let start = c.in-Some.start in
     let within : start ≤ length o.own.bytes = omega (arith, c.in-Some.ensures.within, ap length own_is) in
-    (lines o c.truncate.new.self c.keep_last.new.self (take (length slice - (start + 3)) (drop (start + 3) slice)) start c.self.invariant within c.in-Some.ensures.after
-    (ap (λ (q : Contents). q.bytes) c.truncate.ensures) (ap (drop start) (sym own_is) ∙ c.in-Some.ensures.framed ∙ ap framed (sym (rest_is slice (start + 3)))) c.keep_last.ensures.bytes).0
+    (lines o c.truncate.new.self c.keep_last.new.self (drop (start + 3) slice) start c.self.invariant within c.in-Some.ensures.after
+    (ap (λ (q : Contents). q.bytes) c.truncate.ensures) (ap (drop start) (sym own_is) ∙ c.in-Some.ensures.framed)
+    (c.keep_last.ensures.bytes ∙ ap (λ b. o.spans.bytes ++ run (start - own_in o.spans.bytes) b) (rest_is slice start ∙ c.in-Some.ensures.framed))).0
 
 pub returns-in-Some-clause-held : goal.returns-in-Some-clause-held
 returns-in-Some-clause-held c =
     let slice = c.as_slice-own.result.now in
     let start = c.in-Some.start + 3 in
-    let frame = frame_is c.self.inside c.args.self.now slice start c.args.count c.self.invariant c.self.view_is c.as_slice-own.ensures c.requires.loose (omega (arith, c.in-Some.ensures.within)) in
+    let frame = cut_is slice c.in-Some.start ∙ sym (rest_is slice start) ∙ frame_is c.self.inside c.args.self.now slice start c.args.count c.self.invariant c.self.view_is c.as_slice-own.ensures c.requires.loose (omega (arith, c.in-Some.ensures.within)) in
     c.keep_last.ensures.held ∙ (λ j.
     let h = (c.self.view_is j).held in
     let all = with_newest h (frame j) in
@@ -47,7 +59,7 @@ pub returns-in-Some-clause-of_made : goal.returns-in-Some-clause-of_made
 returns-in-Some-clause-of_made c = λ made told newest is up_to spelled.
     let slice = c.as_slice-own.result.now in
     let start = c.in-Some.start + 3 in
-    let frame = frame_is c.self.inside c.args.self.now slice start c.args.count c.self.invariant c.self.view_is c.as_slice-own.ensures c.requires.loose (omega (arith, c.in-Some.ensures.within)) in
+    let frame = cut_is slice c.in-Some.start ∙ sym (rest_is slice start) ∙ frame_is c.self.inside c.args.self.now slice start c.args.count c.self.invariant c.self.view_is c.as_slice-own.ensures c.requires.loose (omega (arith, c.in-Some.ensures.within)) in
     c.keep_last.ensures.of_made made told newest (subst (λ (w : Waiting). IsHeldOf made told w.held) (sym c.self.view_is) is) up_to (frame ∙ spelled)
 
 pub returns-in-Some-clause-queue : goal.returns-in-Some-clause-queue
@@ -57,8 +69,9 @@ returns-in-Some-clause-queue c =
     let own_is = c.as_slice-own.ensures in
     let start = c.in-Some.start in
     let within : start ≤ length o.own.bytes = omega (arith, c.in-Some.ensures.within, ap length own_is) in
-    (lines o c.truncate.new.self c.keep_last.new.self (take (length slice - (start + 3)) (drop (start + 3) slice)) start c.self.invariant within c.in-Some.ensures.after
-    (ap (λ (q : Contents). q.bytes) c.truncate.ensures) (ap (drop start) (sym own_is) ∙ c.in-Some.ensures.framed ∙ ap framed (sym (rest_is slice (start + 3)))) c.keep_last.ensures.bytes).1
+    (lines o c.truncate.new.self c.keep_last.new.self (drop (start + 3) slice) start c.self.invariant within c.in-Some.ensures.after
+    (ap (λ (q : Contents). q.bytes) c.truncate.ensures) (ap (drop start) (sym own_is) ∙ c.in-Some.ensures.framed)
+    (c.keep_last.ensures.bytes ∙ ap (λ b. o.spans.bytes ++ run (start - own_in o.spans.bytes) b) (rest_is slice start ∙ c.in-Some.ensures.framed))).1
     ∙ ap (λ (w : Waiting). w.queue) c.self.view_is
 
 pub returns-in-None-clause-held : goal.returns-in-None-clause-held

@@ -17,7 +17,7 @@ pub forget_unpinned-requires : goal.forget_unpinned-requires
 forget_unpinned-requires c =
     let r = c.self.inside in
     let more = appended-pinned r.store c.args.frame.now (spare_after r.store.spare (length c.args.frame.now)) r.pin c.self.invariant.boundary in
-    passed-pinned _ _ r.pin c.pass_until.ensures.all (subst (λ v. IfSome r.pin (IsStart v)) (sym c.append.ensures) more)
+    passed-pinned _ _ r.pin c.pass_beyond.ensures.all (subst (λ v. IfSome r.pin (IsStart v)) (sym c.append.ensures) more)
 
 pub invariant_of-self : goal.invariant_of-self
 invariant_of-self c = trimmed-pinned _ _ c.self.inside.pin c.self.inside.hold c.forget_unpinned.ensures.all c.forget_unpinned.ensures.pinned
@@ -28,9 +28,9 @@ returns-clause-held c =
     let all = with_newest c.args.self.now.held c.args.frame.now in
     let view : held_in hold c.append.new.self ≡ all =
     ap (held_in hold) c.append.ensures ∙ ap (λ (b : Buffer). with_newest b.held c.args.frame.now) c.self.view_is in
-    let low : c.saturating_sub-low.result ≡ end_of all - all.hold =
-    omega (arith, c.saturating_sub-low.ensures, c.end.ensures.value, ap end_of view, ap (λ (h : Held). h.hold) view) in
-    trimmed-held _ _ _ hold c.forget_unpinned.ensures.all ∙ c.pass_until.ensures.held hold ∙ (λ i. from_least (view i) (low i))
+    let low : end_of (held_in hold c.append.new.self) - hold ≡ end_of all - all.hold =
+    omega (arith, ap end_of view, ap (λ (h : Held). h.hold) view) in
+    trimmed-held _ _ _ hold c.forget_unpinned.ensures.all ∙ c.pass_beyond.ensures.held hold ∙ (λ i. from_least (view i) (low i))
 
 pub returns-clause-of_made : goal.returns-clause-of_made
 returns-clause-of_made c = λ made told newest is up_to spelled.
@@ -40,7 +40,7 @@ pub returns-clause-readable : goal.returns-clause-readable
 returns-clause-readable c =
     let r = c.self.inside in
     let first = c.forget_unpinned.new.store.first in
-    let all = passed-all _ _ r.hold c.pass_until.ensures.all ∙ ap (all_in r.hold) c.append.ensures ∙ appended-all r.store c.args.frame.now (spare_after r.store.spare (length c.args.frame.now)) r.hold in
+    let all = passed-all _ _ r.hold c.pass_beyond.ensures.all ∙ ap (all_in r.hold) c.append.ensures ∙ appended-all r.store c.args.frame.now (spare_after r.store.spare (length c.args.frame.now)) r.hold in
     trimmed-all _ _ r.pin r.hold c.forget_unpinned.ensures.all ∙ ap (λ h. from_boundary h (lesser r.pin first)) all
     ∙ ap (λ (b : Buffer). from_boundary (with_newest (readable b) c.args.frame.now) (lesser b.pin first)) c.self.view_is
 
@@ -50,10 +50,10 @@ returns-clause-end c =
     let view = ap (λ (b : Buffer). end_of b.held) c.self.view_is in
     let more = ap (λ v. end_of (held_in hold v)) c.append.ensures in
     let new = ap end_of (trimmed-held _ _ _ hold c.forget_unpinned.ensures.all) in
-    omega (arith, view, more, new, c.pass_until.ensures.all.end, pos-push length c.self.inside.store.held c.args.frame.now)
+    omega (arith, view, more, new, c.pass_beyond.ensures.all.end, pos-push length c.self.inside.store.held c.args.frame.now)
 
 pub returns-clause-spare : goal.returns-clause-spare
 returns-clause-spare c =
     let n = length c.args.frame.now in
-    ap (λ (v : Stored). v.spare) c.forget_unpinned.ensures.all.same ∙ c.pass_until.ensures.all.spare ∙ ap (λ (v : Stored). v.spare) c.append.ensures
+    ap (λ (v : Stored). v.spare) c.forget_unpinned.ensures.all.same ∙ c.pass_beyond.ensures.all.spare ∙ ap (λ (v : Stored). v.spare) c.append.ensures
     ∙ ap (λ (b : Buffer). spare_after b.spare n) c.self.view_is
