@@ -9,8 +9,8 @@ ghost use Rattle.replay_buffer.specs.Held.{HasSpare, IsHeldBoundary, IsHeldOf, e
 ghost use Rattle.outbox.specs.Line.{nothing_in_line, own_in, run, weave};
 
 use crate::stretch::{
-    Stretch, advance, copy_span, lengthen, next_place, pin_at, pin_where_one, put_first, put_last,
-    unpin_where_none,
+    Stretch, advance, copy_span, lengthen, make_room, next_place, pin_at, pin_where_one, put_first,
+    put_last, unpin_where_none,
 };
 use replay_buffer::{Place, Replay};
 use rs_wire::OutOfMemory;
@@ -160,9 +160,7 @@ impl Spans {
         ensures ok { OnOk result (self.new.spare ≡ spare_for self.old.spare frames bytes) }
         ensures err { OnErr result (self.new.spare ≡ self.old.spare) }
     {
-        if self.stretches.len() >= self.stretches.capacity() {
-            self.stretches.reserve(1)?;
-        }
+        make_room(&mut self.stretches)?;
         self.replay.reserve(frames, bytes)?;
         Ok(())
     }

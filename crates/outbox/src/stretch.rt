@@ -7,6 +7,7 @@ ghost use Rattle.outbox.specs.Spans.{AreSpans, IsLonger, IsPart, IsPinned, Reach
 ghost use Rattle.outbox.specs.Pins.{Goes};
 
 use replay_buffer::{Place, Replay};
+use rs_wire::OutOfMemory;
 use std::collections::VecDeque;
 
 /// So many own bytes, and then so many of the frames that can be read.
@@ -18,6 +19,19 @@ pub struct Stretch {
     pub place: Place,
     /// How many of them.
     pub count: u64,
+}
+
+/// Makes room for a stretch more.
+pub fn make_room(stretches: &mut VecDeque<Stretch>) -> Result<(), OutOfMemory>
+    ensures items { stretches.new.items ≡ stretches.old.items }
+    ensures len { deque_len stretches.new ≡ deque_len stretches.old }
+    ensures capacity { deque_capacity stretches.old ≤ deque_capacity stretches.new }
+{
+    if stretches.len() < stretches.capacity() {
+        return Ok(());
+    }
+    stretches.reserve(1)?;
+    Ok(())
 }
 
 /// Pins a held boundary beside what is pinned; alone, where nothing waits.
