@@ -14,7 +14,7 @@ ghost use Rattle.conn_shared.specs.Calls.{IsCalled, IsDrawCall};
 use crate::looked::Looked;
 use crate::member::Member;
 use crate::shared::SharedSession;
-use rs_wire::{Blob, Call, OutOfMemory};
+use rs_wire::{Blob, Call};
 use std::sync::Wait;
 use tape::{Answer, Event, Tape};
 
@@ -84,10 +84,13 @@ impl<T: Tape> SharedSession<T> {
         ensures called { IsCalled self.now.settings member
             (events.Asked call.now) result.1 result.0.front }
     {
-        match call.copy(self.alloc) {
-            Ok(copy) => self.step(rt, member, &Event::Asked(copy)),
-            Err(OutOfMemory) => (member, Answer::OutOfMemory),
-        }
+        let Ok(copy) = call.copy(self.alloc) else {
+            return (member, Answer::OutOfMemory);
+        };
+        let event = Event::Asked(copy);
+        let stepped = self.step(rt, member, &event);
+        drop(event);
+        stepped
     }
 
     /// Asks something of the session. It waits for a turn, and for a second one where the call has to
