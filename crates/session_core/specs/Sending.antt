@@ -1,5 +1,5 @@
 -- Calls that go out in one frame.
-use Rattle.std.specs.Prelude.{◌≡◌, ◌≤◌, ◌<◌, ◌^◌, ◌||◌, ◌+◌, ◌-◌, ◌==◌, ℕ, drop, Bool, true, false, List, length, option_to_list, Option, Some, None}
+use Rattle.std.specs.Prelude.{◌≡◌, ◌≤◌, ◌<◌, ◌^◌, ◌||◌, ◌+◌, ◌-◌, ◌==◌, ℕ, drop, Bool, true, false, length, option_to_list, Option, Some, None}
 use Rattle.rs_wire.specs.declared.settings.Settings.{Settings}
 use Rattle.rs_wire.specs.declared.call.Call.{Call}
 use Rattle.rs_wire.specs.declared.call.Call.TheVariants as call

@@ -100,6 +100,7 @@ impl History {
             answer: Snapshot::of(answer),
         };
         self.past = Snapshot::of(&more);
+        drop(more);
     }
 
     /// The same of a call.
@@ -114,6 +115,7 @@ impl History {
             answer: Snapshot::of(answer),
         };
         self.past = Snapshot::of(&more);
+        drop(more);
     }
 
     /// The same of a take that got this delivery.
@@ -129,6 +131,7 @@ impl History {
             delivery: Snapshot::of(delivery),
         };
         self.past = Snapshot::of(&more);
+        drop(more);
     }
 
     /// The same of a take that got this job.
@@ -143,5 +146,6 @@ impl History {
             job: Snapshot::of(job),
         };
         self.past = Snapshot::of(&more);
+        drop(more);
     }
 }

@@ -1,7 +1,7 @@
 //! Calls that go out in one frame: that of a request or a payload is written from the call's own
 //! parts.
 
-ghost use Rattle.std.specs.Prelude.{◌≡◌, ◌≢◌, ◌≤◌, ◌+◌, ◌-◌, ◌++◌, ◌<◌, ◌^◌, ◌∷◌, [], ℕ, None, Some, IfOk, IfSome, OnErr, OnOk, drop, false, true, length, option_to_list};
+ghost use Rattle.std.specs.Prelude.{◌≡◌, ◌≢◌, ◌≤◌, ◌+◌, ◌-◌, ◌<◌, ◌^◌, ◌∷◌, [], ℕ, None, Some, IfOk, IfSome, OnErr, OnOk, drop, false, true, length, option_to_list};
 ghost use Rattle.rs_wire.specs.Calls.{CanBeAsked};
 ghost use Rattle.rs_wire.specs.Settings.{IsChecked};
 ghost use Rattle.rs_frame.specs.declared.frame.Frame.{Frame as Sent};

@@ -1,4 +1,4 @@
-use Rattle.std.proofs.Common.{rules, ◌≡◌, ◌∙◌, ◌++◌, Option, IfSome, option_to_list, ap, sym, subst}
+use Rattle.std.proofs.Common.{rules, ◌≡◌, ◌∙◌, Option, IfSome, option_to_list, ap, sym, subst}
 use Rattle.rs_frame.specs.Framed.{framed_all}
 use Rattle.rs_frame.specs.Spelling.{IsSpellable, length_of}
 use Rattle.rs_frame.specs.declared.frame.Frame.{Frame}
