@@ -3,5 +3,6 @@ mod LongWords
 mod Closed
 mod Asking
 mod First
+mod Tables
 mod OneCall
 mod OneServer

@@ -1,11 +1,10 @@
 -- Words ask for one server alone, whose numbers are in their ranges.
-use Rattle.std.proofs.Common.{◌≡◌, ◌∙◌, ◌≤◌, Bool, ℕ, List, Option, Some, None, sym, ap, refl, arith}
+use Rattle.std.proofs.Common.{◌≡◌, ◌∙◌, ◌≤◌, Bool, ℕ, List, Option, Some, None, sym, refl, arith}
 use Rattle.clap.specs.Walk.{Text}
-use Rattle.clap.specs.Words.{matches_of}
 use Rattle.plain_text.proofs.Numbers.{number_takes}
 use Rattle.command_line.specs.declared.serve_task.ServeTask.{ServeTask}
 use Rattle.command_line.specs.Calls.{number_of, number_or}
-use Rattle.command_line.specs.Serves.{AsksServe, IsInRange, serve_app}
+use Rattle.command_line.specs.Serves.{AsksServe, IsInRange}
 use Rattle.command_line.proofs.OneCall.{some_one}
 
 -- a server, field by field

@@ -2,44 +2,69 @@
 
 ghost use Rattle.std.specs.Prelude.{◌≡◌, ◌≤◌, IfOk, Err, None, Some, false, option_map};
 ghost use Rattle.clap.specs.Words.{app_of, first_of, found_of, rows_of, rule_of, with_rule};
-ghost use Rattle.command_line.specs.Calls.{number_of, number_or, operand_rule, option_rule};
-ghost use Rattle.command_line.specs.Words.{flag_rule, is_on};
+ghost use Rattle.command_line.specs.Calls.{number_of, number_or};
+ghost use Rattle.command_line.specs.Commands.{command_app, rule};
+ghost use Rattle.command_line.specs.Words.{is_on};
 
 use crate::fault::WordsFault;
 use clap::{Arg, ArgAction, ArgMatches, Command};
 use plain_text::read_number;
 use std::alloc::{AllocError, Global};
 
-/// An operand, which has to be there.
-pub fn operand<'a>(alloc: Global, name: &'a str) -> Arg<'a>
-    ensures rule { rule_of result ≡ operand_rule name.now }
-    ensures local { result.global ≡ false }
-{
-    Arg::new(alloc, name).action(ArgAction::Set).required(true)
+/// How an argument is given.
+#[derive(Clone, Copy)]
+pub enum Form {
+    /// An operand, which has to be there.
+    Operand,
+    /// The option `--name`, with its value.
+    Option,
+    /// The flag `--name`.
+    Flag,
 }
 
-/// The option `--name`, with its value.
-pub fn option<'a>(alloc: Global, name: &'a str) -> Arg<'a>
-    ensures rule { rule_of result ≡ option_rule name.now }
-    ensures local { result.global ≡ false }
-{
-    Arg::new(alloc, name).long(name).action(ArgAction::Set)
+/// An argument of a command.
+#[derive(Clone, Copy)]
+pub struct Argument {
+    /// How it is given.
+    pub form: Form,
+    /// Its name.
+    pub name: &'static str,
 }
 
-/// The flag `--name`.
-pub fn flag<'a>(alloc: Global, name: &'a str) -> Arg<'a>
-    ensures rule { rule_of result ≡ flag_rule name.now }
+// An argument as clap reads it.
+fn arg<'a>(alloc: Global, argument: Argument) -> Arg<'a>
+    ensures rule { rule_of result ≡ rule argument.form argument.name.now }
     ensures local { result.global ≡ false }
 {
-    Arg::new(alloc, name).long(name).action(ArgAction::SetTrue)
+    let bare = Arg::new(alloc, argument.name);
+    match argument.form {
+        Form::Operand => bare.action(ArgAction::Set).required(true),
+        Form::Option => bare.long(argument.name).action(ArgAction::Set),
+        Form::Flag => bare.long(argument.name).action(ArgAction::SetTrue),
+    }
 }
 
-/// The command with one argument more.
-pub fn with<'a>(command: Command<'a>, arg: Arg<'a>) -> Result<Command<'a>, AllocError>
+// The command with one argument more.
+fn with<'a>(command: Command<'a>, arg: Arg<'a>) -> Result<Command<'a>, AllocError>
     requires { arg.global ≡ false }
     ensures { IfOk result (λ c. app_of c ≡ with_rule (app_of command.entry) (rule_of arg.entry)) }
 {
     command.arg(arg)
+}
+
+/// The command of this name that takes these arguments, as clap reads it.
+pub fn command<'a>(
+    alloc: Global,
+    name: &'static str,
+    arguments: &[Argument],
+) -> Result<Command<'a>, AllocError>
+    ensures { IfOk result (λ c. app_of c ≡ command_app name.now arguments.now) }
+{
+    let mut command = Command::new(alloc, name).disable_help_flag(true);
+    for argument in arguments {
+        command = with(command, arg(alloc, *argument))?;
+    }
+    Ok(command)
 }
 
 /// The value of an argument, where it has one.

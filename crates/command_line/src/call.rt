@@ -1,20 +1,20 @@
 //! The command `call`: an address, what is called, and options.
 
-ghost use Rattle.std.specs.Prelude.{◌≡◌, ◌≤◌, ◌+◌, ◌↔◌, [], IfOk, IfSome, None, OnOk, Some, Err, codes, length, map, true};
-ghost use Rattle.clap.specs.Words.{app_of, fault_of, first_of, found_of, matches_of, rows_of};
+ghost use Rattle.std.specs.Prelude.{◌≡◌, ◌≤◌, ◌+◌, ◌↔◌, [], IfOk, IfSome, None, OnOk, Some, Err, codes, length, map, true, ℕ, List};
+ghost use Rattle.clap.specs.Words.{fault_of, first_of, found_of, matches_of, rows_of};
 ghost use Rattle.plain_text.specs.Words.{is_hex_word};
 ghost use Rattle.rs_wire.specs.declared.words.Kind.{Kind};
 ghost use Rattle.command_line.specs.Calls.{IsCallOf, IsContent, IsToken, call_app, kind_word, number_or};
 ghost use Rattle.command_line.specs.declared.call_task.CallTask.{CallTask};
 
-use crate::arguments::{flag, is_on, number_or, operand, operand_value, option, value, with};
+use crate::arguments::{Argument, Form, is_on, number_or, operand_value, value};
 use crate::call_task::CallTask;
 use crate::fault::WordsFault;
 use crate::parse::parse;
-use clap::{ArgMatches, Command};
+use clap::ArgMatches;
 use plain_text::{is_hex_word, read_hex};
 use rs_wire::{Amount, Blob, Kind};
-use std::alloc::{AllocError, Global};
+use std::alloc::Global;
 
 /// The most bytes that route and content have together: as many as a message may have.
 const MOST_CONTENT: usize = 16_000_000;
@@ -28,22 +28,49 @@ const MOST_COUNT: u64 = 2_147_483_647;
 /// The word of an empty content.
 const EMPTY: u8 = b'.';
 
-// The command as clap reads it.
-fn command<'a>(alloc: Global) -> Result<Command<'a>, AllocError>
-    ensures { IfOk result (λ c. app_of c ≡ call_app) }
-{
-    let bare = Command::new(alloc, "call").disable_help_flag(true);
-    let command = with(bare, operand(alloc, "address"))?;
-    let command = with(command, operand(alloc, "kind"))?;
-    let command = with(command, operand(alloc, "route"))?;
-    let command = with(command, operand(alloc, "content"))?;
-    let command = with(command, option(alloc, "count"))?;
-    let command = with(command, option(alloc, "resume"))?;
-    let command = with(command, flag(alloc, "lease"))?;
-    let command = with(command, option(alloc, "lulls"))?;
-    let command = with(command, option(alloc, "tries"))?;
-    with(command, flag(alloc, "ws"))
-}
+/// The arguments of the command.
+const ARGUMENTS: [Argument; 10] = [
+    Argument {
+        form: Form::Operand,
+        name: "address",
+    },
+    Argument {
+        form: Form::Operand,
+        name: "kind",
+    },
+    Argument {
+        form: Form::Operand,
+        name: "route",
+    },
+    Argument {
+        form: Form::Operand,
+        name: "content",
+    },
+    Argument {
+        form: Form::Option,
+        name: "count",
+    },
+    Argument {
+        form: Form::Option,
+        name: "resume",
+    },
+    Argument {
+        form: Form::Flag,
+        name: "lease",
+    },
+    Argument {
+        form: Form::Option,
+        name: "lulls",
+    },
+    Argument {
+        form: Form::Option,
+        name: "tries",
+    },
+    Argument {
+        form: Form::Flag,
+        name: "ws",
+    },
+];
 
 // The interaction that a word names.
 fn kind(word: &str) -> Result<Kind, WordsFault>
@@ -110,6 +137,22 @@ fn count(matches: &ArgMatches) -> Result<Amount, WordsFault>
     }
 }
 
+// The route and the content of a request, which are not longer together than a message may be.
+fn request(alloc: Global, route: &str, spelled: &str) -> Result<(Blob, Blob), WordsFault>
+    ensures route { IfOk result (λ r. route.now ≡ r.0) }
+    ensures content { IfOk result (λ r. IsContent spelled.now r.1) }
+    ensures fits { IfOk result (λ r. length r.0 + length r.1 ≤ 16000000) }
+    ensures usage { result ≡ Err WordsFault.Usage → (content : List ℕ) →
+        IsContent spelled.now content → ¬ (length route.now + length content ≤ 16000000) }
+{
+    let content = content(alloc, spelled)?;
+    let route = Blob::from_slice(alloc, route.as_bytes())?;
+    if !fits(&route, &content) {
+        return Err(WordsFault::Usage);
+    }
+    Ok((route, content))
+}
+
 // What the values ask for.
 fn read(alloc: Global, matches: &ArgMatches) -> Result<CallTask, WordsFault>
     ensures is { IfOk result (IsCallOf (rows_of (found_of matches.now))) }
@@ -119,21 +162,23 @@ fn read(alloc: Global, matches: &ArgMatches) -> Result<CallTask, WordsFault>
     let address = operand_value(matches, "address")?;
     let kind = kind(operand_value(matches, "kind")?)?;
     let route = operand_value(matches, "route")?;
-    let content = content(alloc, operand_value(matches, "content")?)?;
-    let route = Blob::from_slice(alloc, route.as_bytes())?;
-    if !fits(&route, &content) {
-        return Err(WordsFault::Usage);
-    }
+    let spelled = operand_value(matches, "content")?;
+    let count = count(matches)?;
+    let lulls = number_or(matches, "lulls", 1_000, 1, 1_000_000_000)?;
+    let tries = number_or(matches, "tries", 0, 0, 16)? as u32;
+    let token = token(alloc, matches)?;
+    let (route, content) = request(alloc, route, spelled)?;
+    let address = Blob::from_slice(alloc, address.as_bytes())?;
     Ok(CallTask {
-        address: Blob::from_slice(alloc, address.as_bytes())?,
+        address,
         kind,
         route,
         content,
-        count: count(matches)?,
-        token: token(alloc, matches)?,
+        count,
+        token,
         lease: is_on(matches, "lease"),
-        lulls: number_or(matches, "lulls", 1_000, 1, 1_000_000_000)?,
-        tries: number_or(matches, "tries", 0, 0, 16)? as u32,
+        lulls,
+        tries,
         ws: is_on(matches, "ws"),
     })
 }
@@ -147,7 +192,8 @@ pub fn call<'a>(alloc: Global, words: &'a [&'a str]) -> Result<CallTask, WordsFa
         fault_of call_app (map (λ w. w.now) words.entry.now) ≡ [] →
         ¬ (IsCallOf (matches_of call_app (map (λ w. w.now) words.entry.now)) t) }
 {
-    let matches = parse(command(alloc)?, words)?;
-    let task = read(alloc, &matches)?;
-    Ok(task)
+    let matches = parse(alloc, "call", &ARGUMENTS, words)?;
+    let task = read(alloc, &matches);
+    drop(matches);
+    task
 }

@@ -1,29 +1,20 @@
 //! A command with one flag and no operand: `cable` and `frames`.
 
 ghost use Rattle.std.specs.Prelude.{◌≡◌, [], IfOk, OnOk, Err, map, true};
-ghost use Rattle.clap.specs.Words.{app_of, fault_of, is_simple_and_free, matches_of};
+ghost use Rattle.clap.specs.Words.{fault_of, is_simple_and_free, matches_of};
 ghost use Rattle.command_line.specs.Words.{flagged_app, is_on};
 
-use crate::arguments::{flag, is_on, with};
+use crate::arguments::{Argument, Form, is_on};
 use crate::fault::WordsFault;
 use crate::parse::parse;
-use clap::Command;
-use std::alloc::{AllocError, Global};
-
-// The command as clap reads it.
-fn command<'a>(alloc: Global, name: &'a str, its_flag: &'a str) -> Result<Command<'a>, AllocError>
-    ensures { IfOk result (λ c. app_of c ≡ flagged_app name.now its_flag.now) }
-{
-    let bare = Command::new(alloc, name).disable_help_flag(true);
-    with(bare, flag(alloc, its_flag))
-}
+use std::alloc::Global;
 
 /// Reads the words of a command that has one flag, the first of which is its name. Whether they have
 /// the flag.
 pub fn flagged<'a>(
     alloc: Global,
-    name: &'a str,
-    its_flag: &'a str,
+    name: &'static str,
+    its_flag: &'static str,
     words: &'a [&'a str],
 ) -> Result<bool, WordsFault>
     requires simple { is_simple_and_free (flagged_app name.now its_flag.now) ≡ true }
@@ -34,6 +25,12 @@ pub fn flagged<'a>(
     ensures usage { result ≡ Err WordsFault.Usage →
         ¬ (fault_of (flagged_app name.now its_flag.now) (map (λ w. w.now) words.entry.now) ≡ []) }
 {
-    let matches = parse(command(alloc, name, its_flag)?, words)?;
-    Ok(is_on(&matches, its_flag))
+    let arguments = [Argument {
+        form: Form::Flag,
+        name: its_flag,
+    }];
+    let matches = parse(alloc, name, &arguments, words)?;
+    let on = is_on(&matches, its_flag);
+    drop(matches);
+    Ok(on)
 }

@@ -1,20 +1,18 @@
 //! The command `serve`: an address, how many connections are served, and options.
 
 ghost use Rattle.std.specs.Prelude.{◌≡◌, [], IfOk, None, OnOk, Some, Err, codes, map};
-ghost use Rattle.clap.specs.Words.{app_of, fault_of, first_of, found_of, matches_of, rows_of};
+ghost use Rattle.clap.specs.Words.{fault_of, first_of, found_of, matches_of, rows_of};
 ghost use Rattle.command_line.specs.Serves.{IsServeOf, number_if, serve_app};
 ghost use Rattle.command_line.specs.declared.serve_task.ServeTask.{ServeTask};
 
-use crate::arguments::{
-    flag, is_on, number, number_or, operand, operand_value, option, value, with,
-};
+use crate::arguments::{Argument, Form, is_on, number, number_or, operand_value, value};
 use crate::fault::WordsFault;
 use crate::parse::parse;
 use crate::serve_task::ServeTask;
-use clap::{ArgMatches, Command};
+use clap::ArgMatches;
 use plain_text::read_number;
 use rs_wire::{Amount, Blob};
-use std::alloc::{AllocError, Global};
+use std::alloc::Global;
 
 /// The most connections that are served.
 const MOST_CONNECTIONS: u64 = 64;
@@ -25,18 +23,33 @@ const MOST_WORKERS: u64 = 16;
 /// The most requests that a lease lets in (RSocket 1.0, "LEASE Frame").
 const MOST_LEASE: u64 = 2_147_483_647;
 
-// The command as clap reads it.
-fn command<'a>(alloc: Global) -> Result<Command<'a>, AllocError>
-    ensures { IfOk result (λ c. app_of c ≡ serve_app) }
-{
-    let bare = Command::new(alloc, "serve").disable_help_flag(true);
-    let command = with(bare, operand(alloc, "address"))?;
-    let command = with(command, option(alloc, "connections"))?;
-    let command = with(command, option(alloc, "workers"))?;
-    let command = with(command, option(alloc, "lease"))?;
-    let command = with(command, flag(alloc, "resume"))?;
-    with(command, flag(alloc, "ws"))
-}
+/// The arguments of the command.
+const ARGUMENTS: [Argument; 6] = [
+    Argument {
+        form: Form::Operand,
+        name: "address",
+    },
+    Argument {
+        form: Form::Option,
+        name: "connections",
+    },
+    Argument {
+        form: Form::Option,
+        name: "workers",
+    },
+    Argument {
+        form: Form::Option,
+        name: "lease",
+    },
+    Argument {
+        form: Form::Flag,
+        name: "resume",
+    },
+    Argument {
+        form: Form::Flag,
+        name: "ws",
+    },
+];
 
 // How many requests a lease lets in, where leases are granted.
 fn lease(matches: &ArgMatches) -> Result<Option<Amount>, WordsFault>
@@ -64,11 +77,15 @@ fn read(alloc: Global, matches: &ArgMatches) -> Result<ServeTask, WordsFault>
         ¬ (IsServeOf (rows_of (found_of matches.now)) t) }
 {
     let address = operand_value(matches, "address")?;
+    let connections = number(matches, "connections", 1, MOST_CONNECTIONS)? as u32;
+    let workers = number_or(matches, "workers", 1, 1, MOST_WORKERS)? as u32;
+    let lease = lease(matches)?;
+    let address = Blob::from_slice(alloc, address.as_bytes())?;
     Ok(ServeTask {
-        address: Blob::from_slice(alloc, address.as_bytes())?,
-        connections: number(matches, "connections", 1, MOST_CONNECTIONS)? as u32,
-        workers: number_or(matches, "workers", 1, 1, MOST_WORKERS)? as u32,
-        lease: lease(matches)?,
+        address,
+        connections,
+        workers,
+        lease,
         resume: is_on(matches, "resume"),
         ws: is_on(matches, "ws"),
     })
@@ -83,7 +100,8 @@ pub fn serve<'a>(alloc: Global, words: &'a [&'a str]) -> Result<ServeTask, Words
         fault_of serve_app (map (λ w. w.now) words.entry.now) ≡ [] →
         ¬ (IsServeOf (matches_of serve_app (map (λ w. w.now) words.entry.now)) t) }
 {
-    let matches = parse(command(alloc)?, words)?;
-    let task = read(alloc, &matches)?;
-    Ok(task)
+    let matches = parse(alloc, "serve", &ARGUMENTS, words)?;
+    let task = read(alloc, &matches);
+    drop(matches);
+    task
 }
