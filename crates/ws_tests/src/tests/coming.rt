@@ -3,7 +3,7 @@
 
 ghost use Rattle.std.specs.Prelude.{◌<◌};
 
-use super::stream::{Stream, end_over, streams};
+use super::stream::{Stream, end_over, let_go, streams};
 use outside::{Given, Link, Taken};
 use std::alloc::Global;
 use std::process::Abort;
@@ -215,6 +215,11 @@ fn coming<R: Abort>(rt: &R, alloc: Global, row: &Row) -> Vec<u8> {
     bytes
 }
 
+// Stops the test, which names the row, where something is not right.
+fn check<R: Abort>(rt: &R, right: bool, shows: &str) {
+    assert!(rt; right, "{shows}");
+}
+
 // Sends a link what comes by a row in pieces, and takes after each.
 fn take_pieces<R: Abort, L: Link>(
     rt: &R,
@@ -236,15 +241,17 @@ fn take_pieces<R: Abort, L: Link>(
         far.shut();
     }
     let last = take_all(rt, link, &mut taken);
-    assert!(rt; taken.as_slice() == row.taken, "{}", row.shows);
-    assert!(rt; last == row.last, "{}", row.shows);
+    check(rt, taken.as_slice() == row.taken, row.shows);
+    check(rt, last == row.last, row.shows);
+    drop(taken);
+    drop(bytes);
 }
 
 // It stays so, and nothing goes once it is over.
 fn try_more<R: Abort, L: Link>(rt: &R, link: &mut L, row: &Row) {
     let mut buffer = [0; 4];
-    assert!(rt; link.take(&mut buffer) == row.last, "{}", row.shows);
-    assert!(rt; link.give(&[0]) == row.given, "{}", row.shows);
+    check(rt, link.take(&mut buffer) == row.last, row.shows);
+    check(rt, link.give(&[0]) == row.given, row.shows);
 }
 
 fn play<R: Abort>(rt: &R, alloc: Global, row: &Row, most: usize)
@@ -254,9 +261,11 @@ fn play<R: Abort>(rt: &R, alloc: Global, row: &Row, most: usize)
     let mut end = end_over(rt, alloc, row.role, near);
     take_pieces(rt, alloc, &mut end, &mut far, row, most);
     try_more(rt, &mut end, row);
-    let mut gone = Vec::new(alloc);
-    far.drain(rt, &mut gone);
+    let gone = far.drain(rt, alloc);
     assert!(rt; gone.as_slice() == row.gone, "the answer to {}", row.shows);
+    drop(gone);
+    drop(far);
+    let_go(end);
 }
 
 #[test]

@@ -1,22 +1,13 @@
 //! Many messages, and the longest ones.
 
-ghost use Rattle.std.specs.Prelude.{◌<◌, length};
-
-use super::stream::{end_over, keys, streams};
+use super::stream::{end_over, let_go, streams, take};
 use outside::{Given, Link, Taken};
 use std::alloc::Global;
 use std::io;
 use std::io::{ErrorKind, Read, Write};
 use std::process::Abort;
-use tungstenite::{Role, WebSocket};
-use ws_end::{ClientKeys, MOST_FRAME, WsEnd, limits};
-
-// Takes once, which is answered so.
-fn take<R: Abort, L: Link>(rt: &R, link: &mut L, buffer: &mut [u8], answer: Taken)
-    requires { 0 < length buffer.old }
-{
-    assert_eq!(rt; link.take(buffer), answer);
-}
+use tungstenite::Role;
+use ws_end::{ClientKeys, MOST_FRAME, WsEnd};
 
 #[test]
 fn a_flood_of_pings_holds_no_take(rt: HostRuntime) {
@@ -30,6 +21,8 @@ fn a_flood_of_pings_holds_no_take(rt: HostRuntime) {
     take(&rt, &mut end, &mut buffer, Taken::Lull);
     take(&rt, &mut end, &mut buffer, Taken::Lull);
     take(&rt, &mut end, &mut buffer, Taken::Took(4));
+    drop(far);
+    let_go(end);
 }
 
 /// A stream in memory with one end: bytes that come, of which so many were read, and those that were
@@ -72,8 +65,7 @@ fn server<R: Abort>(rt: &R, alloc: Global, coming: Vec<u8>) -> WsEnd<Long, Clien
         read: 0,
         gone: Vec::new(alloc),
     };
-    let socket = WebSocket::from_raw_socket(alloc, stream, keys(rt), Role::Server, Some(limits()));
-    WsEnd::new(alloc, socket)
+    end_over(rt, alloc, Role::Server, stream)
 }
 
 // These bytes, and zeros up to that length.
@@ -103,9 +95,13 @@ fn the_longest_frame_goes(rt: HostRuntime) {
     let mut end = server(&rt, alloc, Vec::new(alloc));
     let frame = padded(&rt, alloc, b"\xff\xff\xff\x2a", 3 + MOST_FRAME);
     give_all(&rt, &mut end, &frame);
-    let gone = end.into_socket().into_inner().gone;
+    let stream = end.into_socket().into_inner();
     let head = b"\x82\x7f\x00\x00\x00\x00\x00\xff\xff\xff\x2a";
-    assert!(rt; gone == padded(&rt, alloc, head, 10 + MOST_FRAME));
+    let wanted = padded(&rt, alloc, head, 10 + MOST_FRAME);
+    assert!(rt; stream.gone == wanted);
+    drop(stream);
+    drop(wanted);
+    drop(frame);
 }
 
 /// The head of a message of 16,777,215 bytes in one frame, and that of a first fragment of 16,777,214
@@ -135,6 +131,8 @@ fn play<R: Abort>(rt: &R, alloc: Global, head: &[u8], last: &[u8], answer: Taken
     let mut buffer = padded(rt, alloc, b"", 4 + MOST_FRAME);
     assert!(rt; !buffer.is_empty());
     take(rt, &mut end, &mut buffer, answer);
+    drop(buffer);
+    let_go(end);
 }
 
 #[test]

@@ -1,19 +1,20 @@
-//! A pump at each end of a link over WebSocket.
+//! A pump at each end of a link over WebSocket. Each end is written for any tape, since a proof is
+//! dearer the more types a function knows.
 
-ghost use Rattle.std.specs.Prelude.{◌≡◌, ◌<◌, ◌^◌, [], length};
+ghost use Rattle.std.specs.Prelude.{◌≡◌, ◌<◌, ◌^◌, Ok, length};
 ghost use Rattle.rs_wire.specs.Calls.{CanBeAsked};
-ghost use Rattle.rs_wire.specs.Settings.{usual};
 ghost use Rattle.rs_wire.specs.declared.words.Side.TheVariants.{Client, Server};
+ghost use Rattle.rs_frame.specs.Spelling.{IsSpellable};
 ghost use Rattle.session_model.specs.Legal.{CanBring};
 ghost use Rattle.session_core.specs.Seen.{IsNoDrawEvent};
 
-use super::stream::{end_over, streams};
+use super::stream::{end_over, let_go, streams, take};
 use conn::{Caller, Connection};
 use outside::{Link, MemClock, Taken};
 use pump::{Pump, Turned};
 use rs_chunk::{Reader, split_frame};
-use rs_frame::decode;
-use rs_wire::{Blob, Call, Checked, Job, Settings, Side, check};
+use rs_frame::{Frame, decode};
+use rs_wire::{Blob, Call, Checked, Job, Settings, Side, check as check_settings};
 use session_core::Session;
 use std::alloc::Global;
 use std::process::Abort;
@@ -31,40 +32,26 @@ const REQUEST_HEAD: [u8; 2] = [0x82, 0x80 | 8];
 /// The SETUP and the request, each after its length.
 const FRAMES: usize = 82;
 
-/// One end of a connection with its pump. Its clock stands still.
-#[derive(Drop)]
-struct Pumped<T: Tape> {
-    connection: Connection<T>,
-    caller: Caller<T>,
-    pump: Pump,
-    clock: MemClock,
-    ghost of: { caller.of ≡ connection },
-    ghost limit: { pump.max_in ≡ connection.settings.max_in },
+// What was made. A fault that has no words stops the test, and is not let go.
+fn made<R: Abort, T, E>(rt: &R, made: Result<T, E>) -> T
+    ensures { made ≡ Ok result }
+{
+    match made {
+        Ok(made) => made,
+        Err(_) => panic!(rt; "it is not made"),
+    }
 }
 
 // The defaults of a side.
 fn defaults<R: Abort>(rt: &R, alloc: Global, side: Side) -> Checked
-    ensures { result ≡ usual side }
+    ensures { result.side ≡ side }
 {
     let settings = Settings::usual(alloc, side).expect(rt, "there is memory");
-    match check(settings) {
-        Ok(settings) => settings,
-        Err(_) => panic!(rt; "the settings are right"),
-    }
+    made(rt, check_settings(settings))
 }
 
-fn session<R: Abort, T: Tape + Drop>(rt: &R, alloc: Global, side: Side, tape: T) -> Session<T>
-    requires empty { T.count tape ≡ 0 }
-    ensures settings { result.settings ≡ usual side }
-    ensures entries { result.entries ≡ [] }
-{
-    match Session::new(alloc, defaults(rt, alloc, side), tape) {
-        Ok(session) => session,
-        Err(_) => panic!(rt; "there is memory"),
-    }
-}
-
-fn connected<R: Abort, T: Tape + Drop>(
+// A connection whose session is not begun.
+fn connected<R: Abort, T: Tape>(
     rt: &R,
     alloc: Global,
     side: Side,
@@ -72,84 +59,30 @@ fn connected<R: Abort, T: Tape + Drop>(
 ) -> (Connection<T>, Caller<T>)
     requires empty { T.count tape ≡ 0 }
     ensures of { result.1.of ≡ result.0 }
-    ensures settings { result.0.settings ≡ usual side }
+    ensures side { result.0.settings.side ≡ side }
 {
-    match Connection::new(alloc, session(rt, alloc, side, tape)) {
-        Ok(made) => made,
-        Err(_) => panic!(rt; "there is memory"),
-    }
+    let session = made(rt, Session::new(alloc, defaults(rt, alloc, side), tape));
+    made(rt, Connection::new(alloc, session))
 }
 
-// A pump of the connection to which these bytes came.
-fn pump_for<R: Abort>(rt: &R, alloc: Global, max_in: u32, bytes: &[u8]) -> Pump
-    requires short { max_in < 2 ^ 24 }
-    ensures { result.max_in ≡ max_in }
+// The tape of a connection. Both ends end so: a session that is let go is dear to prove.
+fn close<R: Abort, T: Tape>(rt: &R, connection: Connection<T>, caller: Caller<T>) -> T
+    requires of { caller.of ≡ connection }
 {
-    let mut reader = Reader::new(alloc, max_in);
-    assert!(rt; reader.feed(bytes).is_ok());
-    Pump::new(alloc, 1, reader).expect(rt, "there is memory")
+    made(rt, connection.close(caller)).into_tape()
 }
 
-fn clock<R: Abort>(rt: &R, alloc: Global) -> MemClock {
-    let moments = Vec::from_slice(alloc, &[0]).expect(rt, "there is memory");
-    assert!(rt; moments.len() == 1);
-    MemClock::new(moments)
+/// What an answer is to be.
+#[derive(Clone, Copy)]
+enum Wanted {
+    /// The first opening.
+    Opened,
+    /// A request started on the first stream.
+    Started,
+    /// A job of `hi`.
+    Hi,
 }
 
-// An end whose session is not begun, to which these bytes came.
-fn unbegun<R: Abort, T: Tape + Drop>(
-    rt: &R,
-    alloc: Global,
-    side: Side,
-    tape: T,
-    bytes: &[u8],
-) -> Pumped<T>
-    requires empty { T.count tape ≡ 0 }
-    ensures { result.connection.settings ≡ usual side }
-{
-    let (connection, caller) = connected(rt, alloc, side, tape);
-    let pump = pump_for(rt, alloc, connection.max_in(), bytes);
-    let clock = clock(rt, alloc);
-    Pumped {
-        connection,
-        caller,
-        pump,
-        clock,
-    }
-}
-
-// A fire-and-forget request of `hi`.
-fn request<R: Abort>(rt: &R, alloc: Global) -> Call
-    ensures { CanBeAsked result }
-{
-    Call::fire_and_forget(Blob::from_slice(alloc, b"hi").expect(rt, "there is memory"))
-}
-
-// The call that takes a job.
-fn take_job() -> Call
-    ensures { CanBeAsked result }
-{
-    Call::TakeJob
-}
-
-// The event of a server that is opened by the frame of these bytes.
-fn opened_by<R: Abort>(rt: &R, alloc: Global, setup: &[u8]) -> Event
-    requires few { length setup.now < 2 ^ 24 }
-    ensures fair { CanBring (usual Server) result }
-    ensures no_draw { IsNoDrawEvent result }
-{
-    Event::opened_by(decode(alloc, setup).expect(rt, "it is a frame"))
-}
-
-fn is_opened(answer: &Answer) -> bool {
-    matches!(answer, Answer::Opened(1))
-}
-
-fn is_started(answer: &Answer) -> bool {
-    matches!(answer, Answer::Started(1))
-}
-
-// Whether a job of `hi` is taken.
 fn is_hi(answer: &Answer) -> bool {
     match answer {
         Answer::GotJob(Job::Asked { message, .. }) => {
@@ -159,128 +92,132 @@ fn is_hi(answer: &Answer) -> bool {
     }
 }
 
-impl<T: Tape> Pumped<T> {
-    // Opens the session by this event.
-    fn open<R: Abort + Wait>(&mut self, rt: &R, event: &Event)
-        requires fair { CanBring self.old.connection.settings event.now }
-        requires no_draw { IsNoDrawEvent event.now }
-    {
-        let answer = self.connection.event(rt, &mut self.caller, event);
-        let opened = is_opened(&answer);
-        assert!(rt; opened);
-    }
-
-    // Opens the session of a client.
-    fn ask_to_open<R: Abort + Wait>(&mut self, rt: &R)
-        requires side { self.old.connection.settings.side ≡ Client }
-    {
-        let event = Event::opening();
-        self.open(rt, &event);
-    }
-
-    // Opens that of a server by the frame of these bytes.
-    fn open_by<R: Abort + Wait>(&mut self, rt: &R, alloc: Global, setup: &[u8])
-        requires settings { self.old.connection.settings ≡ usual Server }
-        requires few { length setup.now < 2 ^ 24 }
-    {
-        let event = opened_by(rt, alloc, setup);
-        self.open(rt, &event);
-    }
-
-    // One turn over a link.
-    fn turn<R: Wait, L: Link>(&mut self, rt: &R, link: &mut L) -> Turned {
-        let (connection, clock) = (&self.connection, &self.clock);
-        self.pump
-            .turn(rt, connection, &mut self.caller, link, clock)
-    }
-
-    // Asks for this. Whether a request started on the first stream.
-    fn starts<R: Wait>(&mut self, rt: &R, call: &Call) -> bool
-        requires { CanBeAsked call.now }
-    {
-        let answer = self.connection.call(rt, &mut self.caller, call);
-        is_started(&answer)
-    }
-
-    // Asks for this. Whether a job of `hi` is taken.
-    fn takes_hi<R: Wait>(&mut self, rt: &R, call: &Call) -> bool
-        requires { CanBeAsked call.now }
-    {
-        let answer = self.connection.call(rt, &mut self.caller, call);
-        is_hi(&answer)
+fn is(answer: &Answer, wanted: Wanted) -> bool {
+    match wanted {
+        Wanted::Opened => matches!(answer, Answer::Opened(1)),
+        Wanted::Started => matches!(answer, Answer::Started(1)),
+        Wanted::Hi => is_hi(answer),
     }
 }
 
-// A client asks for `hi`. Whether it may.
-fn asks<R: Abort + Wait, T: Tape>(rt: &R, alloc: Global, client: &mut Pumped<T>) -> bool {
-    let call = request(rt, alloc);
-    client.starts(rt, &call)
+// Stops the test where an answer is another than the wanted one.
+fn check<R: Abort>(rt: &R, answer: Answer, wanted: Wanted) {
+    let right = is(&answer, wanted);
+    drop(answer);
+    assert!(rt; right);
 }
 
-// A server takes a job. Whether it is `hi`.
-fn takes<R: Wait, T: Tape>(rt: &R, server: &mut Pumped<T>) -> bool {
-    let call = take_job();
-    server.takes_hi(rt, &call)
+// Opens the session by this event.
+fn open<R: Abort + Wait, T: Tape>(
+    rt: &R,
+    connection: &Connection<T>,
+    caller: &mut Caller<T>,
+    event: Event,
+)
+    requires of { caller.old.of ≡ connection.now }
+    requires fair { CanBring connection.now.settings event }
+    requires no_draw { IsNoDrawEvent event }
+    ensures of { caller.new.of ≡ connection.now }
+{
+    check(rt, connection.bring(rt, caller, event), Wanted::Opened);
 }
 
-// A client gives its SETUP and a request to this link.
-fn ask_by<R: Abort + Wait, T: Tape, L: Link>(
+// Makes this call, to which the answer is the wanted one.
+fn ask<R: Abort + Wait, T: Tape>(
+    rt: &R,
+    connection: &Connection<T>,
+    caller: &mut Caller<T>,
+    call: Call,
+    wanted: Wanted,
+)
+    requires of { caller.old.of ≡ connection.now }
+    requires askable { CanBeAsked call }
+    ensures of { caller.new.of ≡ connection.now }
+{
+    let answer = connection.call(rt, caller, &call);
+    drop(call);
+    check(rt, answer, wanted);
+}
+
+// A pump to which these bytes came.
+fn pump_for<R: Abort>(rt: &R, alloc: Global, max_in: u32, came: &[u8]) -> Pump
+    requires short { max_in < 2 ^ 24 }
+    ensures { result.max_in ≡ max_in }
+{
+    let mut reader = Reader::new(alloc, max_in);
+    assert!(rt; reader.feed(came).is_ok());
+    Pump::new(alloc, 1, reader).expect(rt, "there is memory")
+}
+
+// A clock that stands still.
+fn clock<R: Abort>(rt: &R, alloc: Global) -> MemClock {
+    let moments = Vec::from_slice(alloc, &[0]).expect(rt, "there is memory");
+    assert!(rt; moments.len() == 1);
+    MemClock::new(moments)
+}
+
+// One turn over a link, of a pump to which these bytes came: so many bytes are given, and none taken.
+fn turn<R: Abort + Wait, T: Tape, L: Link>(
     rt: &R,
     alloc: Global,
-    client: &mut Pumped<T>,
+    connection: &Connection<T>,
+    caller: &mut Caller<T>,
+    came: &[u8],
     link: &mut L,
+    given: u32,
 )
-    requires side { client.old.connection.settings.side ≡ Client }
+    requires of { caller.old.of ≡ connection.now }
+    ensures of { caller.new.of ≡ connection.now }
 {
-    client.ask_to_open(rt);
-    assert!(rt; asks(rt, alloc, client));
-    let moved = Turned::Moved {
-        given: FRAMES as u32,
-        taken: 0,
-    };
-    assert!(rt; client.turn(rt, link) == moved);
+    let mut pump = pump_for(rt, alloc, connection.max_in(), came);
+    let clock = clock(rt, alloc);
+    let turned = pump.turn(rt, connection, caller, link, &clock);
+    drop(pump);
+    drop(clock);
+    assert!(rt; turned == Turned::Moved { given, taken: 0 });
 }
 
-// A client with this tape does.
-fn ask_over<R: Abort + Wait, T: Tape + Drop, L: Link>(rt: &R, alloc: Global, tape: T, link: &mut L)
+// A client with this tape gives its SETUP and a request of `hi` to this link.
+fn ask_over<R: Abort + Wait, T: Tape, L: Link>(rt: &R, alloc: Global, tape: T, link: &mut L) -> T
     requires empty { T.count tape ≡ 0 }
 {
-    let mut client = unbegun(rt, alloc, Side::Client, tape, &[]);
-    ask_by(rt, alloc, &mut client, link);
+    let (client, mut caller) = connected(rt, alloc, Side::Client, tape);
+    open(rt, &client, &mut caller, Event::opening());
+    let content = Blob::from_slice(alloc, b"hi").expect(rt, "there is memory");
+    let call = Call::fire_and_forget(content);
+    ask(rt, &client, &mut caller, call, Wanted::Started);
+    turn(rt, alloc, &client, &mut caller, &[], link, FRAMES as u32);
+    close(rt, client, caller)
 }
 
-// A server that this SETUP opens takes the request that came.
-fn answer_by<R: Abort + Wait, T: Tape, L: Link>(
-    rt: &R,
-    alloc: Global,
-    server: &mut Pumped<T>,
-    setup: &[u8],
-    link: &mut L,
-)
-    requires settings { server.old.connection.settings ≡ usual Server }
-    requires few { length setup.now < 2 ^ 24 }
+// The frame that the bytes spell.
+fn frame<R: Abort>(rt: &R, alloc: Global, bytes: &[u8]) -> Frame
+    requires { length bytes.now < 2 ^ 24 }
+    ensures { IsSpellable result }
 {
-    server.open_by(rt, alloc, setup);
-    assert!(rt; server.turn(rt, link) == Turned::Moved { given: 0, taken: 0 });
-    assert!(rt; takes(rt, server));
+    decode(alloc, bytes).expect(rt, "the bytes spell a frame")
 }
 
-// A server with this tape does, to which the bytes of both came.
-fn answer_over<R: Abort + Wait, T: Tape + Drop, L: Link>(
+// A server with this tape takes the request, where the bytes of both frames came.
+fn answer_over<R: Abort + Wait, T: Tape, L: Link>(
     rt: &R,
     alloc: Global,
     tape: T,
-    bytes: &[u8],
+    came: &[u8],
     link: &mut L,
-)
+) -> T
     requires empty { T.count tape ≡ 0 }
 {
-    let Some((setup, rest)) = split_frame(bytes) else {
+    let Some((setup, rest)) = split_frame(came) else {
         panic!(rt; "no SETUP came");
     };
     assert!(rt; setup.len() == 68 && rest.len() == 11);
-    let mut server = unbegun(rt, alloc, Side::Server, tape, rest);
-    answer_by(rt, alloc, &mut server, setup, link);
+    let (server, mut caller) = connected(rt, alloc, Side::Server, tape);
+    let event = Event::opened_by(frame(rt, alloc, setup));
+    open(rt, &server, &mut caller, event);
+    turn(rt, alloc, &server, &mut caller, rest, link, 0);
+    ask(rt, &server, &mut caller, Call::TakeJob, Wanted::Hi);
+    close(rt, server, caller)
 }
 
 // What a client sends: two messages.
@@ -288,17 +225,25 @@ fn sent<R: Abort + Wait>(rt: &R, alloc: Global) -> Vec<u8> {
     let (near, mut heard) = streams(rt, alloc, 4096);
     let mut link = end_over(rt, alloc, Role::Client, near);
     ask_over(rt, alloc, Blank::new(), &mut link);
-    let mut bytes = Vec::new(alloc);
-    heard.drain(rt, &mut bytes);
+    let bytes = heard.drain(rt, alloc);
+    drop(heard);
+    let_go(link);
     assert!(rt; bytes.len() == FRAMES + 6);
     bytes
 }
 
-// Takes as many bytes as both frames have.
-fn take_frames<R: Abort, L: Link>(rt: &R, link: &mut L) -> [u8; FRAMES] {
+// A server takes as many bytes as both frames have, and then answers them.
+fn take_and_answer<R: Abort + Wait, T: Tape, L: Link>(
+    rt: &R,
+    alloc: Global,
+    tape: T,
+    link: &mut L,
+) -> T
+    requires empty { T.count tape ≡ 0 }
+{
     let mut buffer = [0; FRAMES];
-    assert!(rt; link.take(&mut buffer) == Taken::Took(FRAMES));
-    buffer
+    take(rt, link, &mut buffer, Taken::Took(FRAMES));
+    answer_over(rt, alloc, tape, &buffer, link)
 }
 
 #[test]
@@ -310,6 +255,8 @@ fn a_setup_and_a_request_are_two_messages(rt: HostRuntime) {
     let (mut told, far) = streams(&rt, alloc, 4096);
     told.feed(&rt, &bytes);
     let mut link = end_over(&rt, alloc, Role::Server, far);
-    let frames = take_frames(&rt, &mut link);
-    answer_over(&rt, alloc, Blank::new(), &frames, &mut link);
+    take_and_answer(&rt, alloc, Blank::new(), &mut link);
+    let_go(link);
+    drop(told);
+    drop(bytes);
 }

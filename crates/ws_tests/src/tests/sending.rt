@@ -2,7 +2,7 @@
 
 ghost use Rattle.std.specs.Prelude.{◌<◌};
 
-use super::stream::{end_over, streams};
+use super::stream::{end_over, give, let_go, streams};
 use outside::{Given, Link};
 use std::alloc::Global;
 use std::process::Abort;
@@ -55,7 +55,7 @@ fn give_pieces<R: Abort, L: Link>(rt: &R, link: &mut L, given: &[u8], most: usiz
     requires { 0 < most }
 {
     for piece in given.chunks(most) {
-        assert!(rt; link.give(piece) == Given::Took(piece.len()));
+        give(rt, link, piece, Given::Took(piece.len()));
     }
 }
 
@@ -65,13 +65,15 @@ fn play<R: Abort>(rt: &R, alloc: Global, row: &Row, most: usize)
     let (near, mut far) = streams(rt, alloc, 1024);
     let mut end = end_over(rt, alloc, row.role, near);
     give_pieces(rt, &mut end, row.given, most);
-    let mut gone = Vec::new(alloc);
-    far.drain(rt, &mut gone);
+    let gone = far.drain(rt, alloc);
     assert!(rt;
         gone.as_slice() == row.gone,
         "{}, in pieces of {most}",
         row.shows
     );
+    drop(gone);
+    drop(far);
+    let_go(end);
 }
 
 #[test]

@@ -1,5 +1,8 @@
 //! Streams in memory, and links over them.
 
+ghost use Rattle.std.specs.Prelude.{◌<◌, length};
+
+use outside::{Given, Link, Taken};
 use rtrb::{Consumer, Producer, RingBuffer};
 use std::alloc::Global;
 use std::io;
@@ -24,17 +27,19 @@ impl Stream {
         self.going = None;
     }
 
-    /// Reads what came, and appends it.
-    pub fn drain<R: Abort>(&mut self, rt: &R, bytes: &mut Vec<u8>) {
+    /// Reads what came.
+    pub fn drain<R: Abort>(&mut self, rt: &R, alloc: Global) -> Vec<u8> {
+        let mut bytes = Vec::new(alloc);
         let mut piece = [0; 4096];
         for _ in 0..10_000 {
             match self.coming.pop_partial_slice(&mut piece) {
-                0 => return,
+                0 => break,
                 count => bytes
                     .extend_from_slice(&piece[..count])
                     .expect(rt, "there is memory"),
             }
         }
+        bytes
     }
 
     /// Writes all of these bytes, for which there is room.
@@ -98,16 +103,42 @@ impl RandomSource for Zeros {
     }
 }
 
-/// The keys of a generator with a seed of zeros.
-pub fn keys<R: Abort>(rt: &R) -> ClientKeys {
+// The keys of a generator with a seed of zeros.
+fn keys<R: Abort>(rt: &R) -> ClientKeys {
     ClientKeys::seeded_by(&Zeros).expect(rt, "there are keys")
 }
 
-/// A link over a stream in memory. As a client it masks with those keys.
+/// A link over a stream in memory.
 pub type End = WsEnd<Stream, ClientKeys>;
 
-/// The link of that role over this stream, as a handshake leaves it.
-pub fn end_over<R: Abort>(rt: &R, alloc: Global, role: Role, stream: Stream) -> End {
+/// The link of that role over this stream, as a handshake leaves it. As a client it masks with those
+/// keys.
+pub fn end_over<R: Abort, S: Read + Write + Drop>(
+    rt: &R,
+    alloc: Global,
+    role: Role,
+    stream: S,
+) -> WsEnd<S, ClientKeys> {
     let socket = WebSocket::from_raw_socket(alloc, stream, keys(rt), role, Some(limits()));
     WsEnd::new(alloc, socket)
+}
+
+/// Lets a link go, but for its stream alone. Each trial ends so: a place where the whole link is let go
+/// is dear to prove.
+pub fn let_go<S: Read + Write + Drop>(end: WsEnd<S, ClientKeys>) {
+    drop(end.into_socket().into_inner());
+}
+
+/// Takes once, which is answered so.
+pub fn take<R: Abort, L: Link>(rt: &R, link: &mut L, buffer: &mut [u8], answer: Taken)
+    requires { 0 < length buffer.old }
+{
+    assert_eq!(rt; link.take(buffer), answer);
+}
+
+/// Gives these bytes at once, which is answered so.
+pub fn give<R: Abort, L: Link>(rt: &R, link: &mut L, bytes: &[u8], answer: Given)
+    requires { 0 < length bytes.now }
+{
+    assert_eq!(rt; link.give(bytes), answer);
 }

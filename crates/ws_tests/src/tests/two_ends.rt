@@ -1,6 +1,6 @@
 //! Two links over one stream in memory.
 
-use super::stream::{End, end_over, streams};
+use super::stream::{End, end_over, give, let_go, streams, take};
 use outside::{Given, Link, Taken};
 use std::alloc::Global;
 use std::process::Abort;
@@ -67,6 +67,7 @@ fn carry<R: Abort, A: Link, B: Link>(rt: &R, alloc: Global, from: &mut A, to: &m
         pull(rt, to, &mut taken);
     }
     assert!(rt; taken.as_slice() == FRAMES);
+    drop(taken);
     stalled
 }
 
@@ -77,6 +78,8 @@ fn cross<R: Abort>(rt: &R, alloc: Global, room: usize, stalls: bool) {
         carry(rt, alloc, &mut server, &mut client) == stalls,
         "down"
     );
+    let_go(client);
+    let_go(server);
 }
 
 #[test]
@@ -89,17 +92,19 @@ fn frames_cross_though_the_stream_keeps_few_bytes(rt: HostRuntime) {
 // The client sent a frame and a close: the server takes both, and then both are over.
 fn end_both<R: Abort, A: Link, B: Link>(rt: &R, client: &mut A, server: &mut B) {
     let mut buffer = [0; 8];
-    assert_eq!(rt; server.take(&mut buffer), Taken::Took(4));
-    assert_eq!(rt; server.take(&mut buffer), Taken::End);
-    assert_eq!(rt; client.take(&mut buffer), Taken::End);
-    assert_eq!(rt; server.give(b"\x00"), Given::Failed);
-    assert_eq!(rt; client.give(b"\x00"), Given::Failed);
+    take(rt, server, &mut buffer, Taken::Took(4));
+    take(rt, server, &mut buffer, Taken::End);
+    take(rt, client, &mut buffer, Taken::End);
+    give(rt, server, b"\x00", Given::Failed);
+    give(rt, client, b"\x00", Given::Failed);
 }
 
 #[test]
 fn a_close_ends_both_ends(rt: HostRuntime) {
     let (mut client, mut server) = two_ends(&rt, rt.alloc(), 4096);
-    assert_eq!(rt; client.give(b"\x00\x00\x01\x2a"), Given::Took(4));
+    give(&rt, &mut client, b"\x00\x00\x01\x2a", Given::Took(4));
     client.close();
     end_both(&rt, &mut client, &mut server);
+    let_go(client);
+    let_go(server);
 }
