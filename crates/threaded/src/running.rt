@@ -49,6 +49,15 @@ struct Work<T: Tape> {
     server_asks: Caller<T>,
 }
 
+/// What the four threads share.
+#[derive(Drop)]
+struct Stage<'e, T: Tape> {
+    alloc: Global,
+    script: &'e Script,
+    client: &'e Connection<T>,
+    server: &'e Connection<T>,
+}
+
 /// What the four threads hand back.
 #[derive(Drop)]
 pub(crate) struct Returned<T: Tape> {
@@ -74,6 +83,89 @@ fn run_in<
     R: Threads + Wait + Sync + 'e,
 >(
     scope: &Scope<'s, &'e ()>,
+    rt: &'e R,
+    stage: Stage<'e, T>,
+    work: Work<T>,
+) -> Result<Returned<T>, Work<T>>
+    requires asks { A.work ≡ Some work.client_asks }
+    requires other { B.work ≡ Some work.server_asks }
+    requires carries { C.work ≡ Some work.far }
+    requires near_of { work.near.caller.of ≡ stage.client.now }
+    requires far_of { work.far.caller.of ≡ stage.server.now }
+    requires asks_of { work.client_asks.of ≡ stage.client.now }
+    requires other_of { work.server_asks.of ≡ stage.server.now }
+    requires client { stage.client.now.settings.side ≡ sides.Client }
+    requires server { stage.server.now.settings.side ≡ sides.Server }
+    requires near_sound { IsSoundNear stage.client.now.settings work.near.conn work.near.pump }
+    requires far_sound { IsSound stage.server.now.settings work.far.knows }
+    ensures idle { IfErr result (λ w. w ≡ work) }
+    ensures client_asked { IfOk result (λ b. HasMade sides.Client stage.entry.script.now.lines
+        work.client_asks b.client_asked.caller b.client_asked.want) }
+    ensures server_asked { IfOk result (λ b. HasMade sides.Server stage.entry.script.now.lines
+        work.server_asks b.server_asked.caller b.server_asked.want) }
+    ensures near_stopped { IfOk result (λ b. IfErr b.near (λ k. IsOn work.near.caller k)) }
+    ensures near { IfOk result (λ b. IfOk b.near (λ c. IsOn work.near.caller c.caller
+        × SameProducer work.near.out c.out × SameConsumer work.near.from c.from
+        × IsSoundNear stage.entry.client.now.settings c.conn c.pump
+        × NearFollows (line.Open ∷ stage.entry.script.now.lines) work.near.caller c.caller
+        work.near.pump c.pump (sent work.near.out) (sent c.out)
+        (received work.near.from) (received c.from))) }
+    ensures far_stopped { IfOk result (λ b. IfErr b.far (λ k. IsOn work.far.caller k)) }
+    ensures far { IfOk result (λ b. IfOk b.far (λ c. IsOn work.far.caller c.caller
+        × SameProducer work.far.out c.out × SameConsumer work.far.from c.from
+        × IsSound stage.entry.server.now.settings c.knows
+        × FarFollows stage.entry.script.now.lines work.far.caller c.caller
+        work.far.knows c.knows (sent work.far.out) (sent c.out)
+        (received work.far.from) (received c.from))) }
+{
+    let Stage {
+        alloc,
+        script,
+        client,
+        server,
+    } = stage;
+    let Some(mut asking) = start_asking::<T, A, R>(scope, rt, alloc, client, Side::Client, script)
+    else {
+        return Err(work);
+    };
+    let Some(mut other) = start_asking::<T, B, R>(scope, rt, alloc, server, Side::Server, script)
+    else {
+        return Err(work);
+    };
+    let Some(mut carrying) = start_carrying::<T, C, R>(scope, rt, alloc, server, script) else {
+        return Err(work);
+    };
+    let Work {
+        mut near,
+        far,
+        client_asks,
+        server_asks,
+    } = work;
+    let opened = near.open(rt, alloc, client);
+    asking.hand(client_asks);
+    other.hand(server_asks);
+    carrying.hand(far);
+    let near = carry_near(rt, alloc, client, script, near, opened);
+    let client_asked = asking.take(rt, alloc, client, Side::Client, script);
+    let server_asked = other.take(rt, alloc, server, Side::Server, script);
+    let far = carrying.take(rt, alloc, server, script);
+    Ok(Returned {
+        near,
+        far,
+        client_asked,
+        server_asked,
+    })
+}
+
+// The same in a scope of its own.
+fn run_named<
+    'e,
+    T: Tape + Drop + Send,
+    A: Named<Caller<T>> + Send + Sync,
+    B: Named<Caller<T>> + Send + Sync,
+    C: Named<ServerCarrier<T>> + Send + Sync,
+    R: Threads + Wait + Sync,
+>(
     rt: &'e R,
     alloc: Global,
     script: &'e Script,
@@ -110,115 +202,45 @@ fn run_in<
         × FarFollows script.now.lines work.far.caller c.caller work.far.knows c.knows
         (sent work.far.out) (sent c.out) (received work.far.from) (received c.from))) }
 {
-    let Some(mut asking) = start_asking::<T, A, R>(scope, rt, alloc, client, Side::Client, script)
-    else {
-        return Err(work);
+    let stage = Stage {
+        alloc,
+        script,
+        client,
+        server,
     };
-    let Some(mut other) = start_asking::<T, B, R>(scope, rt, alloc, server, Side::Server, script)
-    else {
-        return Err(work);
-    };
-    let Some(mut carrying) = start_carrying::<T, C, R>(scope, rt, alloc, server, script) else {
-        return Err(work);
-    };
-    let Work {
-        mut near,
-        far,
-        client_asks,
-        server_asks,
-    } = work;
-    let opened = near.open(rt, alloc, client);
-    asking.hand(client_asks);
-    other.hand(server_asks);
-    carrying.hand(far);
-    let near = carry_near(rt, alloc, client, script, near, opened);
-    let client_asked = asking.take(rt, alloc, client, Side::Client, script);
-    let server_asked = other.take(rt, alloc, server, Side::Server, script);
-    let far = carrying.take(rt, alloc, server, script);
-    Ok(Returned {
-        near,
-        far,
-        client_asked,
-        server_asked,
-    })
-}
-
-// The same in a scope of its own.
-fn run_named<
-    T: Tape + Drop + Send,
-    A: Named<Caller<T>> + Send + Sync,
-    B: Named<Caller<T>> + Send + Sync,
-    C: Named<ServerCarrier<T>> + Send + Sync,
-    R: Threads + Wait + Sync,
->(
-    rt: &R,
-    alloc: Global,
-    script: &Script,
-    client: &Connection<T>,
-    server: &Connection<T>,
-    work: Work<T>,
-) -> Result<Returned<T>, Work<T>>
-    requires asks { A.work ≡ Some work.client_asks }
-    requires other { B.work ≡ Some work.server_asks }
-    requires carries { C.work ≡ Some work.far }
-    requires near_of { work.near.caller.of ≡ client.now }
-    requires far_of { work.far.caller.of ≡ server.now }
-    requires asks_of { work.client_asks.of ≡ client.now }
-    requires other_of { work.server_asks.of ≡ server.now }
-    requires client { client.now.settings.side ≡ sides.Client }
-    requires server { server.now.settings.side ≡ sides.Server }
-    requires near_sound { IsSoundNear client.now.settings work.near.conn work.near.pump }
-    requires far_sound { IsSound server.now.settings work.far.knows }
-    ensures idle { IfErr result (λ w. w ≡ work) }
-    ensures client_asked { IfOk result (λ b. HasMade sides.Client script.now.lines
-        work.client_asks b.client_asked.caller b.client_asked.want) }
-    ensures server_asked { IfOk result (λ b. HasMade sides.Server script.now.lines
-        work.server_asks b.server_asked.caller b.server_asked.want) }
-    ensures near_stopped { IfOk result (λ b. IfErr b.near (λ k. IsOn work.near.caller k)) }
-    ensures near { IfOk result (λ b. IfOk b.near (λ c. IsOn work.near.caller c.caller
-        × SameProducer work.near.out c.out × SameConsumer work.near.from c.from
-        × IsSoundNear client.now.settings c.conn c.pump
-        × NearFollows (line.Open ∷ script.now.lines) work.near.caller c.caller work.near.pump c.pump
-        (sent work.near.out) (sent c.out) (received work.near.from) (received c.from))) }
-    ensures far_stopped { IfOk result (λ b. IfErr b.far (λ k. IsOn work.far.caller k)) }
-    ensures far { IfOk result (λ b. IfOk b.far (λ c. IsOn work.far.caller c.caller
-        × SameProducer work.far.out c.out × SameConsumer work.far.from c.from
-        × IsSound server.now.settings c.knows
-        × FarFollows script.now.lines work.far.caller c.caller work.far.knows c.knows
-        (sent work.far.out) (sent c.out) (received work.far.from) (received c.from))) }
-{
     thread::scope(
         thread::scope_env(),
         rt,
-        |scope| -> Result<Returned<T>, Work<T>>
+        move |scope| -> Result<Returned<T>, Work<T>>
             requires { (A.work ≡ Some work.client_asks) × (B.work ≡ Some work.server_asks)
-                × (C.work ≡ Some work.far) × (work.near.caller.of ≡ client.now)
-                × (work.far.caller.of ≡ server.now) × (work.client_asks.of ≡ client.now)
-                × (work.server_asks.of ≡ server.now)
-                × (client.now.settings.side ≡ sides.Client)
-                × (server.now.settings.side ≡ sides.Server)
-                × IsSoundNear client.now.settings work.near.conn work.near.pump
-                × IsSound server.now.settings work.far.knows }
+                × (C.work ≡ Some work.far) × (work.near.caller.of ≡ stage.client.now)
+                × (work.far.caller.of ≡ stage.server.now)
+                × (work.client_asks.of ≡ stage.client.now)
+                × (work.server_asks.of ≡ stage.server.now)
+                × (stage.client.now.settings.side ≡ sides.Client)
+                × (stage.server.now.settings.side ≡ sides.Server)
+                × IsSoundNear stage.client.now.settings work.near.conn work.near.pump
+                × IsSound stage.server.now.settings work.far.knows }
             ensures { IfErr result (λ w. w ≡ work)
-                × IfOk result (λ b. HasMade sides.Client script.entry.now.lines
+                × IfOk result (λ b. HasMade sides.Client stage.entry.script.now.lines
                 work.client_asks b.client_asked.caller b.client_asked.want)
-                × IfOk result (λ b. HasMade sides.Server script.entry.now.lines
+                × IfOk result (λ b. HasMade sides.Server stage.entry.script.now.lines
                 work.server_asks b.server_asked.caller b.server_asked.want)
                 × IfOk result (λ b. IfErr b.near (λ k. IsOn work.near.caller k))
                 × IfOk result (λ b. IfOk b.near (λ c. IsOn work.near.caller c.caller
                 × SameProducer work.near.out c.out × SameConsumer work.near.from c.from
-                × IsSoundNear client.entry.now.settings c.conn c.pump
-                × NearFollows (line.Open ∷ script.entry.now.lines) work.near.caller c.caller
+                × IsSoundNear stage.entry.client.now.settings c.conn c.pump
+                × NearFollows (line.Open ∷ stage.entry.script.now.lines) work.near.caller c.caller
                 work.near.pump c.pump (sent work.near.out) (sent c.out)
                 (received work.near.from) (received c.from)))
                 × IfOk result (λ b. IfErr b.far (λ k. IsOn work.far.caller k))
                 × IfOk result (λ b. IfOk b.far (λ c. IsOn work.far.caller c.caller
                 × SameProducer work.far.out c.out × SameConsumer work.far.from c.from
-                × IsSound server.entry.now.settings c.knows
-                × FarFollows script.entry.now.lines work.far.caller c.caller
+                × IsSound stage.entry.server.now.settings c.knows
+                × FarFollows stage.entry.script.now.lines work.far.caller c.caller
                 work.far.knows c.knows (sent work.far.out) (sent c.out)
                 (received work.far.from) (received c.from))) }
-        { run_in::<T, A, B, C, R>(scope, rt, alloc, script, client, server, work) },
+        { run_in::<T, A, B, C, R>(scope, rt, stage, work) },
     )
 }
 

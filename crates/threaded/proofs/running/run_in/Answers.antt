@@ -11,14 +11,14 @@ use Rattle.threaded.proofs.running.run_in.Goals as goal
 
 pub returns-clause-near : goal.returns-clause-near
 returns-clause-near g c =
-    let lines = c.args.script.now.lines in
+    let lines = c.args.stage.script.now.lines in
     let was = c.args.work.near in
     let opened = c.open-opened in
     let mid = opened.new.self in
     let e = c.carry_near-near.ensures in
-    elim c.carry_near-near.result as (λ r. IfOk r (λ x. opened.result ≡ Ok tt) → IfOk r (λ x. IsOn mid.caller x.caller) → IfOk r (λ x. SameProducer mid.out x.out) → IfOk r (λ x. SameConsumer mid.from x.from) → IfOk r (λ x. IsSoundNear c.args.client.now.settings x.conn x.pump)
+    elim c.carry_near-near.result as (λ r. IfOk r (λ x. opened.result ≡ Ok tt) → IfOk r (λ x. IsOn mid.caller x.caller) → IfOk r (λ x. SameProducer mid.out x.out) → IfOk r (λ x. SameConsumer mid.from x.from) → IfOk r (λ x. IsSoundNear c.args.stage.client.now.settings x.conn x.pump)
     → IfOk r (λ x. NearFollows lines mid.caller x.caller mid.pump x.pump (sent mid.out) (sent x.out) (received mid.from) (received x.from))
-    → IfOk r (λ x. IsOn was.caller x.caller × SameProducer was.out x.out × SameConsumer was.from x.from × IsSoundNear c.args.client.now.settings x.conn x.pump × NearFollows (line.Open ∷ lines) was.caller x.caller was.pump x.pump (sent was.out) (sent x.out) (received was.from) (received x.from))) [
+    → IfOk r (λ x. IsOn was.caller x.caller × SameProducer was.out x.out × SameConsumer was.from x.from × IsSoundNear c.args.stage.client.now.settings x.conn x.pump × NearFollows (line.Open ∷ lines) was.caller x.caller was.pump x.pump (sent was.out) (sent x.out) (received was.from) (received x.from))) [
       | Ok x ↦ λ is same out from sound followed. (
         on_both was.caller mid.caller x.caller opened.ensures.same same,
         (ring_on was.out.end mid.out.end x.out.end opened.ensures.out.0 out.0, out.1 ∙ opened.ensures.out.1),
