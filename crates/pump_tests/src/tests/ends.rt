@@ -1,11 +1,10 @@
 //! A client with the defaults whose session is begun, so that its SETUP is due on connection 1, and
-//! a pump between it and a link in memory.
+//! a pump between it and a link in memory. An end is written for any tape, since a proof is dearer
+//! the more types a function knows.
 
-ghost use Rattle.std.specs.Prelude.{◌≡◌, ◌<◌, ◌≤◌};
+ghost use Rattle.std.specs.Prelude.{◌≡◌, ◌<◌, ◌≤◌, Ok};
 ghost use Rattle.rs_wire.specs.Calls.{CanBeAsked};
 ghost use Rattle.rs_wire.specs.declared.words.Side.TheVariants.{Client};
-ghost use Rattle.session_model.specs.Legal.{CanBring};
-ghost use Rattle.session_core.specs.Seen.{IsNoDrawEvent};
 
 use conn::{Caller, Connection};
 use outside::{After, MemClock, MemLink};
@@ -16,18 +15,28 @@ use session_core::Session;
 use std::alloc::Global;
 use std::process::Abort;
 use std::sync::Wait;
-use tape::{Answer, Entry, Event, Kept, Tape};
+use tape::{Answer, Event, Tape};
 
-/// A client, its pump, and the link and the clock of the pump.
-#[derive(Drop)]
-pub struct End {
-    connection: Connection<Kept>,
-    caller: Caller<Kept>,
+/// A client, its pump, and the link and the clock of the pump. It is never let go: each trial ends by
+/// [`close`](End::close).
+pub struct End<T: Tape> {
+    connection: Connection<T>,
+    caller: Caller<T>,
     pump: Pump,
     link: MemLink,
     clock: MemClock,
     ghost of: { caller.of ≡ connection },
     ghost limit: { pump.max_in ≡ connection.settings.max_in },
+}
+
+// What was made. A fault that has no words stops the test, and is not let go.
+fn made<R: Abort, T, E>(rt: &R, made: Result<T, E>) -> T
+    ensures { made ≡ Ok result }
+{
+    match made {
+        Ok(made) => made,
+        Err(_) => panic!(rt; "it is not made"),
+    }
 }
 
 // The defaults, but for a queue that is as small as it may be.
@@ -37,68 +46,33 @@ fn settings<R: Abort>(rt: &R, alloc: Global) -> Checked
     let mut settings = Settings::usual(alloc, Side::Client).expect(rt, "there is memory");
     settings.hold = 0;
     settings.slack = 0;
-    match check(settings) {
-        Ok(settings) => settings,
-        Err(_) => panic!(rt; "the settings are right"),
-    }
+    made(rt, check(settings))
 }
 
-fn connected<R: Abort>(rt: &R, alloc: Global) -> (Connection<Kept>, Caller<Kept>)
+fn connected<R: Abort, T: Tape>(rt: &R, alloc: Global, tape: T) -> (Connection<T>, Caller<T>)
+    requires empty { T.count tape ≡ 0 }
     ensures of { result.1.of ≡ result.0 }
     ensures side { result.0.settings.side ≡ Client }
 {
-    let session = match Session::new(alloc, settings(rt, alloc), Kept::new(alloc)) {
-        Ok(session) => session,
-        Err(_) => panic!(rt; "there is memory"),
-    };
-    match Connection::new(alloc, session) {
-        Ok(made) => made,
-        Err(_) => panic!(rt; "there is memory"),
-    }
+    let session = made(rt, Session::new(alloc, settings(rt, alloc), tape));
+    made(rt, Connection::new(alloc, session))
 }
-
-// Lets an answer go. Each place where that is done is dear to prove.
-fn let_go(_answer: Answer) {}
 
 // Whether the one connection is opened.
 fn is_opened(answer: &Answer) -> bool {
     matches!(answer, Answer::Opened(1))
 }
 
-// Brings the event. Whether it opens the one connection.
-fn opens<R: Wait>(
-    rt: &R,
-    connection: &Connection<Kept>,
-    caller: &mut Caller<Kept>,
-    event: Event,
-) -> bool
-    requires of { caller.old.of ≡ connection.now }
-    requires fair { CanBring connection.now.settings event }
-    requires no_draw { IsNoDrawEvent event }
-    ensures of { caller.new.of ≡ connection.now }
-{
-    let answer = connection.bring(rt, caller, event);
-    let is_opened = is_opened(&answer);
-    let_go(answer);
-    is_opened
-}
-
 // Begins the session of a client.
-fn begin<R: Abort + Wait>(rt: &R, connection: &Connection<Kept>, caller: &mut Caller<Kept>)
+fn begin<R: Abort + Wait, T: Tape>(rt: &R, connection: &Connection<T>, caller: &mut Caller<T>)
     requires of { caller.old.of ≡ connection.now }
     requires side { connection.now.settings.side ≡ Client }
     ensures of { caller.new.of ≡ connection.now }
 {
-    assert!(rt; opens(rt, connection, caller, Event::opening()));
-}
-
-// A connection whose session is begun, and its caller.
-fn begun<R: Abort + Wait>(rt: &R, alloc: Global) -> (Connection<Kept>, Caller<Kept>)
-    ensures of { result.1.of ≡ result.0 }
-{
-    let (connection, mut caller) = connected(rt, alloc);
-    begin(rt, &connection, &mut caller);
-    (connection, caller)
+    let answer = connection.bring(rt, caller, Event::opening());
+    let is_opened = is_opened(&answer);
+    drop(answer);
+    assert!(rt; is_opened);
 }
 
 /// A link that gives these bytes, moves `most` in a call, and fails in the call of that number; 0
@@ -142,36 +116,21 @@ fn started(answer: &Answer) -> Option<u32> {
     }
 }
 
-fn is_tick(event: &Event, at: u64) -> bool {
-    match event {
-        Event::Tick { now } => *now == at,
-        _ => false,
-    }
-}
-
-fn is_dead(answer: &Answer) -> bool {
-    matches!(answer, Answer::Dead(0))
-}
-
-// Whether the entry is that of a tick at this moment that found the peer dead.
-fn is_deadly_tick(entry: Option<&Entry>, at: u64) -> bool {
-    match entry {
-        Some(entry) => entry.who == 0 && is_tick(&entry.event, at) && is_dead(&entry.answer),
-        None => false,
-    }
-}
-
-impl End {
-    /// An end with this link, whose pump is for connection `conn`. The first tick is at 0, and each
-    /// further one at `later`, in milliseconds.
+impl<T: Tape> End<T> {
+    /// An end with this link and this tape, whose pump is for connection `conn`. The first tick is at
+    /// 0, and each further one at `later`, in milliseconds.
     pub fn new<R: Abort + Wait>(
         rt: &R,
         alloc: Global,
         conn: u64,
         link: MemLink,
         later: u64,
-    ) -> End {
-        let (connection, caller) = begun(rt, alloc);
+        tape: T,
+    ) -> End<T>
+        requires empty { T.count tape ≡ 0 }
+    {
+        let (connection, mut caller) = connected(rt, alloc, tape);
+        begin(rt, &connection, &mut caller);
         let reader = Reader::new(alloc, connection.max_in());
         let pump = Pump::new(alloc, conn, reader).expect(rt, "there is memory");
         let clock = clock(rt, alloc, later);
@@ -229,46 +188,32 @@ impl End {
         self.pump.gave();
     }
 
-    // Makes this call. The id of the stream that it starts.
-    fn starts<R: Wait>(&mut self, rt: &R, call: &Call) -> Option<u32>
-        requires { CanBeAsked call.now }
-    {
-        let answer = self.connection.call(rt, &mut self.caller, call);
-        let started = started(&answer);
-        let_go(answer);
-        started
-    }
-
     /// Makes a fire-and-forget request of this many bytes. The id of the stream that it starts.
     pub fn ask<R: Abort + Wait>(&mut self, rt: &R, alloc: Global, length: usize) -> Option<u32>
         requires { length ≤ 16000000 }
     {
         let call = request(rt, alloc, length);
-        self.starts(rt, &call)
+        let answer = self.connection.call(rt, &mut self.caller, &call);
+        let started = started(&answer);
+        drop(answer);
+        drop(call);
+        started
     }
 
-    // The session, once the connection is closed.
-    fn close<R: Abort>(self, rt: &R) -> Session<Kept> {
-        match self.connection.close(self.caller) {
-            Ok(session) => session,
-            Err(_) => panic!(rt; "all parts are there"),
-        }
+    /// The tape, once the connection is closed.
+    pub fn close<R: Abort>(self, rt: &R) -> T {
+        let End {
+            connection,
+            caller,
+            pump,
+            link,
+            clock,
+        } = self;
+        drop(pump);
+        drop(link);
+        drop(clock);
+        made(rt, connection.close(caller)).into_tape()
     }
-
-    /// How many entries the session has.
-    pub fn count_entries<R: Abort>(self, rt: &R) -> u64 {
-        self.close(rt).into_tape().count()
-    }
-
-    /// The entry of this number, from 0, is a tick of the one caller at this moment, which found the
-    /// peer dead from which nothing came since 0.
-    pub fn compare_tick<R: Abort>(self, rt: &R, index: u64, now: u64) {
-        let tape = self.close(rt).into_tape();
-        assert!(rt; is_deadly_tick(tape.entry(index), now));
-    }
-
-    /// Lets the end go. It is done here alone, since each place where it is done is dear to prove.
-    pub fn let_go(self) {}
 
     /// How many bytes were taken from the link.
     pub fn taken(&self) -> usize {

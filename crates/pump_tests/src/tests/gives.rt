@@ -1,6 +1,6 @@
 //! Short gives, and links that fail.
 
-ghost use Rattle.std.specs.Prelude.{◌<◌};
+ghost use Rattle.std.specs.Prelude.{◌≡◌, ◌<◌};
 
 use super::ends::{End, compare, link};
 use crate::SETUP_BYTES;
@@ -9,34 +9,34 @@ use pump::Turned;
 use std::alloc::Global;
 use std::process::Abort;
 use std::sync::Wait;
+use tape::{Blank, Tape};
 
-// The end whose link was given the SETUP, `most` bytes in a call, until nothing was left to move.
-fn give_all<R: Abort + Wait>(rt: &R, alloc: Global, most: u32) -> End
-    requires { 0 < most }
+// The SETUP as a link is given it, `most` bytes in a call, until nothing is left to move.
+fn give_all<R: Abort + Wait, T: Tape + Drop>(rt: &R, alloc: Global, tape: T, most: u32) -> Vec<u8>
+    requires some { 0 < most }
+    requires empty { T.count tape ≡ 0 }
 {
     let link = link(rt, alloc, &[], After::Lulls, most, 0);
-    let mut end = End::new(rt, alloc, 1, link, 0);
+    let mut end = End::new(rt, alloc, 1, link, 0, tape);
     compare(rt, end.run(rt, 2), Turned::Lull);
     assert!(rt; end.left() == 0);
-    end
+    let given = Vec::from_slice(alloc, end.given()).expect(rt, "there is memory");
+    drop(end.close(rt));
+    given
 }
 
 // Each length of a give, up to the whole draw, gives the link the same bytes.
-fn give_in_pieces<R: Abort + Wait>(rt: &R, alloc: Global) {
-    let whole = give_all(rt, alloc, SETUP_BYTES);
-    assert!(rt; whole.given().len() == SETUP_BYTES as usize);
-    assert!(rt; whole.given().starts_with(&[0, 0, 68, 0, 0, 0, 0, 4]));
-    for most in 1..SETUP_BYTES {
-        let pieces = give_all(rt, alloc, most);
-        assert!(rt; pieces.given() == whole.given());
-        pieces.let_go();
-    }
-    whole.let_go();
-}
-
 #[test]
 fn a_short_give_of_any_length_loses_nothing(rt: HostRuntime) {
-    give_in_pieces(&rt, rt.alloc());
+    let whole = give_all(&rt, rt.alloc(), Blank::new(), SETUP_BYTES);
+    assert!(rt; whole.len() == SETUP_BYTES as usize);
+    assert!(rt; whole.starts_with(&[0, 0, 68, 0, 0, 0, 0, 4]));
+    for most in 1..SETUP_BYTES {
+        let pieces = give_all(&rt, rt.alloc(), Blank::new(), most);
+        assert!(rt; pieces == whole);
+        drop(pieces);
+    }
+    drop(whole);
 }
 
 /// The most bytes of one call of a link that fails.
@@ -58,18 +58,27 @@ const FAILS: [(u64, usize, Turned); 9] = [
 ];
 
 // What was drawn and not given is left.
-fn fail_at<R: Abort + Wait>(rt: &R, alloc: Global, call: u64, given: usize, wanted: Turned) {
+fn fail_at<R: Abort + Wait, T: Tape>(
+    rt: &R,
+    alloc: Global,
+    tape: T,
+    call: u64,
+    given: usize,
+    wanted: Turned,
+) -> T
+    requires empty { T.count tape ≡ 0 }
+{
     let link = link(rt, alloc, &[], After::Lulls, PIECE, call);
-    let mut end = End::new(rt, alloc, 1, link, 0);
+    let mut end = End::new(rt, alloc, 1, link, 0, tape);
     compare(rt, end.run(rt, 2), wanted);
     assert!(rt; end.given().len() == given);
     assert!(rt; end.left().saturating_add(given) == SETUP_BYTES as usize);
-    end.let_go();
+    end.close(rt)
 }
 
 #[test]
 fn a_link_that_fails_at_any_call_is_a_fault(rt: HostRuntime) {
     for (call, given, wanted) in FAILS {
-        fail_at(&rt, rt.alloc(), call, given, wanted);
+        fail_at(&rt, rt.alloc(), Blank::new(), call, given, wanted);
     }
 }

@@ -1,5 +1,7 @@
 //! The halves of a pump, whose bytes are carried by other means than a link.
 
+ghost use Rattle.std.specs.Prelude.{◌≡◌};
+
 use super::ends::{End, link};
 use crate::SETUP_BYTES;
 use outside::After;
@@ -7,6 +9,7 @@ use pump::Brought;
 use std::alloc::Global;
 use std::process::Abort;
 use std::sync::Wait;
+use tape::{Blank, Tape};
 
 /// A frame of 3 bytes, which has no whole header: rule 1 (RSocket 1.0, "Frame Header Format").
 const SHORT: &[u8] = &[0, 0, 3, 1, 2, 3];
@@ -16,14 +19,18 @@ const SHORT: &[u8] = &[0, 0, 3, 1, 2, 3];
 const ERROR_BYTES: usize = 22;
 
 // An end whose link does nothing.
-fn idle<R: Abort + Wait>(rt: &R, alloc: Global, conn: u64) -> End {
+fn idle<R: Abort + Wait, T: Tape>(rt: &R, alloc: Global, conn: u64, tape: T) -> End<T>
+    requires empty { T.count tape ≡ 0 }
+{
     let link = link(rt, alloc, &[], After::Lulls, 1, 0);
-    End::new(rt, alloc, conn, link, 0)
+    End::new(rt, alloc, conn, link, 0, tape)
 }
 
 // Draws at most `most` bytes in a call, until nothing is queued.
-fn drawn_by<R: Abort + Wait>(rt: &R, alloc: Global, most: usize) -> Vec<u8> {
-    let mut end = idle(rt, alloc, 1);
+fn drawn_by<R: Abort + Wait, T: Tape + Drop>(rt: &R, alloc: Global, tape: T, most: usize) -> Vec<u8>
+    requires empty { T.count tape ≡ 0 }
+{
+    let mut end = idle(rt, alloc, 1, tape);
     let mut bytes = Vec::new(alloc);
     for _ in 0..SETUP_BYTES {
         let brought = end.draw(rt, most);
@@ -33,38 +40,47 @@ fn drawn_by<R: Abort + Wait>(rt: &R, alloc: Global, most: usize) -> Vec<u8> {
             break;
         }
     }
-    end.let_go();
+    drop(end.close(rt));
     bytes
 }
 
 #[test]
 fn draws_of_any_length_draw_the_same_bytes(rt: HostRuntime) {
-    let whole = drawn_by(&rt, rt.alloc(), 1_000_000);
+    let whole = drawn_by(&rt, rt.alloc(), Blank::new(), 1_000_000);
     assert!(rt; whole.len() == SETUP_BYTES as usize);
     for most in [1, 2, 30, 70, 71, 72] {
-        assert!(rt; drawn_by(&rt, rt.alloc(), most) == whole);
+        let bytes = drawn_by(&rt, rt.alloc(), Blank::new(), most);
+        assert!(rt; bytes == whole);
+        drop(bytes);
     }
-    assert!(rt; drawn_by(&rt, rt.alloc(), 0).is_empty());
+    let none = drawn_by(&rt, rt.alloc(), Blank::new(), 0);
+    assert!(rt; none.is_empty());
+    drop(none);
+    drop(whole);
 }
 
 // Nothing is drawn while drawn bytes are left.
-fn draw_once<R: Abort + Wait>(rt: &R, alloc: Global) {
-    let mut end = idle(rt, alloc, 1);
+fn draw_once<R: Abort + Wait, T: Tape>(rt: &R, alloc: Global, tape: T) -> T
+    requires empty { T.count tape ≡ 0 }
+{
+    let mut end = idle(rt, alloc, 1, tape);
     assert!(rt; end.draw(rt, 10) == Brought::Noted);
     assert!(rt; end.left() == 10);
     assert!(rt; end.draw(rt, 10) == Brought::Nothing);
     assert!(rt; end.left() == 10);
-    end.let_go();
+    end.close(rt)
 }
 
 #[test]
 fn nothing_is_drawn_while_bytes_are_left(rt: HostRuntime) {
-    draw_once(&rt, rt.alloc());
+    draw_once(&rt, rt.alloc(), Blank::new());
 }
 
 // What is fed comes once it is whole, and after bytes that are no frame nothing comes.
-fn feed_in_parts<R: Abort + Wait>(rt: &R, alloc: Global) {
-    let mut end = idle(rt, alloc, 1);
+fn feed_in_parts<R: Abort + Wait, T: Tape>(rt: &R, alloc: Global, tape: T) -> T
+    requires empty { T.count tape ≡ 0 }
+{
+    let mut end = idle(rt, alloc, 1, tape);
     let mut bytes = Vec::new(alloc);
     for byte in SHORT {
         assert!(rt; end.hear(rt) == Brought::Nothing);
@@ -76,25 +92,28 @@ fn feed_in_parts<R: Abort + Wait>(rt: &R, alloc: Global) {
     assert!(rt; end.draw(rt, 1_000) == Brought::Noted);
     end.carry(rt, &mut bytes);
     assert!(rt; bytes.len() == SETUP_BYTES as usize + ERROR_BYTES);
-    end.let_go();
+    drop(bytes);
+    end.close(rt)
 }
 
 #[test]
 fn what_is_fed_comes_once_it_is_whole(rt: HostRuntime) {
-    feed_in_parts(&rt, rt.alloc());
+    feed_in_parts(&rt, rt.alloc(), Blank::new());
 }
 
 // Both halves of a pump of another connection are told which one is live.
-fn stray<R: Abort + Wait>(rt: &R, alloc: Global) {
-    let mut end = idle(rt, alloc, 2);
+fn stray<R: Abort + Wait, T: Tape>(rt: &R, alloc: Global, tape: T) -> T
+    requires empty { T.count tape ≡ 0 }
+{
+    let mut end = idle(rt, alloc, 2, tape);
     assert!(rt; end.draw(rt, 1_000) == Brought::Displaced(1));
     end.feed(rt, SHORT);
     assert!(rt; end.hear(rt) == Brought::Displaced(1));
     assert!(rt; end.left() == 0);
-    end.let_go();
+    end.close(rt)
 }
 
 #[test]
 fn another_connection_is_live(rt: HostRuntime) {
-    stray(&rt, rt.alloc());
+    stray(&rt, rt.alloc(), Blank::new());
 }

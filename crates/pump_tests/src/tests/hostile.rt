@@ -1,11 +1,14 @@
 //! A peer that sends on while its frames find no room in the queue.
 
+ghost use Rattle.std.specs.Prelude.{◌≡◌};
+
 use super::ends::{End, compare, link};
 use outside::After;
 use pump::Turned;
 use std::alloc::Global;
 use std::process::Abort;
 use std::sync::Wait;
+use tape::{Blank, Tape};
 
 /// How many bytes may be queued: the greatest frame, and as much again as a request of 1,024 bytes.
 const OUT_ROOM: u64 = 16_778_239;
@@ -32,9 +35,11 @@ const CANCELS: &[u8] = &[
 const CANCEL: usize = 9;
 
 // An end with a full queue, whose first piece is drawn.
-fn full<R: Abort + Wait>(rt: &R, alloc: Global) -> End {
+fn full<R: Abort + Wait, T: Tape>(rt: &R, alloc: Global, tape: T) -> End<T>
+    requires empty { T.count tape ≡ 0 }
+{
     let link = link(rt, alloc, CANCELS, After::Lulls, 1, 0);
-    let mut end = End::new(rt, alloc, 1, link, 0);
+    let mut end = End::new(rt, alloc, 1, link, 0, tape);
     assert!(rt; end.ask(rt, alloc, FIRST) == Some(1));
     assert!(rt; end.ask(rt, alloc, SECOND) == Some(3));
     end.turn(rt);
@@ -44,8 +49,10 @@ fn full<R: Abort + Wait>(rt: &R, alloc: Global) -> End {
 }
 
 // The first frame waits, and no byte is taken after it.
-fn flood<R: Abort + Wait>(rt: &R, alloc: Global) {
-    let mut end = full(rt, alloc);
+fn flood<R: Abort + Wait, T: Tape>(rt: &R, alloc: Global, tape: T) -> T
+    requires empty { T.count tape ≡ 0 }
+{
+    let mut end = full(rt, alloc, tape);
     for _ in 2..CANCEL {
         compare(rt, end.turn(rt), Turned::Moved { given: 1, taken: 1 });
     }
@@ -53,10 +60,10 @@ fn flood<R: Abort + Wait>(rt: &R, alloc: Global) {
         compare(rt, end.turn(rt), Turned::Busy(OUT_ROOM));
         assert!(rt; end.taken() == CANCEL);
     }
-    end.let_go();
+    end.close(rt)
 }
 
 #[test]
 fn nothing_is_taken_while_a_frame_waits(rt: HostRuntime) {
-    flood(&rt, rt.alloc());
+    flood(&rt, rt.alloc(), Blank::new());
 }

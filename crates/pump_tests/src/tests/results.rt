@@ -1,5 +1,7 @@
 //! Each result of a turn once, but for those that take 2^63 entries, a full queue or no memory.
 
+ghost use Rattle.std.specs.Prelude.{◌≡◌};
+
 use super::ends::{End, compare, link};
 use outside::After;
 use pump::Turned;
@@ -7,6 +9,7 @@ use rs_wire::{Cause, Rule};
 use std::alloc::Global;
 use std::process::Abort;
 use std::sync::Wait;
+use tape::{Answer, Blank, Entry, Event, Kept, Tape};
 
 /// One trial: a session whose SETUP is due, a pump, and what it comes to after some turns.
 #[derive(Clone, Copy)]
@@ -100,52 +103,82 @@ const ROWS: [Row; 7] = [
     },
 ];
 
-fn turn_of<R: Abort + Wait>(rt: &R, alloc: Global, row: Row) {
+fn turn_of<R: Abort + Wait, T: Tape>(rt: &R, alloc: Global, tape: T, row: Row) -> T
+    requires empty { T.count tape ≡ 0 }
+{
     let link = link(rt, alloc, row.bytes, row.after, MOST, 0);
-    let mut end = End::new(rt, alloc, row.conn, link, row.later);
+    let mut end = End::new(rt, alloc, row.conn, link, row.later, tape);
     for _ in 0..row.turns {
         end.turn(rt);
     }
     compare(rt, end.turn(rt), row.wanted);
     assert!(rt; end.given().len() == row.given);
     compare(rt, end.turn(rt), row.then);
-    end.let_go();
+    end.close(rt)
 }
 
 #[test]
 fn each_result_has_its_cause(rt: HostRuntime) {
     for row in ROWS {
-        turn_of(&rt, rt.alloc(), row);
+        turn_of(&rt, rt.alloc(), Blank::new(), row);
+    }
+}
+
+fn is_tick(event: &Event, at: u64) -> bool {
+    match event {
+        Event::Tick { now } => *now == at,
+        _ => false,
+    }
+}
+
+fn is_dead(answer: &Answer) -> bool {
+    matches!(answer, Answer::Dead(0))
+}
+
+// Whether the entry is that of a tick of the one caller at this moment, which found the peer dead from
+// which nothing came since 0.
+fn is_deadly_tick(entry: Option<&Entry>, at: u64) -> bool {
+    match entry {
+        Some(entry) => entry.who == 0 && is_tick(&entry.event, at) && is_dead(&entry.answer),
+        None => false,
     }
 }
 
 // The tick at the later moment has its entry: after the opening, a tick at 0 and a draw it is the
 // fourth.
-fn die<R: Abort + Wait>(rt: &R, alloc: Global) {
+fn die<R: Abort + Wait, T: Tape>(rt: &R, alloc: Global, tape: T) -> T
+    requires empty { T.count tape ≡ 0 }
+{
     let link = link(rt, alloc, &[], After::Lulls, MOST, 0);
-    let mut end = End::new(rt, alloc, 1, link, 90_000);
+    let mut end = End::new(rt, alloc, 1, link, 90_000, tape);
     end.turn(rt);
     compare(rt, end.turn(rt), Turned::Dead(0));
-    end.compare_tick(rt, 3, 90_000);
+    let tape = end.close(rt);
+    assert!(rt; is_deadly_tick(tape.entry(3), 90_000));
+    tape
 }
 
 #[test]
 fn a_dead_peer_is_found_by_a_tick_that_has_its_entry(rt: HostRuntime) {
-    die(&rt, rt.alloc());
+    drop(die(&rt, rt.alloc(), Kept::new(rt.alloc())));
 }
 
 // The first turn moves what is due, and each further one lulls and leaves the entry of its tick. The
 // opening, the first tick and the draw are three entries more.
-fn run_for<R: Abort + Wait>(rt: &R, alloc: Global, lulls: u64, turns: u64) {
+fn run_for<R: Abort + Wait, T: Tape>(rt: &R, alloc: Global, tape: T, lulls: u64, turns: u64) -> T
+    requires empty { T.count tape ≡ 0 }
+{
     let link = link(rt, alloc, &[], After::Lulls, MOST, 0);
-    let mut end = End::new(rt, alloc, 1, link, 0);
+    let mut end = End::new(rt, alloc, 1, link, 0, tape);
     compare(rt, end.run(rt, lulls), Turned::Lull);
-    assert!(rt; end.count_entries(rt) == turns.saturating_add(3));
+    let tape = end.close(rt);
+    assert!(rt; tape.count() == turns.saturating_add(3));
+    tape
 }
 
 #[test]
 fn a_run_ends_at_the_lull_of_its_number(rt: HostRuntime) {
     for (lulls, turns) in [(0, 1), (1, 1), (2, 2), (7, 7)] {
-        run_for(&rt, rt.alloc(), lulls, turns);
+        run_for(&rt, rt.alloc(), Blank::new(), lulls, turns);
     }
 }
