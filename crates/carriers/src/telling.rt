@@ -42,6 +42,7 @@ pub fn tell<T: Tape, R: Wait>(
     let answer = connection.bring(rt, caller, event);
     caller.legal();
     if !answer.leaves_entry() {
+        drop(answer);
         return Err(Stop::OutOfMemory);
     }
     Ok(answer)

@@ -32,7 +32,9 @@ fn ask<T: Tape, R: Wait>(
     ensures asked { OnOk result (HasAsked caller.old (call.now ∷ []) caller.new.front) }
 {
     let answer = connection.call(rt, caller, call);
-    if answer.is_out_of_memory() {
+    let starved = answer.is_out_of_memory();
+    drop(answer);
+    if starved {
         return Err(OutOfMemory);
     }
     Ok(())
@@ -122,7 +124,9 @@ fn ask_line<T: Tape, R: Wait>(
                 return Ok(());
             }
             let call = item(alloc, *stream, *size)?;
-            ask_often(rt, connection, caller, &call, count.get())
+            let asked = ask_often(rt, connection, caller, &call, count.get());
+            drop(call);
+            asked
         }
         Line::Up { .. }
         | Line::Down { .. }
