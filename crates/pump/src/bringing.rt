@@ -96,7 +96,9 @@ pub(crate) fn bring_event<T: Tape, R: Wait>(
         caller.new.front }
 {
     let answer = connection.bring(rt, caller, event);
-    brought_by(&answer)
+    let brought = brought_by(&answer);
+    drop(answer);
+    brought
 }
 
 /// Brings a tick with the moment that the clock gives.
@@ -113,5 +115,7 @@ pub(crate) fn tick<T: Tape, K: Clock, R: Wait>(
 {
     let now = clock.now();
     let answer = connection.bring(rt, caller, Event::Tick { now });
-    brought_by(&answer)
+    let brought = brought_by(&answer);
+    drop(answer);
+    brought
 }

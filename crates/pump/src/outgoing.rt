@@ -133,7 +133,9 @@ impl Outgoing {
         let answer = draw_first(rt, connection, caller, conn, &mut self.bytes, room);
         self.from = 0;
         self.to = count_drawn(&answer) as usize;
-        brought_by(&answer)
+        let brought = brought_by(&answer);
+        drop(answer);
+        brought
     }
 
     /// Gives the link what it takes of the bytes, where there are any.
