@@ -42,13 +42,19 @@ fn digits(alloc: Global, word: &str) -> Result<Blob> {
     Ok(read_hex(alloc, word.as_bytes(), b'-')?)
 }
 
+// The first byte of these digits.
+fn first_byte(alloc: Global, word: &str) -> Result<u8> {
+    let bytes = digits(alloc, word)?;
+    let first = bytes.as_slice().first().copied();
+    drop(bytes);
+    first.context("no byte")
+}
+
 // So many copies of the byte of these digits.
 fn copied(alloc: Global, once: &str, count: &str) -> Result<Blob> {
-    let once = digits(alloc, once)?;
-    let byte = once.as_slice().first().copied().context("no byte")?;
-    let mut bytes = Vec::new(alloc);
-    bytes.resize(copies(count)? as usize, byte)?;
-    Ok(Blob::from_vec(bytes))
+    let byte = first_byte(alloc, once)?;
+    let count = copies(count)?;
+    Ok(Blob::from_vec(vec![in alloc; byte; count as usize]?))
 }
 
 /// A part: bytes by their digits, `-` for none, or `68*100` for a hundred of the byte 0x68.
@@ -61,15 +67,16 @@ pub fn part(alloc: Global, word: &str) -> Result<Blob> {
 
 /// A message: the part of its content, or those of its metadata and its content with `:` between.
 pub fn message(alloc: Global, word: &str) -> Result<Message> {
-    match word.split_once(':') {
-        Some((metadata, content)) => Ok(Message {
-            metadata: Some(part(alloc, metadata)?),
-            content: part(alloc, content)?,
-        }),
-        None => Ok(Message {
-            metadata: None,
-            content: part(alloc, word)?,
-        }),
+    let (metadata, content) = match word.split_once(':') {
+        Some((metadata, content)) => (Some(part(alloc, metadata)?), content),
+        None => (None, word),
+    };
+    match part(alloc, content) {
+        Ok(content) => Ok(Message { metadata, content }),
+        Err(error) => {
+            drop(metadata);
+            Err(error)
+        }
     }
 }
 
@@ -85,14 +92,20 @@ fn push_word(line: &mut Vec<u8>, word: &str) -> Result<()> {
     Ok(())
 }
 
-/// The frame of a line, given as its words, in which `68*100` is a hundred of the byte 0x68.
-pub fn frame(alloc: Global, words: &[&str]) -> Result<Frame> {
-    let mut line = Vec::new(alloc);
+// Appends the words of the line of a frame, with a space between two.
+fn push_words(line: &mut Vec<u8>, words: &[&str]) -> Result<()> {
     for (index, word) in words.iter().enumerate() {
         if index > 0 {
             line.push(b' ')?;
         }
-        push_word(&mut line, word)?;
+        push_word(line, word)?;
     }
+    Ok(())
+}
+
+/// The frame of a line, given as its words, in which `68*100` is a hundred of the byte 0x68.
+pub fn frame(alloc: Global, words: &[&str]) -> Result<Frame> {
+    let mut line = Vec::new(alloc);
+    push_words(&mut line, words)?;
     Ok(read_line(alloc, &line)?)
 }

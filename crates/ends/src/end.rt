@@ -1,19 +1,17 @@
 //! One session, to which rows are brought in one way.
 
 ghost use Rattle.std.specs.Prelude.{◌≡◌};
-ghost use Rattle.rs_wire.specs.Calls.{CanBeAsked};
 ghost use Rattle.rs_wire.specs.Settings.{IsChecked};
 ghost use Rattle.session_model.specs.Legal.{CanBring};
 ghost use Rattle.session_core.specs.Seen.{IsNoDrawEvent};
-ghost use Rattle.tape.specs.declared.event.Event.TheVariants as events;
 
 use crate::answers::{put_answer, put_cause, put_part};
 use crate::events::is_act;
 use crate::row::Row;
 use anyhow::{Result, bail};
-use rs_wire::{Call, Checked};
-use session_core::Session;
-use std::alloc::Global;
+use rs_wire::Checked;
+use session_core::{Counts, Session};
+use std::alloc::{AllocError, Global};
 use std::fmt::Write;
 use tape::{Answer, Event, Tape};
 
@@ -38,17 +36,17 @@ pub struct End<T: Tape> {
     drawn: Vec<u8>,
 }
 
-// The answer to a call, which is not copied where the session answers it so.
-fn ask<T: Tape>(session: &mut Session<T>, event: &Event, call: &Call) -> Answer
-    requires asked { event.now ≡ events.Asked call.now }
+// The answer to an event, of which a call is not copied where the session answers it so.
+fn ask<T: Tape>(session: &mut Session<T>, event: &Event) -> Answer
     requires fair { CanBring session.old.settings event.now }
     requires no_draw { IsNoDrawEvent event.now }
-    requires askable { CanBeAsked call.now }
 {
-    match session.ask(WHO, call) {
-        Some(answer) => answer,
-        None => session.step(WHO, event),
+    if let Event::Asked(call) = event {
+        if let Some(answer) = session.ask(WHO, call) {
+            return answer;
+        }
     }
+    session.step(WHO, event)
 }
 
 // The answer to an event.
@@ -61,10 +59,10 @@ fn act<T: Tape>(
     if !is_act(session.settings().settings(), event) {
         bail!("it cannot happen at this end");
     }
-    match (way, event) {
-        (Way::Bring, _) => Ok(session.bring(WHO, event.copy(alloc)?)),
-        (Way::Ask, Event::Asked(call)) => Ok(ask(session, event, call)),
-        _ => Ok(session.step(WHO, event)),
+    match way {
+        Way::Step => Ok(session.step(WHO, event)),
+        Way::Bring => Ok(session.bring(WHO, event.copy(alloc)?)),
+        Way::Ask => Ok(ask(session, event)),
     }
 }
 
@@ -78,9 +76,6 @@ fn is_answer_to(answer: &Answer, event: &Event) -> bool {
         _ => true,
     }
 }
-
-// Lets an answer go. Each place where that is done is dear to prove.
-fn let_go(_answer: Answer) {}
 
 // The answer to a draw. The bytes drawn are appended to those given.
 fn draw<T: Tape>(
@@ -97,53 +92,36 @@ fn draw<T: Tape>(
     let answer = session.draw(WHO, conn, &mut buffer);
     let count = answer.drawn().unwrap_or(0);
     buffer.truncate(count as usize);
-    match drawn.extend_from_slice(&buffer) {
+    let kept = drawn.extend_from_slice(&buffer);
+    drop(buffer);
+    match kept {
         Ok(()) => Ok(answer),
         Err(error) => {
-            let_go(answer);
+            drop(answer);
             Err(error.into())
         }
     }
 }
 
-// An answer to an event, in words.
-fn told(alloc: Global, answer: &Answer, event: &Event) -> Result<String> {
-    let mut out = String::new(alloc);
-    put_answer(alloc, &mut out, answer)?;
-    if !is_answer_to(answer, event) {
-        out.push_str(", which is no answer to it")?;
+// Appends an answer to an event.
+fn tell(alloc: Global, answer: &Answer, event: &Event, out: &mut String) -> Result<(), AllocError> {
+    put_answer(alloc, out, answer)?;
+    if is_answer_to(answer, event) {
+        return Ok(());
     }
-    Ok(out)
-}
-
-// Appends the live connection and what waits on it.
-fn put_line<T: Tape>(out: &mut String, session: &Session<T>) -> Result<()> {
-    let carrying = if session.carrying() { "yes" } else { "no" };
-    write!(out, " live {} carrying {carrying}", session.live())?;
-    write!(out, " queued {}", session.queued())?;
-    Ok(())
+    out.push_str(", which is no answer to it")
 }
 
 // Appends why the session is closed, and the keepalive of the SETUP that it accepted.
-fn put_life<T: Tape>(out: &mut String, session: &Session<T>) -> Result<()> {
-    out.push_str(" closed ")?;
+fn put_life<T: Tape>(out: &mut String, session: &Session<T>) -> Result<(), AllocError> {
     match session.cause() {
-        Some(cause) => put_cause(out, *cause)?,
-        None => out.push_str("-")?,
+        Some(cause) => put_cause(out, " closed ", *cause)?,
+        None => out.push_str(" closed -")?,
     }
     match session.setup() {
-        Some(setup) => write!(out, " keepalive {}", setup.keepalive.get())?,
-        None => out.push_str(" keepalive -")?,
+        Some(setup) => write!(out, " keepalive {}", setup.keepalive.get()),
+        None => out.push_str(" keepalive -"),
     }
-    Ok(())
-}
-
-// Appends how many frames were made and handled, and their positions.
-fn put_counts<T: Tape>(out: &mut String, session: &Session<T>) -> Result<()> {
-    let counts = session.counts();
-    write!(out, " made {} {}", counts.made_frames, counts.made)?;
-    write!(out, " handled {} {}", counts.handled_frames, counts.handled)?;
-    Ok(())
 }
 
 impl<T: Tape + Drop> End<T> {
@@ -172,54 +150,84 @@ impl<T: Tape + Drop> End<T> {
         }
     }
 
-    fn act(&mut self, alloc: Global, way: Way, event: &Event) -> Result<String> {
+    // Appends the answer to an event.
+    fn act(&mut self, alloc: Global, way: Way, event: &Event, out: &mut String) -> Result<()> {
         let answer = self.answer_to(alloc, way, event)?;
-        told(alloc, &answer, event)
+        let told = tell(alloc, &answer, event, out);
+        drop(answer);
+        Ok(told?)
     }
 
-    // The first bytes of those that no row showed yet, up to so many.
-    fn sent(&mut self, alloc: Global, count: usize) -> Result<String> {
+    // Appends the first bytes of those that no row showed yet, up to so many.
+    fn put_sent(
+        &mut self,
+        alloc: Global,
+        count: usize,
+        out: &mut String,
+    ) -> Result<(), AllocError> {
         let (shown, left) = self.drawn.split_at(count.min(self.drawn.len()));
-        let mut out = String::new(alloc);
-        put_part(alloc, &mut out, shown)?;
+        put_part(alloc, out, "", shown)?;
         self.drawn = Vec::from_slice(alloc, left)?;
-        Ok(out)
+        Ok(())
     }
 
-    fn reserve(&mut self, alloc: Global) -> Result<String> {
+    fn reserve(&mut self, out: &mut String) -> Result<()> {
         self.session.reserve()?;
-        Ok(String::from_str(alloc, "reserved")?)
+        Ok(out.push_str("reserved")?)
     }
 
-    // The next moment at which a tick does something, `-` where none does.
-    fn due(&self, alloc: Global) -> Result<String> {
-        let mut out = String::new(alloc);
+    // Appends the next moment at which a tick does something, `-` where none does.
+    fn put_due(&self, out: &mut String) -> Result<(), AllocError> {
         match self.session.next_due() {
-            Some(moment) => write!(out, "{moment}")?,
-            None => out.push_str("-")?,
+            Some(moment) => write!(out, "{moment}"),
+            None => out.push_str("-"),
         }
-        Ok(out)
     }
 
-    /// What is answered to a row.
-    pub fn answer(&mut self, alloc: Global, way: Way, row: &Row) -> Result<String> {
+    /// Appends what is answered to a row.
+    pub fn answer(&mut self, alloc: Global, way: Way, row: &Row, out: &mut String) -> Result<()> {
         match row {
-            Row::Event(event) => self.act(alloc, way, event),
-            Row::Sent(count) => self.sent(alloc, *count),
-            Row::Reserve => self.reserve(alloc),
-            Row::Due => self.due(alloc),
+            Row::Event(event) => self.act(alloc, way, event, out),
+            Row::Sent(count) => Ok(self.put_sent(alloc, *count, out)?),
+            Row::Reserve => self.reserve(out),
+            Row::Due => Ok(self.put_due(out)?),
         }
     }
 
-    /// What the session shows of itself, and how many bytes that were drawn no row showed.
-    pub fn shown(&self, alloc: Global) -> Result<String> {
-        let mut out = String::new(alloc);
-        write!(out, "entries {}", self.session.tape().count())?;
-        put_line(&mut out, &self.session)?;
-        put_life(&mut out, &self.session)?;
-        put_counts(&mut out, &self.session)?;
-        write!(out, " left {}", self.drawn.len())?;
-        Ok(out)
+    // Appends how many entries the tape has, the live connection, and what waits on it.
+    fn put_line(&self, out: &mut String) -> Result<(), AllocError> {
+        let session = &self.session;
+        write!(
+            out,
+            "entries {} live {} carrying {} queued {}",
+            session.tape().count(),
+            session.live(),
+            if session.carrying() { "yes" } else { "no" },
+            session.queued()
+        )
+    }
+
+    // Appends how many frames were made and handled, their positions, and how many bytes that were
+    // drawn no row showed.
+    fn put_counts(&self, out: &mut String) -> Result<(), AllocError> {
+        let Counts {
+            made_frames,
+            made,
+            handled_frames,
+            handled,
+        } = self.session.counts();
+        let left = self.drawn.len();
+        write!(
+            out,
+            " made {made_frames} {made} handled {handled_frames} {handled} left {left}"
+        )
+    }
+
+    /// Appends what the session shows of itself, and how many bytes that were drawn no row showed.
+    pub fn put_shown(&self, out: &mut String) -> Result<(), AllocError> {
+        self.put_line(out)?;
+        put_life(out, &self.session)?;
+        self.put_counts(out)
     }
 
     /// The tape of the session.

@@ -4,10 +4,10 @@ ghost use Rattle.std.specs.Prelude.{◌≡◌};
 
 use crate::end::{End, Way};
 use crate::row::Row;
-use anyhow::{Context, Result, bail};
+use anyhow::{Result, bail};
 use cable_script::Script;
 use rs_wire::{Checked, Settings, Side, check};
-use std::alloc::Global;
+use std::alloc::{AllocError, Global};
 use std::fmt::Write;
 use tape::{Blank, Kept, Tape};
 
@@ -22,39 +22,98 @@ pub struct Ends {
     asked: Option<End<Blank>>,
 }
 
-// What an end is set to: the defaults, changed by the setting lines of a script with `, ` between two.
-fn settings(alloc: Global, side: Side, lines: &str) -> Result<Settings> {
-    let mut text = String::new(alloc);
+// Appends these lines, which have `, ` between two.
+fn put_lines(text: &mut String, lines: &str) -> Result<(), AllocError> {
     for line in lines.split(", ") {
-        text.push_str(line)?;
-        text.push_str("\n")?;
+        writeln!(text, "{line}")?;
     }
-    let script = Script::read(alloc, text.as_bytes())?;
+    Ok(())
+}
+
+// The script of these lines.
+fn script(alloc: Global, lines: &str) -> Result<Script> {
+    let mut text = String::new(alloc);
+    put_lines(&mut text, lines)?;
+    Ok(Script::read(alloc, text.as_bytes())?)
+}
+
+// Changes settings by a script that has setting lines alone.
+fn apply_all(alloc: Global, side: Side, script: &Script, settings: &mut Settings) -> Result<()> {
     if !script.lines().is_empty() {
         bail!("no setting");
     }
-    let mut settings = Settings::usual(alloc, side)?;
     for line in script.setting_lines() {
-        line.apply(alloc, side, &mut settings)?;
+        line.apply(alloc, side, settings)?;
     }
-    Ok(settings)
+    Ok(())
+}
+
+// Changes settings by these lines.
+fn change(alloc: Global, side: Side, lines: &str, settings: &mut Settings) -> Result<()> {
+    let script = script(alloc, lines)?;
+    let applied = apply_all(alloc, side, &script, settings);
+    drop(script);
+    applied
+}
+
+// What an end is set to: the defaults, changed by the setting lines of a script with `, ` between two.
+fn settings(alloc: Global, side: Side, lines: &str) -> Result<Settings> {
+    let mut settings = Settings::usual(alloc, side)?;
+    match change(alloc, side, lines, &mut settings) {
+        Ok(()) => Ok(settings),
+        Err(error) => {
+            drop(settings);
+            Err(error)
+        }
+    }
 }
 
 fn checked(alloc: Global, side: Side, lines: &str) -> Result<Checked> {
     match check(settings(alloc, side, lines)?) {
         Ok(checked) => Ok(checked),
-        Err((_, fault)) => Err(fault.into()),
+        Err((settings, fault)) => {
+            drop(settings);
+            Err(fault.into())
+        }
+    }
+}
+
+// What the three gave.
+struct Texts {
+    stepped: String,
+    brought: String,
+    asked: String,
+}
+
+impl Texts {
+    fn new(alloc: Global) -> Texts {
+        Texts {
+            stepped: String::new(alloc),
+            brought: String::new(alloc),
+            asked: String::new(alloc),
+        }
+    }
+
+    fn let_go(self) {
+        let Texts {
+            stepped,
+            brought,
+            asked,
+        } = self;
+        drop(stepped);
+        drop(brought);
+        drop(asked);
     }
 }
 
 // Appends what the three gave: once, where it is the same.
-fn put_agreed(out: &mut String, stepped: &str, brought: &str, asked: &str) -> Result<()> {
-    out.push_str(stepped)?;
-    if brought != stepped {
-        write!(out, ", brought {brought}")?;
+fn put_agreed(out: &mut String, texts: &Texts) -> Result<(), AllocError> {
+    out.push_str(&texts.stepped)?;
+    if texts.brought != texts.stepped {
+        write!(out, ", brought {}", texts.brought)?;
     }
-    if asked != stepped {
-        write!(out, ", asked {asked}")?;
+    if texts.asked != texts.stepped {
+        write!(out, ", asked {}", texts.asked)?;
     }
     Ok(())
 }
@@ -81,11 +140,6 @@ fn set_up<T: Tape + Drop>(
     Ok(())
 }
 
-// The session of a list that is being played.
-fn playing<T: Tape>(end: &mut Option<End<T>>) -> Result<&mut End<T>> {
-    end.as_mut().context("no list")
-}
-
 impl Ends {
     /// No list is being played.
     pub fn new() -> Ends {
@@ -101,41 +155,79 @@ impl Ends {
         self.stepped.is_some() || self.brought.is_some() || self.asked.is_some()
     }
 
+    // Sets up three sessions that are not begun.
+    fn set_up_all(&mut self, alloc: Global, settings: &Checked) -> Result<()> {
+        set_up(alloc, &mut self.stepped, settings, Kept::new(alloc))?;
+        set_up(alloc, &mut self.brought, settings, Kept::new(alloc))?;
+        set_up(alloc, &mut self.asked, settings, Blank::new())
+    }
+
     /// Begins a list by sessions that are not begun, whose settings are changed by these lines.
     pub fn begin(&mut self, alloc: Global, side: Side, lines: &str) -> Result<()> {
         if self.is_in_list() {
             bail!("the list before has no end");
         }
         let settings = checked(alloc, side, lines)?;
-        set_up(alloc, &mut self.stepped, &settings, Kept::new(alloc))?;
-        set_up(alloc, &mut self.brought, &settings, Kept::new(alloc))?;
-        set_up(alloc, &mut self.asked, &settings, Blank::new())
+        let begun = self.set_up_all(alloc, &settings);
+        drop(settings);
+        begun
+    }
+
+    // Appends what the three answer to a row.
+    fn put_answers(
+        &mut self,
+        alloc: Global,
+        row: &Row,
+        texts: &mut Texts,
+        out: &mut String,
+    ) -> Result<()> {
+        let (Some(stepped), Some(brought), Some(asked)) = (
+            &mut self.stepped,
+            &mut self.brought,
+            &mut self.asked,
+        ) else {
+            bail!("no list");
+        };
+        stepped.answer(alloc, Way::Step, row, &mut texts.stepped)?;
+        brought.answer(alloc, Way::Bring, row, &mut texts.brought)?;
+        asked.answer(alloc, Way::Ask, row, &mut texts.asked)?;
+        Ok(put_agreed(out, texts)?)
     }
 
     /// Appends what is answered to a row.
     pub fn answer(&mut self, alloc: Global, row: &Row, out: &mut String) -> Result<()> {
-        let stepped = playing(&mut self.stepped)?.answer(alloc, Way::Step, row)?;
-        let brought = playing(&mut self.brought)?.answer(alloc, Way::Bring, row)?;
-        let asked = playing(&mut self.asked)?.answer(alloc, Way::Ask, row)?;
-        put_agreed(out, &stepped, &brought, &asked)
+        let mut texts = Texts::new(alloc);
+        let put = self.put_answers(alloc, row, &mut texts, out);
+        texts.let_go();
+        put
     }
 
     // Appends what the sessions show of themselves, and what is wrong where the two tapes that keep
     // their entries differ.
-    fn put_end(&mut self, alloc: Global, out: &mut String) -> Result<()> {
-        let stepped = playing(&mut self.stepped)?;
-        let brought = playing(&mut self.brought)?;
-        let asked = playing(&mut self.asked)?;
-        put_agreed(
-            out,
-            &stepped.shown(alloc)?,
-            &brought.shown(alloc)?,
-            &asked.shown(alloc)?,
-        )?;
+    fn put_shown(&self, texts: &mut Texts, out: &mut String) -> Result<()> {
+        let (Some(stepped), Some(brought), Some(asked)) = (
+            &self.stepped,
+            &self.brought,
+            &self.asked,
+        ) else {
+            bail!("no list");
+        };
+        stepped.put_shown(&mut texts.stepped)?;
+        brought.put_shown(&mut texts.brought)?;
+        asked.put_shown(&mut texts.asked)?;
+        put_agreed(out, texts)?;
         if stepped.tape().entries() != brought.tape().entries() {
             out.push_str(", the tapes differ")?;
         }
         Ok(())
+    }
+
+    // Does so with three new texts.
+    fn put_end(&self, alloc: Global, out: &mut String) -> Result<()> {
+        let mut texts = Texts::new(alloc);
+        let put = self.put_shown(&mut texts, out);
+        texts.let_go();
+        put
     }
 
     /// Ends a list: appends what the sessions show of themselves, and what is wrong with their tapes.

@@ -52,8 +52,12 @@ pub fn is_act(settings: &Settings, event: &Event) -> bool
 }
 
 // An opening at a server. The number of the opening at the client says nothing to the session.
-fn opened(alloc: Global, number_there: &str, taken: bool, first: &[&str]) -> Result<Event> {
+fn opened(alloc: Global, number_there: &str, words: &[&str]) -> Result<Event> {
     number(number_there)?;
+    let (first, taken) = match words {
+        [first @ .., "taken"] => (first, true),
+        first => (first, false),
+    };
     Ok(Event::Open {
         first: Some(frame(alloc, first)?),
         taken,
@@ -71,8 +75,7 @@ fn bad(conn: &str, rule: &str) -> Result<Event> {
 pub fn event(alloc: Global, words: &[&str]) -> Result<Event> {
     match words {
         ["open"] => Ok(Event::opening()),
-        ["open", there, first @ .., "taken"] => opened(alloc, there, true, first),
-        ["open", there, first @ ..] => opened(alloc, there, false, first),
+        ["open", there, words @ ..] => opened(alloc, there, words),
         ["cut", conn] => Ok(Event::Cut {
             conn: number(conn)?,
         }),

@@ -10,7 +10,9 @@ use std::alloc::Global;
 fn bring(alloc: Global, ends: &mut Ends, row: &str, out: &mut String) -> Result<()> {
     let words: Vec<&str> = row.split_whitespace().collect(alloc)?;
     let row = Row::read(alloc, &words)?;
-    ends.answer(alloc, &row, out)
+    let answered = ends.answer(alloc, &row, out);
+    row.let_go();
+    answered
 }
 
 /// Does what a row says, and appends what was answered. `client` and `server`, with setting lines

@@ -32,18 +32,26 @@ const FILES: [&str; 8] = [
     "resumption",
 ];
 
-fn main(rt: HostRuntime) -> Result<ExitCode> {
-    let alloc = rt.alloc();
-    let mut words = env::args(&rt).context("the words cannot be read")?;
-    let folder = words.nth(1);
-    let folder = folder.as_deref().unwrap_or(".");
+// The text of a file of this folder.
+fn read(rt: &HostRuntime, folder: &str, file: &str) -> Result<String> {
+    let path = format!(in rt.alloc(); "{folder}/{file}.rows")?;
+    fs::read_to_string(rt, path.as_str()).context("no such file")
+}
+
+// Plays the files of this folder. Answers whether no row differs.
+fn play_all(rt: &HostRuntime, folder: &str) -> Result<bool> {
     let mut right = true;
     for file in FILES {
-        let path = format!(in alloc; "{folder}/{file}.rows")?;
-        let text = fs::read_to_string(&rt, path.as_str()).context("no such file")?;
-        right = play(&rt, alloc, file, &text)? && right;
+        let text = read(rt, folder, file)?;
+        right = play(rt, rt.alloc(), file, &text)? && right;
     }
-    if right {
+    Ok(right)
+}
+
+fn main(rt: HostRuntime) -> Result<ExitCode> {
+    let mut words = env::args(&rt).context("the words cannot be read")?;
+    let folder = words.nth(1);
+    if play_all(&rt, folder.as_deref().unwrap_or("."))? {
         Ok(ExitCode::SUCCESS)
     } else {
         Ok(ExitCode::FAILURE)

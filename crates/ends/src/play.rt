@@ -5,6 +5,7 @@ use crate::lists::answer_words;
 use anyhow::Result;
 use std::alloc::Global;
 use std::fmt::Write;
+use std::io;
 use std::io::Print;
 
 /// How many rows that differ are shown of a file.
@@ -35,7 +36,24 @@ fn given(alloc: Global, ends: &mut Ends, row: &str) -> Result<String> {
     Ok(out)
 }
 
-// Plays a line that is a row. Shows it, where it differs and not too many did.
+// Counts a row that differs. Shows it, where not too many did.
+fn show(
+    rt: &impl Print,
+    place: (&str, usize),
+    line: &str,
+    given: &str,
+    counts: &mut Counts,
+) -> io::Result<()> {
+    let wrong = counts.wrong;
+    counts.wrong = wrong.saturating_add(1);
+    if wrong >= SHOWN {
+        return Ok(());
+    }
+    let (file, number) = place;
+    println!(rt; "{file}.rows:{number}: {line}\n  gave {given}")
+}
+
+// Plays a line that is a row.
 fn play_row(
     rt: &impl Print,
     alloc: Global,
@@ -50,14 +68,9 @@ fn play_row(
         None => counts.lists = counts.lists.saturating_add(1),
     }
     let given = given(alloc, ends, row)?;
-    if given.as_str() == wanted.unwrap_or("") {
-        return Ok(());
+    if given.as_str() != wanted.unwrap_or("") {
+        show(rt, place, line, &given, counts)?;
     }
-    if counts.wrong < SHOWN {
-        let (file, number) = place;
-        println!(rt; "{file}.rows:{number}: {line}\n  gave {given}")?;
-    }
-    counts.wrong = counts.wrong.saturating_add(1);
     Ok(())
 }
 

@@ -7,7 +7,6 @@ use std::alloc::Global;
 use tape::Event;
 
 /// What a row asks of a session.
-#[derive(Drop)]
 pub enum Row {
     /// It is to answer an event.
     Event(Event),
@@ -27,6 +26,14 @@ impl Row {
             ["reserve"] => Ok(Row::Reserve),
             ["due"] => Ok(Row::Due),
             _ => Ok(Row::Event(event(alloc, words)?)),
+        }
+    }
+
+    /// Lets a row go that was answered. Where a row falls by itself is dear to prove.
+    pub fn let_go(self) {
+        match self {
+            Row::Event(event) => drop(event),
+            Row::Sent(_) | Row::Reserve | Row::Due => {}
         }
     }
 }
