@@ -7,7 +7,7 @@ use rs_wire::{Blob, OutOfMemory, Settings, Side};
 use std::alloc::Global;
 
 /// A setting of an end that a script may change. What stands in it is in its range.
-#[derive(Clone, Copy, Debug, PartialEq, Eq)]
+#[derive(Clone, Copy, Debug)]
 pub enum Setting {
     /// `keepalive V`: milliseconds between two KEEPALIVEs, 1 to 2,147,483,647.
     Keepalive(u32),
@@ -36,7 +36,7 @@ pub enum Setting {
 
 /// A line that changes settings. It stands before all action lines, and a later one replaces an
 /// earlier one.
-#[derive(Debug, Drop, PartialEq, Eq)]
+#[derive(Debug, Drop)]
 pub enum SettingLine {
     /// `set NAME V`, `set client NAME V` or `set server NAME V`.
     Set {

@@ -34,7 +34,7 @@ pub enum Task {
 }
 
 /// What the words ask for.
-#[derive(Debug, Drop, PartialEq, Eq)]
+#[derive(Debug, Drop)]
 pub enum Asked {
     /// A task that reads the input.
     Task(Task),
@@ -50,7 +50,7 @@ pub enum Asked {
 }
 
 // The commands, by their names.
-#[derive(Clone, Copy, Debug, PartialEq, Eq)]
+#[derive(Clone, Copy)]
 enum Name {
     Cable,
     Frames,
