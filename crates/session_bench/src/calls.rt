@@ -4,13 +4,13 @@
 //! the sessions have.
 
 ghost use Rattle.std.specs.Prelude.{◌≡◌};
+ghost use Rattle.conn_lock.specs.Callers.{all_parts};
 ghost use Rattle.rs_wire.specs.Calls.{CanBeAsked};
 ghost use Rattle.rs_wire.specs.declared.words.Side.TheVariants.{Client};
 
-use crate::end::let_go;
-use crate::sessions::{new_connection, new_session};
+use crate::sessions::{close, new_connection, new_session};
 use crate::times::{ROUNDS, Timed, median, nanos_since, now};
-use anyhow::{Result, bail};
+use anyhow::Result;
 use conn::{Caller, Connection};
 use rs_wire::{Blob, Call, Side};
 use session_core::Session;
@@ -30,7 +30,7 @@ const FEW: u32 = 100;
 fn open_alone(session: &mut Session<Blank>)
     requires side { session.old.settings.side ≡ Client }
 {
-    let_go(session.bring(0, Event::opening()));
+    drop(session.bring(0, Event::opening()));
 }
 
 // Opens one that its callers share.
@@ -38,8 +38,9 @@ fn open_shared<R: Wait>(rt: &R, connection: &Connection<Blank>, caller: &mut Cal
     requires of { caller.old.of ≡ connection.now }
     requires side { connection.now.settings.side ≡ Client }
     ensures of { caller.new.of ≡ connection.now }
+    ensures parts { caller.new.parts ≡ caller.old.parts }
 {
-    let_go(connection.bring(rt, caller, Event::opening()));
+    drop(connection.bring(rt, caller, Event::opening()));
 }
 
 // Asks a session that nobody shares.
@@ -47,7 +48,9 @@ fn ask_often(session: &mut Session<Blank>, call: &Call, times: u32)
     requires { CanBeAsked call.now }
 {
     for _ in 0..times {
-        session.ask(0, call);
+        if let Some(answer) = session.ask(0, call) {
+            drop(answer);
+        }
     }
 }
 
@@ -60,12 +63,14 @@ fn call_often<R: Wait>(
     times: u32,
 ) -> Caller<Blank>
     requires of { caller.of ≡ connection.now }
+    requires whole { caller.parts ≡ all_parts }
     requires askable { CanBeAsked call.now }
-    ensures { result.of ≡ connection.now }
+    ensures of { result.of ≡ connection.now }
+    ensures whole { result.parts ≡ all_parts }
 {
     let mut caller = caller;
     for _ in 0..times {
-        let_go(connection.call(rt, &mut caller, call));
+        drop(connection.call(rt, &mut caller, call));
     }
     caller
 }
@@ -84,16 +89,6 @@ fn time_steps<R: Clock>(rt: &R, alloc: Global, call: &Call, times: u32) -> Resul
     })
 }
 
-// How many entries a session has that its callers shared, once the only one closes it.
-fn close(connection: Connection<Blank>, caller: Caller<Blank>) -> Result<u64>
-    requires { caller.of ≡ connection }
-{
-    match connection.close(caller) {
-        Ok(session) => Ok(session.into_tape().count()),
-        Err(_) => bail!("a caller is missing"),
-    }
-}
-
 // The same of one that its callers share, by its one caller.
 fn time_calls<R: Wait + Clock>(rt: &R, alloc: Global, call: &Call, times: u32) -> Result<Timed>
     requires { CanBeAsked call.now }
@@ -103,7 +98,7 @@ fn time_calls<R: Wait + Clock>(rt: &R, alloc: Global, call: &Call, times: u32) -
     let start = now(rt);
     let caller = call_often(rt, &connection, caller, call, times);
     let nanos = nanos_since(rt, start, times);
-    let count = close(connection, caller)?;
+    let count = close(connection, caller);
     Ok(Timed { nanos, count })
 }
 
@@ -150,5 +145,7 @@ fn compare_or_count<R: Wait + Clock + Print>(
 /// Times calls, or else makes a few.
 pub fn run<R: Wait + Clock + Print>(rt: &R, alloc: Global, is_timed: bool) -> Result<()> {
     let call = Call::fire_and_forget(Blob::from_slice(alloc, b"hi")?);
-    compare_or_count(rt, alloc, &call, is_timed)
+    let compared = compare_or_count(rt, alloc, &call, is_timed);
+    drop(call);
+    compared
 }

@@ -4,10 +4,11 @@ ghost use Rattle.std.specs.Prelude.{◌≡◌, ◌<◌, ◌^◌, IfOk, length};
 ghost use Rattle.rs_wire.specs.Calls.{CanBeAsked};
 ghost use Rattle.rs_wire.specs.Settings.{usual};
 ghost use Rattle.rs_wire.specs.declared.words.Side.TheVariants.{Client, Server};
+ghost use Rattle.conn_lock.specs.Callers.{all_parts};
 ghost use Rattle.session_model.specs.Legal.{CanBring};
 ghost use Rattle.session_core.specs.Seen.{IsNoDrawEvent};
 
-use crate::sessions::new_connection;
+use crate::sessions::{close, new_connection};
 use anyhow::{Context, Result, bail, ensure};
 use conn::{Caller, Connection};
 use outside::{Link, MemClock};
@@ -37,9 +38,6 @@ pub enum Said {
     Complete,
 }
 
-/// Lets an answer go. It is done here alone, since each place where it is done is dear to prove.
-pub fn let_go(_answer: Answer) {}
-
 fn said_by(answer: &Answer) -> Option<Said> {
     match answer {
         Answer::Started(stream) => Some(Said::Started(*stream)),
@@ -51,14 +49,15 @@ fn said_by(answer: &Answer) -> Option<Said> {
     }
 }
 
-/// An end without its link. Its clock stands still.
-#[derive(Drop)]
+/// An end without its link. Its clock stands still. It ends by being closed, since a session that is let
+/// go is dear to prove.
 pub struct Unlinked {
     connection: Connection<Blank>,
     caller: Caller<Blank>,
     pump: Pump,
     clock: MemClock,
     ghost of: { caller.of ≡ connection },
+    ghost whole: { caller.parts ≡ all_parts },
     ghost limit: { pump.max_in ≡ connection.settings.max_in },
 }
 
@@ -67,31 +66,39 @@ fn is_opened(answer: &Answer) -> bool {
     matches!(answer, Answer::Opened(CONNECTION))
 }
 
-// A pump to which these bytes came, and its clock.
-fn pump_for(alloc: Global, max_in: u32, bytes: &[u8]) -> Result<(Pump, MemClock)>
+// A pump to which these bytes came.
+fn pump_for(alloc: Global, max_in: u32, bytes: &[u8]) -> Result<Pump>
     requires short { max_in < 2 ^ 24 }
-    ensures { IfOk result (λ made. made.0.max_in ≡ max_in) }
+    ensures { IfOk result (λ pump. pump.max_in ≡ max_in) }
 {
     let mut reader = Reader::new(alloc, max_in);
-    reader.feed(bytes)?;
-    let clock = MemClock::new(vec![in alloc; 0u64; 1]?);
-    let pump = Pump::new(alloc, CONNECTION, reader)?;
-    Ok((pump, clock))
+    match reader.feed(bytes) {
+        Ok(()) => Ok(Pump::new(alloc, CONNECTION, reader)?),
+        Err(error) => {
+            drop(reader);
+            Err(error.into())
+        }
+    }
 }
 
 // A session that is not begun, to whose connection these bytes came.
 fn unbegun(alloc: Global, side: Side, bytes: &[u8]) -> Result<Unlinked>
     ensures { IfOk result (λ end. end.connection.settings ≡ usual side) }
 {
+    let clock = MemClock::new(vec![in alloc; 0u64; 1]?);
     let (connection, caller) = new_connection(alloc, side)?;
     match pump_for(alloc, connection.max_in(), bytes) {
-        Ok((pump, clock)) => Ok(Unlinked {
+        Ok(pump) => Ok(Unlinked {
             connection,
             caller,
             pump,
             clock,
         }),
-        Err(error) => Err(error),
+        Err(error) => {
+            close(connection, caller);
+            drop(clock);
+            Err(error)
+        }
     }
 }
 
@@ -109,7 +116,10 @@ fn opening(alloc: Global, setup: &[u8]) -> Result<Event>
 fn opened(end: Unlinked, opened: Result<()>) -> Result<Unlinked> {
     match opened {
         Ok(()) => Ok(end),
-        Err(error) => Err(error),
+        Err(error) => {
+            end.close();
+            Err(error)
+        }
     }
 }
 
@@ -121,7 +131,7 @@ impl Unlinked {
     {
         let answer = self.connection.bring(rt, &mut self.caller, event);
         let is_opened = is_opened(&answer);
-        let_go(answer);
+        drop(answer);
         ensure!(is_opened, "not opened");
         Ok(())
     }
@@ -156,10 +166,22 @@ impl Unlinked {
         let begun = end.open_by(rt, alloc, setup);
         opened(end, begun)
     }
+
+    // Closes the session.
+    fn close(self) {
+        let Unlinked {
+            connection,
+            caller,
+            pump,
+            clock,
+        } = self;
+        close(connection, caller);
+        drop(pump);
+        drop(clock);
+    }
 }
 
-/// One end.
-#[derive(Drop)]
+/// One end, which ends by being closed.
 pub struct End<L> {
     /// What it works by.
     pub unlinked: Unlinked,
@@ -192,7 +214,17 @@ impl<L: Link> End<L> {
         let end = &mut self.unlinked;
         let answer = end.connection.call(rt, &mut end.caller, &call);
         let said = said_by(&answer);
-        let_go(answer);
+        drop(answer);
+        drop(call);
         said
+    }
+}
+
+impl<L: Link + Drop> End<L> {
+    /// Closes the session, and then the link.
+    pub fn close(self) {
+        let End { unlinked, link } = self;
+        unlinked.close();
+        drop(link);
     }
 }

@@ -71,7 +71,11 @@ fn time_lock<R: Wait + Clock>(rt: &R, alloc: Global, turns: u32) -> Result<Timed
             nanos,
             count: count.turns,
         }),
-        Err(_) => bail!("a seat is missing"),
+        Err((lock, seat)) => {
+            drop(lock);
+            drop(seat);
+            bail!("a seat is missing")
+        }
     }
 }
 

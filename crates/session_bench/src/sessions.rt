@@ -2,13 +2,14 @@
 
 ghost use Rattle.std.specs.Prelude.{◌≡◌, IfOk, []};
 ghost use Rattle.rs_wire.specs.Settings.{usual};
+ghost use Rattle.conn_lock.specs.Callers.{all_parts};
 
 use anyhow::Result;
 use conn::{Caller, Connection};
 use rs_wire::{Checked, Settings, Side, check};
 use session_core::Session;
 use std::alloc::Global;
-use tape::Blank;
+use tape::{Blank, Tape};
 
 // The defaults of a side.
 fn defaults(alloc: Global, side: Side) -> Result<Checked>
@@ -16,7 +17,10 @@ fn defaults(alloc: Global, side: Side) -> Result<Checked>
 {
     match check(Settings::usual(alloc, side)?) {
         Ok(settings) => Ok(settings),
-        Err((_, fault)) => Err(fault.into()),
+        Err((settings, fault)) => {
+            drop(settings);
+            Err(fault.into())
+        }
     }
 }
 
@@ -34,6 +38,7 @@ pub fn new_session(alloc: Global, side: Side) -> Result<Session<Blank>>
 /// One that its callers share, and the first of them.
 pub fn new_connection(alloc: Global, side: Side) -> Result<(Connection<Blank>, Caller<Blank>)>
     ensures of { IfOk result (λ r. r.1.of ≡ r.0) }
+    ensures whole { IfOk result (λ r. r.1.parts ≡ all_parts) }
     ensures settings { IfOk result (λ r. r.0.settings ≡ usual side) }
 {
     match Connection::new(alloc, new_session(alloc, side)?) {
@@ -42,5 +47,17 @@ pub fn new_connection(alloc: Global, side: Side) -> Result<(Connection<Blank>, C
             session.into_tape();
             Err(error.into())
         }
+    }
+}
+
+/// How many entries a session has, once its one caller closes it. Each connection ends so: one that is
+/// let go is dear to prove.
+pub fn close(connection: Connection<Blank>, caller: Caller<Blank>) -> u64
+    requires of { caller.of ≡ connection }
+    requires whole { caller.parts ≡ all_parts }
+{
+    match connection.close(caller) {
+        Ok(session) => session.into_tape().count(),
+        Err(_) => unreachable!(),
     }
 }

@@ -59,7 +59,11 @@ where
         let (near, far) = two_sockets(&rt)?;
         fars.push(far)?;
         let turns = move || match client_over(&rt, alloc, near) {
-            Ok(mut client) => turn_for(&rt, &mut client, standing),
+            Ok(mut client) => {
+                let stood = turn_for(&rt, &mut client, standing);
+                client.close();
+                stood
+            }
             Err(_) => false,
         };
         threads.push(spawn(&rt, turns)?)?;

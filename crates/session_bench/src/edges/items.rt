@@ -104,11 +104,15 @@ where
         rt,
         move || {
             let mut client = client_over(rt, alloc, near)?;
-            ask(rt, alloc, &mut client)
+            let taken = ask(rt, alloc, &mut client);
+            client.close();
+            taken
         },
         move || {
             let mut server = server_over(rt, alloc, far)?;
-            send_all(rt, alloc, &mut server, items)
+            let served = send_all(rt, alloc, &mut server, items);
+            server.close();
+            served
         },
     );
     served?;

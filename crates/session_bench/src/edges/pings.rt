@@ -67,11 +67,15 @@ where
         rt,
         move || {
             let mut client = client_over(rt, alloc, near)?;
-            ask(rt, alloc, &mut client, pings)
+            let asked = ask(rt, alloc, &mut client, pings);
+            client.close();
+            asked
         },
         move || {
             let mut server = server_over(rt, alloc, far)?;
-            serve(rt, alloc, &mut server, pings)
+            let served = serve(rt, alloc, &mut server, pings);
+            server.close();
+            served
         },
     );
     asked?;

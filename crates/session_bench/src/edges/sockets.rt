@@ -36,7 +36,10 @@ where
 fn linked(unlinked: Result<Unlinked>, link: TcpEnd) -> Result<TcpSide> {
     match unlinked {
         Ok(unlinked) => Ok(End { unlinked, link }),
-        Err(error) => Err(error),
+        Err(error) => {
+            drop(link);
+            Err(error)
+        }
     }
 }
 

@@ -111,13 +111,16 @@ fn send<R: Wait>(
     stream: u32,
     run: Run,
 ) -> Option<Said> {
-    let content = Blob::from_slice(alloc, run.item).ok()?;
     match run.shape {
         Shape::Response => {
             let stream = take_request(rt, server)?;
+            let content = Blob::from_slice(alloc, run.item).ok()?;
             server.ask(rt, respond(stream, content))
         }
-        Shape::Stream => server.ask(rt, item(stream, content, false)),
+        Shape::Stream => {
+            let content = Blob::from_slice(alloc, run.item).ok()?;
+            server.ask(rt, item(stream, content, false))
+        }
     }
 }
 
@@ -236,7 +239,9 @@ fn cross_from<R: Clock + Wait>(
     run: Run,
 ) -> Result<Took> {
     let mut server = serve(rt, alloc, client)?;
-    cross_between(rt, alloc, client, &mut server, run)
+    let took = cross_between(rt, alloc, client, &mut server, run);
+    server.close();
+    took
 }
 
 /// Items cross between two new ends.
@@ -245,5 +250,7 @@ pub fn cross<R: Clock + Wait>(rt: &R, alloc: Global, run: Run) -> Result<Took> {
         unlinked: Unlinked::client(rt, alloc)?,
         link: Wire::new(alloc),
     };
-    cross_from(rt, alloc, &mut client, run)
+    let took = cross_from(rt, alloc, &mut client, run);
+    client.close();
+    took
 }
