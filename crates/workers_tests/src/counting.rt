@@ -1,12 +1,16 @@
 //! How often a worker asks a handler.
 
-use crate::trial::{blob, comes, connected, open};
+ghost use Rattle.std.specs.Prelude.{◌≡◌};
+
+use crate::trial::{Wanted, add, close, comes, opened, serves};
 use handlers::{Handler, Law, Produced, Routes, Stored};
 use rs_wire::{Blob, Kind};
 use std::alloc::Global;
 use std::process::Abort;
+use std::sync::Wait;
 use std::sync::atomic::{AtomicU64, Ordering};
-use workers::{OpenGate, Work, Worked, serve_job};
+use tape::{Blank, Tape};
+use workers::Work;
 
 /// How often a handler was asked, and the sum of the indices.
 #[derive(Drop)]
@@ -49,49 +53,47 @@ impl Handler for CountedDrop<'_> {
     }
 }
 
+// The route of a handler that counts.
 fn counted<'a, R: Abort>(rt: &R, alloc: Global, asked: &'a Asked) -> Routes<CountedDrop<'a>> {
     let mut routes = Routes::new(alloc);
     let stored = Stored::new(Law::Drop, CountedDrop { asked });
-    match routes.add(blob(rt, alloc, b"drop"), Kind::Fnf, stored) {
-        Ok(()) => routes,
-        Err(_) => panic!(rt; "there is memory, and no route is added twice"),
-    }
+    add(rt, alloc, &mut routes, b"drop", Kind::Fnf, stored);
+    routes
+}
+
+/// A fire-and-forget of stream 1, for the route `drop` and with the content `hi`.
+const FNF: &[u8] = b"\x00\x00\x00\x01\x15\x00\x00\x00\x04drophi";
+
+// One job is served, and then there is none. The handler is asked for the job alone.
+fn serve_once<R: Abort + Wait, T: Tape>(rt: &R, alloc: Global, tape: T) -> T
+    requires empty { T.count tape ≡ 0 }
+{
+    let (server, mut caller) = opened(rt, alloc, tape);
+    assert!(rt; comes(rt, alloc, &server, &mut caller, FNF));
+    let asked = Asked::new();
+    let routes = counted(rt, alloc, &asked);
+    let mut work = Work::new(alloc);
+    let served = Wanted::Served(1, 0);
+    assert!(rt; serves(rt, alloc, &server, &mut caller, &routes, &mut work, served));
+    asked.check(rt, 1);
+    assert!(rt;
+        serves(
+            rt,
+            alloc,
+            &server,
+            &mut caller,
+            &routes,
+            &mut work,
+            Wanted::Idle
+        )
+    );
+    asked.check(rt, 1);
+    drop(work);
+    drop(routes);
+    close(rt, server, caller)
 }
 
 #[test]
 fn the_handler_of_a_fire_and_forget_is_asked_once(rt: HostRuntime) {
-    let alloc = rt.alloc();
-    let (connection, mut caller) = connected(&rt, alloc);
-    open(&rt, alloc, &connection, &mut caller);
-    let frame = b"\x00\x00\x00\x01\x15\x00\x00\x00\x04drophi";
-    comes(&rt, alloc, &connection, &mut caller, frame);
-    let asked = Asked::new();
-    let routes = counted(&rt, alloc, &asked);
-    let mut work = Work::new(alloc);
-    let served = serve_job(
-        &rt,
-        alloc,
-        &connection,
-        &mut caller,
-        &routes,
-        &OpenGate,
-        &mut work,
-    );
-    let wanted = Worked::Served {
-        stream: 1,
-        items: 0,
-    };
-    assert_eq!(&rt; served, wanted);
-    asked.check(&rt, 1);
-    let idle = serve_job(
-        &rt,
-        alloc,
-        &connection,
-        &mut caller,
-        &routes,
-        &OpenGate,
-        &mut work,
-    );
-    assert_eq!(&rt; idle, Worked::Idle);
-    asked.check(&rt, 1);
+    serve_once(&rt, rt.alloc(), Blank::new());
 }

@@ -2,7 +2,7 @@
 
 ghost use Rattle.std.specs.Prelude.{◌≡◌};
 
-use crate::trial::{blob, comes, connected, open, routes};
+use crate::trial::{add, close, comes, opened};
 use conn::{Caller, Connection};
 use handlers::{Handler, Law, Produced, Routes, Stored};
 use rs_wire::{Blob, Kind};
@@ -11,22 +11,33 @@ use std::process::Abort;
 use std::sync::Wait;
 use std::sync::atomic::{AtomicBool, Ordering};
 use std::thread::{Threads, join, yield_now};
-use tape::Tape;
+use tape::{Blank, Tape};
 use workers::{Gate, Work, Worked, serve_job};
 
 /// How often stream 1 looks before it gives up.
 const MOST_LOOKS: u32 = 10_000_000;
 
+/// Where stream 1 is held.
+#[derive(Drop)]
+enum Held {
+    /// Before its handler is asked.
+    Before,
+    /// While its handler is asked.
+    Within,
+}
+
 /// Holds stream 1 until stream 3 is answered.
 #[derive(Drop)]
 struct Hold {
+    held: Held,
     answered: AtomicBool,
     gave_up: AtomicBool,
 }
 
 impl Hold {
-    fn new() -> Hold {
+    fn new(held: Held) -> Hold {
         Hold {
+            held,
             answered: AtomicBool::new(false),
             gave_up: AtomicBool::new(false),
         }
@@ -42,16 +53,10 @@ impl Hold {
         }
         self.gave_up.store(true, Ordering::SeqCst);
     }
-
-    // This stream is answered.
-    fn note(&self, stream: u32) {
-        if stream == 3 {
-            self.answered.store(true, Ordering::SeqCst);
-        }
-    }
 }
 
-/// Holds stream 1 before its handler is asked.
+/// Holds stream 1 before its handler is asked, where it is to be held there, and tells what is
+/// answered.
 #[derive(Drop)]
 struct HeldGate<'a> {
     hold: &'a Hold,
@@ -59,31 +64,20 @@ struct HeldGate<'a> {
 
 impl Gate for HeldGate<'_> {
     fn before(&self, stream: u32) {
-        if stream == 1 {
+        if stream == 1 && matches!(self.hold.held, Held::Before) {
             self.hold.wait();
         }
     }
 
     fn after(&self, stream: u32) {
-        self.hold.note(stream);
+        if stream == 3 {
+            self.hold.answered.store(true, Ordering::SeqCst);
+        }
     }
 }
 
-/// Holds nothing, but tells what is answered.
-#[derive(Drop)]
-struct TellingGate<'a> {
-    hold: &'a Hold,
-}
-
-impl Gate for TellingGate<'_> {
-    fn before(&self, _stream: u32) {}
-
-    fn after(&self, stream: u32) {
-        self.hold.note(stream);
-    }
-}
-
-/// Echoes, and holds the content `a`, that of stream 1, while it is asked.
+/// Echoes, and holds the content `a`, that of stream 1, while it is asked, where it is to be held
+/// there.
 #[derive(Drop)]
 struct HeldEcho<'a> {
     hold: &'a Hold,
@@ -96,96 +90,84 @@ impl Handler for HeldEcho<'_> {
     ghost gives = { λ _ content index. value law.Echo content index };
 
     fn call(&self, alloc: Global, content: &Blob, index: u64) -> Produced {
-        if content.as_slice() == b"a".as_slice() {
+        if content.as_slice() == b"a".as_slice() && matches!(self.hold.held, Held::Within) {
             self.hold.wait();
         }
         Law::Echo.call(alloc, content, index)
     }
 }
 
-// Whether a response of one item was served.
-fn serves_one<R: Wait, T: Tape, F: Handler, G: Gate>(
-    rt: &R,
-    alloc: Global,
-    connection: &Connection<T>,
-    caller: Caller<T>,
-    routes: &Routes<F>,
-    gate: &G,
-) -> bool
-    requires { caller.of ≡ connection.now }
-{
-    let mut caller = caller;
-    let mut work = Work::new(alloc);
-    let worked = serve_job(rt, alloc, connection, &mut caller, routes, gate, &mut work);
+// The route of a handler that may be held.
+fn echo<'a, R: Abort>(rt: &R, alloc: Global, hold: &'a Hold) -> Routes<HeldEcho<'a>> {
+    let mut routes = Routes::new(alloc);
+    let stored = Stored::new(Law::Echo, HeldEcho { hold });
+    add(rt, alloc, &mut routes, b"echo", Kind::Response, stored);
+    routes
+}
+
+// Whether a job was served with one item.
+fn is_one(worked: &Worked) -> bool {
     matches!(worked, Worked::Served { items: 1, .. })
 }
 
-/// Where stream 1 is held.
-#[derive(Clone, Copy)]
-enum Held {
-    /// Before its handler is asked.
-    Before,
-    /// While its handler is asked.
-    Within,
-}
-
-// Whether a worker serves a response, where stream 1 is held so.
-fn serves_held<R: Abort + Wait, T: Tape>(
+// A response of one item is served.
+fn serve_one<R: Abort + Wait, T: Tape>(
     rt: &R,
     alloc: Global,
     connection: &Connection<T>,
     caller: Caller<T>,
-    held: Held,
     hold: &Hold,
-) -> bool
-    requires { caller.of ≡ connection.now }
+) -> Caller<T>
+    requires of { caller.of ≡ connection.now }
+    ensures of { result.of ≡ connection.now }
 {
-    match held {
-        Held::Before => {
-            let gate = HeldGate { hold };
-            serves_one(rt, alloc, connection, caller, &routes(rt, alloc), &gate)
-        }
-        Held::Within => {
-            let mut routes = Routes::new(alloc);
-            let stored = Stored::new(Law::Echo, HeldEcho { hold });
-            match routes.add(blob(rt, alloc, b"echo"), Kind::Response, stored) {
-                Ok(()) => {}
-                Err(_) => panic!(rt; "there is memory, and no route is added twice"),
-            }
-            serves_one(
-                rt,
-                alloc,
-                connection,
-                caller,
-                &routes,
-                &TellingGate { hold },
-            )
-        }
-    }
+    let mut caller = caller;
+    let routes = echo(rt, alloc, hold);
+    let gate = HeldGate { hold };
+    let mut work = Work::new(alloc);
+    let worked = serve_job(
+        rt,
+        alloc,
+        connection,
+        &mut caller,
+        &routes,
+        &gate,
+        &mut work,
+    );
+    let is_one = is_one(&worked);
+    drop(worked);
+    drop(work);
+    drop(routes);
+    assert!(rt; is_one);
+    caller
 }
 
-// Whether two workers serve a response each, in two threads.
+// Two workers serve a response each, in two threads, and are joined.
 fn serve_in_two<R: Abort + Threads + Wait + Sync, T: Tape + Send>(
     rt: &R,
     alloc: Global,
     connection: &Connection<T>,
     first: Caller<T>,
     second: Caller<T>,
-    held: Held,
     hold: &Hold,
-) -> (bool, bool)
+) -> Caller<T>
     requires first { first.of ≡ connection.now }
     requires second { second.of ≡ connection.now }
+    ensures of { result.of ≡ connection.now }
 {
-    join(
+    let (mut caller, other) = join(
         rt,
-        || -> bool
+        || -> Caller<T>
             requires { first.of ≡ connection.now }
-        { serves_held(rt, alloc, connection, first, held, hold) },
-        || -> bool
+            ensures { result.of ≡ connection.entry.now }
+        { serve_one(rt, alloc, connection, first, hold) },
+        || -> Caller<T>
             requires { second.of ≡ connection.now }
-        { serves_held(rt, alloc, connection, second, held, hold) },
-    )
+            ensures { result.of ≡ connection.entry.now }
+        { serve_one(rt, alloc, connection, second, hold) },
+    );
+    connection.join(&mut caller, other);
+    caller
 }
 
 fn one_more<R: Abort + Wait, T: Tape>(
@@ -200,39 +182,38 @@ fn one_more<R: Abort + Wait, T: Tape>(
     connection.split(rt, caller).expect(rt, "there are parts")
 }
 
+/// A request of stream 1, for the route `echo` and with the content `a`.
+const FIRST: &[u8] = b"\x00\x00\x00\x01\x11\x00\x00\x00\x04echoa";
+
+/// And one of stream 3, with the content `b`.
+const SECOND: &[u8] = b"\x00\x00\x00\x03\x11\x00\x00\x00\x04echob";
+
 // Requests come on streams 1 and 3, and each of two workers serves one: the one of stream 1 goes on
 // once that of stream 3 is answered.
-fn cross<R: Abort + Threads + Wait + Sync>(rt: &R, alloc: Global, held: Held) {
-    let (connection, mut caller) = connected(rt, alloc);
-    open(rt, alloc, &connection, &mut caller);
-    comes(
-        rt,
-        alloc,
-        &connection,
-        &mut caller,
-        b"\x00\x00\x00\x01\x11\x00\x00\x00\x04echoa",
-    );
-    comes(
-        rt,
-        alloc,
-        &connection,
-        &mut caller,
-        b"\x00\x00\x00\x03\x11\x00\x00\x00\x04echob",
-    );
-    let other = one_more(rt, &connection, &mut caller);
-    let hold = Hold::new();
-    let served = serve_in_two(rt, alloc, &connection, caller, other, held, &hold);
-    assert!(rt; served.0);
-    assert!(rt; served.1);
+fn cross<R: Abort + Threads + Wait + Sync, T: Tape + Send>(
+    rt: &R,
+    alloc: Global,
+    tape: T,
+    held: Held,
+) -> T
+    requires empty { T.count tape ≡ 0 }
+{
+    let (server, mut caller) = opened(rt, alloc, tape);
+    assert!(rt; comes(rt, alloc, &server, &mut caller, FIRST));
+    assert!(rt; comes(rt, alloc, &server, &mut caller, SECOND));
+    let other = one_more(rt, &server, &mut caller);
+    let hold = Hold::new(held);
+    let caller = serve_in_two(rt, alloc, &server, caller, other, &hold);
     assert!(rt; !hold.gave_up.load(Ordering::SeqCst));
+    close(rt, server, caller)
 }
 
 #[test]
 fn a_job_is_held_before_its_handler_while_another_is_answered(rt: HostRuntime) {
-    cross(&rt, rt.alloc(), Held::Before);
+    cross(&rt, rt.alloc(), Blank::new(), Held::Before);
 }
 
 #[test]
 fn a_handler_is_held_while_another_job_is_answered(rt: HostRuntime) {
-    cross(&rt, rt.alloc(), Held::Within);
+    cross(&rt, rt.alloc(), Blank::new(), Held::Within);
 }
