@@ -21,7 +21,7 @@ use std::process::ExitCode;
 use std::{env, fs};
 
 /// The files of rows.
-const FILES: [&str; 8] = [
+const FILES: &[&str] = &[
     "client",
     "server",
     "streams",
@@ -41,7 +41,7 @@ fn read(rt: &HostRuntime, folder: &str, file: &str) -> Result<String> {
 // Plays the files of this folder. Answers whether no row differs.
 fn play_all(rt: &HostRuntime, folder: &str) -> Result<bool> {
     let mut right = true;
-    for file in FILES {
+    for &file in FILES {
         let text = read(rt, folder, file)?;
         right = play(rt, rt.alloc(), file, &text)? && right;
     }

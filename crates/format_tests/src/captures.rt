@@ -2,9 +2,11 @@
 
 use capture::{BadFrame, CaptureFault, LineFault, from_lines, to_lines};
 use rs_frame::FrameFault;
+use std::alloc::Global;
+use std::process::Abort;
 
 /// Bytes, the first bad frame in them, and their lines.
-const READ: [(&[u8], Option<CaptureFault>, &[u8]); 9] = [
+const READ: &[(&[u8], Option<CaptureFault>, &[u8])] = &[
     (b"", None, b""),
     // REQUEST_N of stream 1 with 2,147,483,647.
     (
@@ -66,7 +68,7 @@ const READ: [(&[u8], Option<CaptureFault>, &[u8]); 9] = [
 ];
 
 /// A text, its first wrong line, and the bytes of its frames.
-const WRITTEN: [(&[u8], Option<LineFault>, &[u8]); 5] = [
+const WRITTEN: &[(&[u8], Option<LineFault>, &[u8])] = &[
     // A line gives its frame after its length.
     (
         b"REQUEST_FNF 1 - - 6869\n",
@@ -89,22 +91,41 @@ fn is_rest(whole: &[u8], wanted: &[u8]) -> bool {
     }
 }
 
+// The first bad frame in the bytes, and whether these lines are appended.
+fn shown(
+    rt: &impl Abort,
+    alloc: Global,
+    bytes: &[u8],
+    lines: &[u8],
+) -> (Option<CaptureFault>, bool) {
+    let mut out = Vec::from_slice(alloc, b"#").expect(rt, "there is memory");
+    let fault = to_lines(alloc, bytes, &mut out).err();
+    let are_appended = is_rest(out.as_slice(), lines);
+    drop(out);
+    (fault, are_appended)
+}
+
 #[test]
 fn each_frame_has_a_line(rt: HostRuntime) {
     for (bytes, wanted, lines) in READ {
-        let mut out = Vec::from_slice(rt.alloc(), b"#").expect(&rt, "there is memory");
-        let fault = to_lines(rt.alloc(), bytes, &mut out).err();
-        assert_eq!(rt; fault, wanted, "{bytes:?}");
-        assert!(rt; is_rest(out.as_slice(), lines), "{bytes:?}");
+        let (fault, are_appended) = shown(&rt, rt.alloc(), bytes, lines);
+        assert!(rt; fault == *wanted && are_appended, "{bytes:?}");
     }
+}
+
+// The first wrong line of the text, and whether these bytes are appended.
+fn read(rt: &impl Abort, alloc: Global, text: &[u8], bytes: &[u8]) -> (Option<LineFault>, bool) {
+    let mut out = Vec::from_slice(alloc, b"#").expect(rt, "there is memory");
+    let fault = from_lines(alloc, text, &mut out).err();
+    let are_appended = is_rest(out.as_slice(), bytes);
+    drop(out);
+    (fault, are_appended)
 }
 
 #[test]
 fn each_line_gives_its_frame(rt: HostRuntime) {
     for (text, wanted, bytes) in WRITTEN {
-        let mut out = Vec::from_slice(rt.alloc(), b"#").expect(&rt, "there is memory");
-        let fault = from_lines(rt.alloc(), text, &mut out).err();
-        assert_eq!(rt; fault, wanted, "{text:?}");
-        assert!(rt; is_rest(out.as_slice(), bytes), "{text:?}");
+        let (fault, are_appended) = read(&rt, rt.alloc(), text, bytes);
+        assert!(rt; fault == *wanted && are_appended, "{text:?}");
     }
 }

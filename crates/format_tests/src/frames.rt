@@ -19,7 +19,7 @@ pub fn decoded(rt: &impl Abort, alloc: Global, bytes: &[u8]) -> Frame
 }
 
 /// For each rule its number, and bytes of which it is the least that they break.
-const BROKEN: [(u8, &[u8]); 9] = [
+const BROKEN: &[(u8, &[u8])] = &[
     (1, b"\0\0\0\x01\x20"),
     (2, b"\x80\0\0\x01\x24\0"),
     (3, b"\0\0\0\0\x24\0"),
@@ -35,9 +35,9 @@ fn number(alloc: Global, bytes: &[u8]) -> Option<u8> {
     if bytes.len() > 0xff_ffff {
         return None;
     }
-    match decode(alloc, bytes) {
-        Err(fault) => rule_number(fault),
-        Ok(_) => None,
+    match decode(alloc, bytes).err() {
+        Some(fault) => rule_number(fault),
+        None => None,
     }
 }
 
@@ -55,8 +55,8 @@ fn number_seen(bytes: &[u8]) -> Option<u8> {
 #[test]
 fn each_rule_is_named(rt: HostRuntime) {
     for (rule, bytes) in BROKEN {
-        assert_eq!(rt; number(rt.alloc(), bytes), Some(rule));
-        assert_eq!(rt; number_seen(bytes), Some(rule));
+        assert!(rt; number(rt.alloc(), bytes) == Some(*rule), "rule {rule}");
+        assert!(rt; number_seen(bytes) == Some(*rule), "rule {rule}");
     }
     assert!(rt;
         rule_number(FrameFault::OutOfMemory).is_none(),
@@ -65,7 +65,7 @@ fn each_rule_is_named(rt: HostRuntime) {
 }
 
 /// The canonical bytes of each type, the usual SETUP first.
-const CANONICAL: [&[u8]; 18] = [
+const CANONICAL: &[&[u8]] = &[
     b"\0\0\0\0\x04\0\0\x01\0\0\0\0\x4e\x20\0\x01\x5f\x90\
         \x18application/octet-stream\x18application/octet-stream",
     b"\0\0\0\0\x05\xc0\0\x01\0\0\0\0\0\x01\0\0\0\x02\0\x01\x74\0\x01\x61\0\0\x01\x6d\x63",
@@ -89,7 +89,7 @@ const CANONICAL: [&[u8]; 18] = [
 
 /// Bytes with flags that their type does not name, or without the one that it has, and the
 /// canonical bytes of the same frame.
-const OTHER_FLAGS: [(&[u8], &[u8]); 2] = [
+const OTHER_FLAGS: &[(&[u8], &[u8])] = &[
     (
         b"\0\0\0\x01\x2f\xff\0\0\0\x2a",
         b"\0\0\0\x01\x2c\0\0\0\0\x2a",
@@ -121,16 +121,20 @@ fn is_written_as(
     other: &Frame,
     bytes: &[u8],
 ) -> bool {
-    *frame == *other
-        && has_length(frame, bytes.len())
-        && written(rt, alloc, frame).as_slice() == bytes
+    let written = written(rt, alloc, frame);
+    let is_written = written.as_slice() == bytes;
+    drop(written);
+    is_written && *frame == *other && has_length(frame, bytes.len())
 }
 
 // Whether the bytes spell a frame whose copy is the same, and has these canonical bytes.
 fn comes_back(rt: &impl Abort, alloc: Global, bytes: &[u8], canonical: &[u8]) -> bool {
     let frame = decoded(rt, alloc, bytes);
     let copy = copied(rt, alloc, &frame);
-    is_written_as(rt, alloc, &copy, &frame, canonical)
+    let is_so = is_written_as(rt, alloc, &copy, &frame, canonical);
+    drop(copy);
+    drop(frame);
+    is_so
 }
 
 #[test]
@@ -147,7 +151,11 @@ fn lies_there(rt: &impl Abort, alloc: Global, bytes: &[u8]) -> bool {
     match view(bytes) {
         Ok(frame) => {
             let own = frame.to_frame(alloc).expect(rt, "there is memory");
-            own == decoded(rt, alloc, bytes)
+            let read = decoded(rt, alloc, bytes);
+            let is_same = own == read;
+            drop(own);
+            drop(read);
+            is_same
         }
         Err(_) => false,
     }
@@ -176,7 +184,7 @@ struct Row {
     resumable: bool,
 }
 
-const READ: [Row; 5] = [
+const READ: &[Row] = &[
     Row {
         bytes: b"\0\0\0\0\x04\0\0\x01\0\0\0\0\x4e\x20\0\x01\x5f\x90\
             \x18application/octet-stream\x18application/octet-stream",
@@ -221,14 +229,18 @@ const READ: [Row; 5] = [
 // Whether the frame is written so for a reader, and has the stream of the row.
 fn says(rt: &impl Abort, alloc: Global, frame: &Frame, row: &Row) -> bool {
     let text = format!(in alloc; "{frame:?}").expect(rt, "there is memory");
-    text.as_str() == row.says && stream(frame) == row.stream && resumable(frame) == row.resumable
+    let is_text = text.as_str() == row.says;
+    drop(text);
+    is_text && stream(frame) == row.stream && resumable(frame) == row.resumable
 }
 
 #[test]
 fn bytes_are_read_by_field(rt: HostRuntime) {
     for row in READ {
         let frame = decoded(&rt, rt.alloc(), row.bytes);
-        assert!(rt; says(&rt, rt.alloc(), &frame, &row), "{}", row.says);
+        let says = says(&rt, rt.alloc(), &frame, row);
+        drop(frame);
+        assert!(rt; says, "{}", row.says);
     }
 }
 
@@ -245,5 +257,7 @@ fn a_channel_has_an_initial_number(rt: HostRuntime) {
             content: Blob::from_vec(Vec::new(rt.alloc())),
         },
     });
-    assert!(rt; !spellable(&frame));
+    let is_spellable = spellable(&frame);
+    drop(frame);
+    assert!(rt; !is_spellable);
 }

@@ -7,7 +7,7 @@ use std::alloc::Global;
 use std::process::Abort;
 
 /// The canonical bytes of frames, and their lines.
-const LINES: [(&[u8], &[u8]); 19] = [
+const LINES: &[(&[u8], &[u8])] = &[
     (
         b"\0\0\0\0\x05\xc0\0\x01\0\0\0\0\0\x01\0\0\0\x02\0\x01\x74\x01\x61\0\0\0\x01\x6d\x63",
         b"SETUP 0 RL 1 0 1 2 74 61 . 6d 63",
@@ -54,7 +54,7 @@ const LINES: [(&[u8], &[u8]); 19] = [
 ];
 
 /// Lines that are those of no frame, and the first wrong word of each.
-const WRONG: [(&[u8], TextFault); 10] = [
+const WRONG: &[(&[u8], TextFault)] = &[
     (b"REQUEST_FNF 0 - - 6869", TextFault::BadNumber(1)),
     (b"REQUEST_FNF 1 - - 686", TextFault::BadHex(4)),
     (b"CANCEL 1 2", TextFault::BadWord(2)),
@@ -73,10 +73,13 @@ fn is_shown(rt: &impl Abort, alloc: Global, bytes: &[u8], line: &[u8]) -> bool {
     let mut out = Vec::from_slice(alloc, b">").expect(rt, "there is memory");
     let frame = decoded(rt, alloc, bytes);
     line_of(&frame, &mut out).expect(rt, "there is memory");
-    match out.as_slice() {
+    drop(frame);
+    let is_shown = match out.as_slice() {
         [b'>', rest @ ..] => rest == line,
         _ => false,
-    }
+    };
+    drop(out);
+    is_shown
 }
 
 // Whether the line is that of the frame with these canonical bytes.
@@ -84,7 +87,10 @@ fn is_read(rt: &impl Abort, alloc: Global, line: &[u8], bytes: &[u8]) -> bool {
     let mut out = Vec::new(alloc);
     let frame = read_line(alloc, line).expect(rt, "the line is that of a frame");
     encode(&frame, &mut out).expect(rt, "there is memory");
-    out.as_slice() == bytes
+    drop(frame);
+    let is_read = out.as_slice() == bytes;
+    drop(out);
+    is_read
 }
 
 #[test]
@@ -104,6 +110,9 @@ fn frames_and_lines_say_the_same(rt: HostRuntime) {
 #[test]
 fn the_first_wrong_word_is_told(rt: HostRuntime) {
     for (line, fault) in WRONG {
-        assert_eq!(rt; read_line(rt.alloc(), line).err(), Some(fault), "{line:?}");
+        assert!(rt;
+            read_line(rt.alloc(), line).err() == Some(*fault),
+            "{line:?}"
+        );
     }
 }

@@ -6,20 +6,22 @@
 
 use rsocket_load::load;
 use std::alloc::Global;
-use std::test::Fail;
+use std::process::Abort;
 use tape::{BlankShelf, KeptShelf, Shelf};
 
 /// A seed, and what its run writes.
 type Row = (u32, &'static [u8]);
 
-const ROWS: [Row; 3] = [
-    (
-        0,
-        b"client made 50003 1899770 handled 50003 1849766
+const FIRST: Row = (
+    0,
+    b"client made 50003 1899770 handled 50003 1849766
 server made 50003 1849766 handled 50003 1899770
 load 0 cuts 9
 ",
-    ),
+);
+
+const ROWS: &[Row] = &[
+    FIRST,
     (
         1,
         b"client made 50003 1849802 handled 50003 1899766
@@ -37,24 +39,28 @@ load 4294967295 cuts 9
 ];
 
 // Whether the run of this seed over that shelf writes so.
-fn writes<H: Shelf>(alloc: Global, shelf: &mut H, row: Row) -> Result<bool, Fail> {
+fn writes<R: Abort, H: Shelf>(rt: &R, alloc: Global, shelf: &mut H, row: Row) -> bool {
     let (seed, wanted) = row;
-    let text = load(alloc, seed, shelf).map_err(|_| "memory")?;
-    Ok(text.as_slice() == wanted)
+    let text = load(alloc, seed, shelf).expect(rt, "there is memory");
+    let is_so = text.as_slice() == wanted;
+    drop(text);
+    is_so
 }
 
 #[test]
-fn both_ends_handle_all_that_was_made(rt: HostRuntime) -> Result<(), Fail> {
+fn both_ends_handle_all_that_was_made(rt: HostRuntime) {
     for row in ROWS {
         let mut shelf = BlankShelf::new(rt.alloc());
-        assert!(rt; writes(rt.alloc(), &mut shelf, row)?, "seed {}", row.0);
+        let is_so = writes(&rt, rt.alloc(), &mut shelf, *row);
+        drop(shelf);
+        assert!(rt; is_so, "seed {}", row.0);
     }
-    Ok(())
 }
 
 #[test]
-fn what_tapes_keep_is_not_written(rt: HostRuntime) -> Result<(), Fail> {
+fn what_tapes_keep_is_not_written(rt: HostRuntime) {
     let mut shelf = KeptShelf::new(rt.alloc());
-    assert!(rt; writes(rt.alloc(), &mut shelf, ROWS[0])?);
-    Ok(())
+    let is_so = writes(&rt, rt.alloc(), &mut shelf, FIRST);
+    drop(shelf);
+    assert!(rt; is_so);
 }

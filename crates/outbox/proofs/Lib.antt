@@ -6,3 +6,4 @@ pub mod Spanned
 pub mod Counted
 pub mod Woven
 pub mod Drawn
+mod Kept

@@ -63,6 +63,20 @@ sends o spans more i is few held spare =
       };
     }
 
+-- a frame is put into the line after all own bytes
+pub joins : (o : Inside) (spans : Line) (more : List ℕ) → IsWoven o → spans.bytes ≡ o.spans.bytes ++ run (length o.own.bytes - own_in o.spans.bytes) more
+    → length (waiting_of o).queue + length more < 2 ^ 63 → IsWoven (record o { spans = spans }) × (weave spans.bytes o.own.bytes ≡ (waiting_of o).queue ++ more)
+joins o spans more i is few =
+    let tail = length o.own.bytes - own_in o.spans.bytes in
+    let count = ap own_in is ∙ own_in-append o.spans.bytes (run tail more) in
+    let long = ap length is ∙ length-append o.spans.bytes (run tail more) in (
+      record {
+        own = omega (arith, count, own_in-run tail more, i.own);
+        few = omega (arith, count, own_in-run tail more, long, length-run tail more, in_all o i, i.own, few);
+      },
+      ap (λ bs. weave bs o.own.bytes) is ∙ weave-last o.spans.bytes tail o.own.bytes more (omega (arith, i.own)),
+    )
+
 -- the last frame goes from the own bytes into the line
 pub lines : (o : Inside) (own : Contents) (spans : Line) (frame : List ℕ) (start : ℕ) → IsWoven o → start ≤ length o.own.bytes → own_in o.spans.bytes ≤ start
     → own.bytes ≡ take start o.own.bytes → drop start o.own.bytes ≡ framed frame → spans.bytes ≡ o.spans.bytes ++ run (start - own_in o.spans.bytes) (framed frame)

@@ -1,6 +1,10 @@
 -- What waits to be drawn, and what is held.
-use Rattle.std.specs.Prelude.{ℕ, ◌+◌, ◌<◌, ◌≤◌, ◌^◌, List, [], ◌++◌, length}
-use Rattle.replay_buffer.specs.Held.{HasSpare, Held, Spare, end_of}
+use Rattle.std.specs.Prelude.{◌≡◌, ℕ, ◌+◌, ◌-◌, ◌<◌, ◌≤◌, ◌^◌, List, [], ◌∷◌, ◌++◌, length}
+use Rattle.rs_frame.specs.declared.frame.Frame.{Frame}
+use Rattle.rs_frame.specs.Framed.{framed_frame}
+use Rattle.rs_frame.specs.Spelling.{canonical}
+use Rattle.position.specs.Boundaries.{pos}
+use Rattle.replay_buffer.specs.Held.{HasSpare, Held, IsHeldOf, Spare, end_of, from_least, with_newest}
 
 -- how many frames may be kept without memory, and how many of the last bytes that wait lie in one piece
 pub record Room : Type 0 where
@@ -40,3 +44,9 @@ pub record CanKeepLast (o : Waiting) (n : ℕ) : Type 0 where
   pub top : end_of o.held + n < 2 ^ 63
   pub loose : n ≤ o.room.loose
   pub within : n ≤ length o.queue
+
+-- the frame was put in line last, and is kept
+pub record IsKept (f : Frame) (old new : Waiting) : Type 0 where
+  pub queue : new.queue ≡ old.queue ++ framed_frame f
+  pub held : new.held ≡ from_least (with_newest old.held (canonical f)) (end_of (with_newest old.held (canonical f)) - old.held.hold)
+  pub of_made : (made : List Frame) (told : ℕ) → IsHeldOf made told old.held → told ≤ pos made → IsHeldOf (made ++ f ∷ []) told new.held

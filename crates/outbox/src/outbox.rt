@@ -1,43 +1,31 @@
 //! The bytes that wait, and what is held.
 
-ghost use Rattle.std.specs.Prelude.{◌≡◌, ◌+◌, ◌-◌, ◌<◌, ◌≤◌, ◌^◌, ◌↔◌, ◌++◌, [], ◌∷◌, IfOk, IfSome, IsTrue, List, OnErr, OnOk, drop, false, length, max, take, true, ℕ};
+ghost use Rattle.std.specs.Prelude.{◌≡◌, ◌+◌, ◌-◌, ◌<◌, ◌≤◌, ◌^◌, ◌↔◌, ◌++◌, [], ◌∷◌, IfOk, IsTrue, List, OnErr, OnOk, drop, false, length, max, take, true, ℕ};
 ghost use Rattle.std.specs.List.{AllByRecursion};
 ghost use Rattle.rs_frame.specs.declared.frame.Frame.{Frame as Sent};
 ghost use Rattle.rs_frame.specs.Requests.{request_frame};
-ghost use Rattle.rs_frame.specs.Spelling.{IsSpellable, canonical};
-ghost use Rattle.rs_frame.specs.Framed.{framed, framed_all};
-ghost use Rattle.position.specs.Boundaries.{pos};
-ghost use Rattle.replay_buffer.specs.Held.{HasSpare, IsHeldBoundary, IsHeldOf, end_of, framed_from, from_acked, from_least, spare_after, spare_for, with_newest};
-ghost use Rattle.outbox.specs.Line.{own_in};
-ghost use Rattle.outbox.specs.Waiting.{CanKeepLast, nothing_waits, with_last, with_queue, with_spare};
+ghost use Rattle.rs_frame.specs.Spelling.{IsSpellable};
+ghost use Rattle.rs_frame.specs.Framed.{framed_all};
+ghost use Rattle.replay_buffer.specs.Held.{IsHeldBoundary, IsHeldOf, end_of, framed_from, from_acked, spare_for};
+ghost use Rattle.outbox.specs.Waiting.{nothing_waits, with_last, with_queue, with_spare};
 
 use crate::drawing;
-use crate::spans::Spans;
+use crate::spans::{MOST, Spans};
 use byte_queue::ByteQueue;
-use byteorder::{BigEndian, ByteOrder};
-use rs_chunk::{frames_bytes, item_bytes, request_bytes};
+use rs_chunk::{frame_bytes, frames_bytes, item_bytes, request_bytes};
 use rs_frame::Frame;
 use rs_wire::{Amount, Kind, Message, OutOfMemory};
 use std::alloc::Global;
 use std::marker::Model;
-
-/// How long the length field before a frame is.
-const LENGTH: usize = 3;
-
-/// How long a frame is at most, without it.
-const LONGEST: usize = 16_777_215;
-
-/// More bytes than this never wait: one less than 2^63.
-const MOST: u64 = 9_223_372_036_854_775_807;
 
 /// What waits to be drawn, and what is held. Contracts see the bytes that wait, what is held, what
 /// was reserved, and how many of the last bytes lie in one piece.
 #[derive(Drop)]
 pub struct Outbox {
     /// The own bytes: those of frames that lie nowhere else.
-    own: ByteQueue,
+    pub(crate) own: ByteQueue,
     /// The line: own bytes that have held ones after them, and these. The other own bytes come last.
-    spans: Spans,
+    pub(crate) spans: Spans,
 }
 
 impl Model for Outbox {
@@ -50,13 +38,6 @@ impl Model for Outbox {
     ghost view = { waiting_of };
 
     ghost invariant = { IsWoven };
-}
-
-// Whether the bytes are a frame after its length.
-fn is_framed(bytes: &[u8]) -> bool
-    ensures { result ≡ true → bytes.now ≡ framed (drop 3 bytes.now) }
-{
-    bytes.len() >= LENGTH && BigEndian::read_u24(bytes) as usize == bytes.len() - LENGTH
 }
 
 // Drops what was appended after the first `before` own bytes, where more would wait than can.
@@ -72,27 +53,6 @@ fn keep_within(own: &mut ByteQueue, held: u64, before: usize) -> Result<(), OutO
         return Err(OutOfMemory);
     }
     Ok(())
-}
-
-// Where the last frame starts, of so many bytes after its length, if it can be put into the line.
-fn start_of_last(spans: &Spans, own: &[u8], count: usize) -> Option<usize>
-    ensures room { IfSome result (λ _. 0 < spans.now.room) }
-    ensures within { IfSome result (λ start. start + (3 + count) ≡ length own.now) }
-    ensures after { IfSome result (λ start. own_in spans.now.bytes ≤ start) }
-    ensures framed { IfSome result (λ start.
-        drop start own.now ≡ framed (drop (start + 3) own.now)) }
-{
-    if count > LONGEST || own.len() < LENGTH + count {
-        return None;
-    }
-    let start = own.len() - (LENGTH + count);
-    if (start as u64) < spans.own() || !spans.can_take(start as u64) {
-        return None;
-    }
-    if !is_framed(&own[start..]) {
-        return None;
-    }
-    Some(start)
 }
 
 impl Outbox {
@@ -158,6 +118,18 @@ impl Outbox {
         Ok(())
     }
 
+    // Puts a frame in line after its length.
+    pub(crate) fn append_frame(&mut self, frame: &Frame) -> Result<(), OutOfMemory>
+        requires { IsSpellable frame.now }
+        ensures ok { OnOk result (self.new ≡ with_last self.old (framed_all (frame.now ∷ []))) }
+        ensures err { OnErr result (self.new ≡ self.old) }
+    {
+        let before = self.own.len();
+        self.own.append_with(|bytes| frame_bytes(frame, bytes))?;
+        keep_within(&mut self.own, self.spans.held(), before)?;
+        Ok(())
+    }
+
     /// Puts the PAYLOAD of an item in line after its length. Its message stays its owner's.
     pub fn append_item(
         &mut self,
@@ -208,47 +180,6 @@ impl Outbox {
     {
         self.spans.send_from(position, self.own.len() as u64)?;
         Ok(())
-    }
-
-    /// Keeps the frame of so many bytes that was put in line last.
-    pub fn keep_last(&mut self, count: usize)
-        requires { CanKeepLast self.old count }
-        ensures held { let all = with_newest self.old.held
-            (drop (length self.old.queue - count) self.old.queue) in
-            self.new.held ≡ from_least all (end_of all - all.hold) }
-        ensures of_made { (made : List Sent) (told : ℕ) (newest : Sent) →
-            IsHeldOf made told self.old.held → told ≤ pos made →
-            drop (length self.old.queue - count) self.old.queue ≡ canonical newest →
-            IsHeldOf (made ++ newest ∷ []) told self.new.held }
-        ensures queue { self.new.queue ≡ self.old.queue }
-    {
-        let own = self.own.as_slice();
-        match start_of_last(&self.spans, own, count) {
-            Some(start) => {
-                self.spans.keep_last(&own[start..], start as u64);
-                self.own.truncate(start);
-            }
-            // It stays among the own bytes.
-            None => self.spans.keep(&own[own.len() - count..]),
-        }
-    }
-
-    /// Keeps a frame.
-    pub fn keep(&mut self, frame: &[u8])
-        requires spare { HasSpare self.old.room.spare (length frame.now) }
-        requires shortest { 6 ≤ length frame.now }
-        requires longest { length frame.now < 2 ^ 24 }
-        requires top { end_of self.old.held + length frame.now < 2 ^ 63 }
-        ensures held { let all = with_newest self.old.held frame.now in
-            self.new.held ≡ from_least all (end_of all - all.hold) }
-        ensures of_made { (made : List Sent) (told : ℕ) (newest : Sent) →
-            IsHeldOf made told self.old.held → told ≤ pos made → frame.now ≡ canonical newest →
-            IsHeldOf (made ++ newest ∷ []) told self.new.held }
-        ensures end { end_of self.new.held ≡ end_of self.old.held + length frame.now }
-        ensures spare { self.new.room.spare ≡ spare_after self.old.room.spare (length frame.now) }
-        ensures queue { self.new.queue ≡ self.old.queue }
-    {
-        self.spans.keep(frame);
     }
 
     /// Forgets the whole frames that end at or before the position.

@@ -13,13 +13,14 @@ use crate::stretch::{
     put_last, unpin_where_none,
 };
 use replay_buffer::{Place, Replay};
+use rs_frame::Pieces;
 use rs_wire::OutOfMemory;
 use std::alloc::Global;
 use std::collections::VecDeque;
 use std::marker::Model;
 
 /// More bytes than this never wait: one less than 2^63.
-const MOST: u64 = 9_223_372_036_854_775_807;
+pub const MOST: u64 = 9_223_372_036_854_775_807;
 
 /// Kept frames begin a new stretch where fewer than this wait.
 const FEW: usize = 2;
@@ -186,9 +187,9 @@ impl Spans {
         self.reaches = false;
     }
 
-    /// Keeps a frame that stands after its length, and puts it in line after the first `own` own
-    /// bytes.
-    pub fn keep_last(&mut self, bytes: &[u8], own: u64)
+    /// Keeps a frame that stands after its length, in pieces, and puts it in line after the first
+    /// `own` own bytes.
+    pub fn keep_last(&mut self, bytes: &Pieces<'_>, own: u64)
         requires framed { bytes.now ≡ framed (drop 3 bytes.now) }
         requires spare { HasSpare self.old.spare (length (drop 3 bytes.now)) }
         requires shortest { 6 ≤ length (drop 3 bytes.now) }

@@ -10,6 +10,7 @@ ghost use Rattle.replay_buffer.specs.Held.{CanReadFrom, HasSpare, IsHeldBoundary
 
 use crate::passing::{forget_unpinned, pass_beyond, pass_up_to};
 use crate::store::{Place, Store};
+use rs_frame::Pieces;
 use rs_wire::OutOfMemory;
 use std::alloc::Global;
 use std::marker::Model;
@@ -88,8 +89,8 @@ impl Replay {
         forget_unpinned(&mut self.store, self.pin);
     }
 
-    /// Appends a frame that stands after its length field, as [`Replay::keep`] does.
-    pub fn keep_framed(&mut self, bytes: &[u8])
+    /// Appends a frame that stands after its length field, in pieces, as [`Replay::keep`] does.
+    pub fn keep_framed(&mut self, bytes: &Pieces<'_>)
         requires framed { bytes.now ≡ framed (drop 3 bytes.now) }
         requires spare { HasSpare self.old.spare (length (drop 3 bytes.now)) }
         requires shortest { 6 ≤ length (drop 3 bytes.now) }

@@ -5,6 +5,7 @@ ghost use Rattle.rs_frame.specs.Framed.{framed};
 
 use byteorder::{BigEndian, ByteOrder};
 use circular_buffer::HeapCircularBuffer;
+use rs_frame::Pieces;
 use rs_wire::OutOfMemory;
 
 /// The capacity of a ring that is to have room for so many items: a sixth more, so that a ring that
@@ -83,12 +84,25 @@ pub fn count_up_to(positions: &HeapCircularBuffer<u64>, position: u64) -> usize
     low
 }
 
-/// Appends the bytes, for which there is room.
-pub fn put(bytes: &mut HeapCircularBuffer<u8>, more: &[u8])
+// Appends the bytes, for which there is room.
+fn put(bytes: &mut HeapCircularBuffer<u8>, more: &[u8])
     requires { length bytes.old.items + length more.now ≤ bytes.old.capacity }
     ensures { bytes.new ≡ record bytes.old { items = bytes.old.items ++ more.now } }
 {
     let _all = bytes.fill_from_slice(more);
+}
+
+/// Appends bytes that lie in pieces, for which there is room.
+pub fn put_pieces(bytes: &mut HeapCircularBuffer<u8>, more: &Pieces<'_>)
+    requires { length bytes.old.items + length more.now ≤ bytes.old.capacity }
+    ensures { bytes.new ≡ record bytes.old { items = bytes.old.items ++ more.now } }
+{
+    let (head, metadata, content) = more.as_slices();
+    put(bytes, head);
+    if !metadata.is_empty() {
+        put(bytes, metadata);
+    }
+    put(bytes, content);
 }
 
 /// Appends the frame after its 24-bit length, for which there is room.

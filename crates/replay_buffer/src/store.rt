@@ -7,8 +7,11 @@ ghost use Rattle.position.specs.Boundaries.{pos_by};
 ghost use Rattle.replay_buffer.specs.Held.{HasSpare, spare_after, spare_for};
 ghost use Rattle.replay_buffer.specs.Stored.{IsStart, IsOldestUpTo, IsTrimmed, end_of, first_after, floor_of, frames_of, framed_from, held_from, nothing_stored};
 
-use crate::rings::{at, copy_after, count_up_to, drop_front, make_room, push, put, put_framed};
+use crate::rings::{
+    at, copy_after, count_up_to, drop_front, make_room, push, put_framed, put_pieces,
+};
 use circular_buffer::HeapCircularBuffer;
+use rs_frame::Pieces;
 use rs_wire::OutOfMemory;
 use std::alloc::Global;
 use std::marker::Model;
@@ -140,8 +143,8 @@ impl Store {
         self.spare_bytes -= frame.len();
     }
 
-    /// Appends a frame that stands after its length.
-    pub fn append_framed(&mut self, bytes: &[u8])
+    /// Appends a frame that stands after its length, in pieces.
+    pub fn append_framed(&mut self, bytes: &Pieces<'_>)
         requires framed { bytes.now ≡ framed (drop 3 bytes.now) }
         requires spare { HasSpare self.old.spare (length (drop 3 bytes.now)) }
         requires shortest { 6 ≤ length (drop 3 bytes.now) }
@@ -151,7 +154,7 @@ impl Store {
           spare = spare_after self.old.spare (length (drop 3 bytes.now));
         } }
     {
-        put(&mut self.bytes, bytes);
+        put_pieces(&mut self.bytes, bytes);
         let count = bytes.len() - 3;
         self.end += count as u64;
         push(&mut self.ends, self.end);

@@ -29,7 +29,7 @@ struct Row {
     frames: &'static [(u16, usize)],
 }
 
-const SPLIT: [Row; 11] = [
+const SPLIT: &[Row] = &[
     Row {
         shows: "a request of a hundred bytes is split",
         what: What::Fnf,
@@ -210,37 +210,46 @@ fn is_split_so(rt: &impl Abort, alloc: Global, row: &Row) -> bool {
     let frame = frame(row.what, message);
     let mtu = if row.mtu == 64 { 64 } else { 0 };
     let frames = fragments(rt, alloc, &frame, mtu);
-    are_shaped(rt, alloc, frames.as_slice(), row.frames)
+    drop(frame);
+    let are_shaped = are_shaped(rt, alloc, frames.as_slice(), row.frames);
+    drop(frames);
+    are_shaped
 }
 
 #[test]
 fn frames_are_split_at_the_mtu(rt: HostRuntime) {
     for row in SPLIT {
-        assert!(rt; is_split_so(&rt, rt.alloc(), &row), "{}", row.shows);
+        assert!(rt; is_split_so(&rt, rt.alloc(), row), "{}", row.shows);
     }
+}
+
+/// Of a message its metadata, where there is any, and its content, of a frame its head, all in bytes,
+/// and the mtu; then how many frames and bytes the split has.
+const SIZES: &[(Option<usize>, usize, u32, u32, u64, u64)] = &[
+    (None, 100, 6, 0, 1, 106),
+    (None, 58, 6, 64, 1, 64),
+    (None, 59, 6, 64, 2, 71),
+    (None, 100, 10, 64, 2, 116),
+    (Some(55), 1, 6, 64, 2, 71),
+    (Some(56), 1, 6, 64, 2, 75),
+    (Some(0), 60, 6, 64, 2, 75),
+    (None, 0, 6, 64, 1, 6),
+    (Some(130), 70, 6, 64, 4, 233),
+];
+
+// The size of the split of a message.
+fn size(rt: &impl Abort, message: &Message, head: u32, mtu: u32) -> SplitSize {
+    assert!(rt; message.size() < 1000 && head <= 10 && (mtu == 0 || mtu == 64));
+    split_size(message, head, mtu)
 }
 
 #[test]
 fn the_size_of_a_split_is_known_before_it_is_made(rt: HostRuntime) {
-    // Metadata, content, head, mtu; then how many frames and bytes.
-    let rows = [
-        (None, 100, 6, 0, 1, 106),
-        (None, 58, 6, 64, 1, 64),
-        (None, 59, 6, 64, 2, 71),
-        (None, 100, 10, 64, 2, 116),
-        (Some(55), 1, 6, 64, 2, 71),
-        (Some(56), 1, 6, 64, 2, 75),
-        (Some(0), 60, 6, 64, 2, 75),
-        (None, 0, 6, 64, 1, 6),
-        (Some(130), 70, 6, 64, 4, 233),
-    ];
-    for (metadata, content, head, mtu, frames, bytes) in rows {
-        let message = sized(&rt, rt.alloc(), metadata, content);
-        assert!(rt; message.size() < 1000 && head <= 10 && (mtu == 0 || mtu == 64));
-        assert_eq!(rt;
-            split_size(&message, head, mtu),
-            SplitSize { frames, bytes }
-        );
+    for (metadata, content, head, mtu, frames, bytes) in SIZES {
+        let message = sized(&rt, rt.alloc(), *metadata, *content);
+        let size = size(&rt, &message, *head, *mtu);
+        drop(message);
+        assert!(rt; size.frames == *frames && size.bytes == *bytes);
     }
 }
 
@@ -255,7 +264,7 @@ struct Part {
 }
 
 /// A part is too large exactly above the limit, and changes nothing.
-const TOO_LARGE: [Part; 3] = [
+const TOO_LARGE: &[Part] = &[
     Part {
         content: b"abc",
         flags: (true, false, false),
@@ -278,7 +287,7 @@ const TOO_LARGE: [Part; 3] = [
 ];
 
 /// C and N are taken from any part.
-const FLAGS: [Part; 2] = [
+const FLAGS: &[Part] = &[
     Part {
         content: b"ab",
         flags: (true, true, false),
@@ -294,33 +303,54 @@ const FLAGS: [Part; 2] = [
     },
 ];
 
-// What the glue answers, in words.
-fn answer(rt: &impl Abort, alloc: Global, glue: &mut Glue, part: &Part) -> String {
-    let content = Blob::from_slice(alloc, part.content).expect(rt, "there is memory");
-    let message = Message {
-        metadata: None,
-        content,
-    };
+// What the glue answers to a part of this message.
+fn pushed(
+    rt: &impl Abort,
+    glue: &mut Glue,
+    message: &Message,
+    flags: (bool, bool, bool),
+) -> Result<Glued, GlueFault> {
     assert!(rt; message.size() < 1000);
-    let (follows, complete, next) = part.flags;
-    let answer = glue.push(follows, &message, complete, next);
-    format!(in alloc; "{answer:?}").expect(rt, "there is memory")
+    let (follows, complete, next) = flags;
+    glue.push(follows, message, complete, next)
 }
 
-// That a glue answers so to the parts, in turn.
-fn comes(rt: &impl Abort, alloc: Global, parts: &[Part]) {
+// What the glue answers, in words.
+fn answer(rt: &impl Abort, alloc: Global, glue: &mut Glue, part: &Part) -> String {
+    let message = Message {
+        metadata: None,
+        content: Blob::from_slice(alloc, part.content).expect(rt, "there is memory"),
+    };
+    let answer = pushed(rt, glue, &message, part.flags);
+    drop(message);
+    let words = format!(in alloc; "{answer:?}");
+    drop(answer);
+    words.expect(rt, "there is memory")
+}
+
+// Whether the glue answers so to the part, and holds so many bytes then.
+fn is_answered_so(rt: &impl Abort, alloc: Global, glue: &mut Glue, part: &Part) -> bool {
+    let answer = answer(rt, alloc, glue, part);
+    let is_so = answer.as_str() == part.answer;
+    drop(answer);
+    is_so && glue.size() == part.held
+}
+
+// Whether a glue answers so to the parts, in turn.
+fn comes(rt: &impl Abort, alloc: Global, parts: &[Part]) -> bool {
     let mut glue = Glue::new(alloc, 4);
+    let mut right = true;
     for part in parts {
-        let answer = answer(rt, alloc, &mut glue, part);
-        assert_eq!(rt; answer.as_str(), part.answer);
-        assert_eq!(rt; glue.size(), part.held);
+        right = is_answered_so(rt, alloc, &mut glue, part) && right;
     }
+    drop(glue);
+    right
 }
 
 #[test]
 fn parts_are_joined_up_to_the_limit(rt: HostRuntime) {
-    comes(&rt, rt.alloc(), &TOO_LARGE);
-    comes(&rt, rt.alloc(), &FLAGS);
+    assert!(rt; comes(&rt, rt.alloc(), TOO_LARGE));
+    assert!(rt; comes(&rt, rt.alloc(), FLAGS));
 }
 
 // Pushes a payload. What the glue answers.
@@ -346,7 +376,7 @@ fn joined(rt: &impl Abort, alloc: Global, frames: &[Frame]) -> Glued {
     let mut glue = Glue::new(alloc, 200);
     let mut last = Glued::Part;
     for frame in frames {
-        assert!(rt; last == Glued::Part);
+        assert!(rt; matches!(last, Glued::Part));
         last = push(rt, &mut glue, frame);
     }
     last
@@ -360,12 +390,18 @@ fn a_split_is_joined_again(rt: HostRuntime) {
     };
     let item = frame(what, sized(&rt, rt.alloc(), Some(130), 70));
     let frames = fragments(&rt, rt.alloc(), &item, 64);
+    drop(item);
+    let joined = joined(&rt, rt.alloc(), frames.as_slice());
+    drop(frames);
     let expected = Glued::Whole {
         message: sized(&rt, rt.alloc(), Some(130), 70),
         complete: true,
         next: true,
     };
-    assert!(rt; joined(&rt, rt.alloc(), frames.as_slice()) == expected);
+    let is_same = joined == expected;
+    drop(joined);
+    drop(expected);
+    assert!(rt; is_same);
 }
 
 #[test]
@@ -374,16 +410,18 @@ fn frames_are_the_vector_that_they_were_made_of(rt: HostRuntime) {
     let one = frame(What::Fnf, sized(&rt, rt.alloc(), None, 1));
     frames.push(one).expect(&rt, "there is memory");
     let frames = Frames::from_vec(frames);
-    assert!(rt; frames.as_slice().len() == 1);
-    assert!(rt; frames.into_vec().len() == 1);
+    let count = frames.as_slice().len();
+    let frames = frames.into_vec();
+    let again = frames.len();
+    drop(frames);
+    assert!(rt; count == 1 && again == 1);
 }
 
 #[test]
 fn a_fault_says_why_in_a_sentence(rt: HostRuntime) {
     let fault = GlueFault::TooLarge(5);
     let sentence = format!(in rt.alloc(); "{fault}").expect(&rt, "there is memory");
-    assert_eq!(rt;
-        sentence.as_str(),
-        "the joined message would have 5 bytes, more than is taken"
-    );
+    let is_so = sentence.as_str() == "the joined message would have 5 bytes, more than is taken";
+    drop(sentence);
+    assert!(rt; is_so);
 }

@@ -17,7 +17,7 @@ struct Row {
     item: Option<&'static [u8]>,
 }
 
-const ROWS: [Row; 19] = [
+const ROWS: &[Row] = &[
     Row {
         shows: "an echo gives the content",
         law: Law::Echo,
@@ -169,13 +169,16 @@ fn is_item(answer: &Produced, item: Option<&[u8]>) -> bool {
 fn gives(rt: &impl Abort, alloc: Global, row: &Row) -> bool {
     let content = blob(rt, alloc, row.content);
     let answer = Stored::of(row.law).answer(alloc, &content, row.index);
-    is_item(&answer, row.item)
+    drop(content);
+    let is_item = is_item(&answer, row.item);
+    drop(answer);
+    is_item
 }
 
 #[test]
 fn each_law_gives_its_items(rt: HostRuntime) {
     for row in ROWS {
-        assert!(rt; gives(&rt, rt.alloc(), &row), "{}", row.shows);
+        assert!(rt; gives(&rt, rt.alloc(), row), "{}", row.shows);
     }
 }
 
@@ -203,7 +206,7 @@ fn find(
 }
 
 /// Routes that are added in turn, and what that comes to.
-const ADDED: [(&[u8], Kind, Law, Result<(), RouteFault>); 4] = [
+const ADDED: &[(&[u8], Kind, Law, Result<(), RouteFault>)] = &[
     (b"echo", Kind::Response, Law::Echo, Ok(())),
     (b"echo", Kind::Response, Law::Drop, Err(RouteFault::Twice)),
     (b"echo", Kind::Stream, Law::Count, Ok(())),
@@ -211,7 +214,7 @@ const ADDED: [(&[u8], Kind, Law, Result<(), RouteFault>); 4] = [
 ];
 
 /// The numbers of routes by name and kind, once those are added.
-const NUMBERS: [(&[u8], Kind, Option<u32>); 5] = [
+const NUMBERS: &[(&[u8], Kind, Option<u32>)] = &[
     (b"echo", Kind::Response, Some(0)),
     (b"echo", Kind::Stream, Some(1)),
     (b"Echo", Kind::Response, Some(2)),
@@ -223,7 +226,7 @@ const NUMBERS: [(&[u8], Kind, Option<u32>); 5] = [
 fn adds_all(rt: &impl Abort, alloc: Global, routes: &mut Routes<Law>) -> bool {
     let mut right = true;
     for (name, kind, law, added) in ADDED {
-        right = add(rt, alloc, routes, name, kind, law) == added && right;
+        right = add(rt, alloc, routes, name, *kind, *law) == *added && right;
     }
     right
 }
@@ -232,7 +235,7 @@ fn adds_all(rt: &impl Abort, alloc: Global, routes: &mut Routes<Law>) -> bool {
 fn finds_all(rt: &impl Abort, alloc: Global, routes: &Routes<Law>) -> bool {
     let mut right = true;
     for (name, kind, number) in NUMBERS {
-        right = find(rt, alloc, routes, name, kind) == number && right;
+        right = find(rt, alloc, routes, name, *kind) == *number && right;
     }
     right
 }
@@ -240,8 +243,10 @@ fn finds_all(rt: &impl Abort, alloc: Global, routes: &Routes<Law>) -> bool {
 #[test]
 fn a_route_is_added_once(rt: HostRuntime) {
     let mut routes = Routes::new(rt.alloc());
-    assert!(rt; adds_all(&rt, rt.alloc(), &mut routes));
-    assert!(rt; finds_all(&rt, rt.alloc(), &routes));
+    let are_added = adds_all(&rt, rt.alloc(), &mut routes);
+    let are_found = finds_all(&rt, rt.alloc(), &routes);
+    drop(routes);
+    assert!(rt; are_added && are_found);
 }
 
 // Whether the route of this name and kind gives the item at this index for the content `2b`.
@@ -255,11 +260,17 @@ fn answers<F: Handler>(
     item: Option<&[u8]>,
 ) -> bool {
     let name = blob(rt, alloc, name);
+    let route = routes.find(&name, kind);
+    drop(name);
+    let Some(route) = route else {
+        return false;
+    };
     let content = blob(rt, alloc, b"2b");
-    match routes.find(&name, kind) {
-        Some(route) => is_item(&routes.answer(alloc, route, &content, index), item),
-        None => false,
-    }
+    let answer = routes.answer(alloc, route, &content, index);
+    drop(content);
+    let is_item = is_item(&answer, item);
+    drop(answer);
+    is_item
 }
 
 // The routes of an echo and of upper case.
@@ -271,7 +282,7 @@ fn two_routes(rt: &impl Abort, alloc: Global) -> Routes<Law> {
 }
 
 /// A route by name and kind, and the item that it gives at an index.
-const GIVEN: [(&[u8], Kind, u64, Option<&[u8]>); 3] = [
+const GIVEN: &[(&[u8], Kind, u64, Option<&[u8]>)] = &[
     (b"echo", Kind::Stream, 0, Some(b"2b")),
     (b"upper", Kind::Channel, 0, Some(b"2B")),
     (b"upper", Kind::Channel, 1, None),
@@ -280,9 +291,12 @@ const GIVEN: [(&[u8], Kind, u64, Option<&[u8]>); 3] = [
 #[test]
 fn a_route_answers_by_its_law(rt: HostRuntime) {
     let routes = two_routes(&rt, rt.alloc());
+    let mut right = true;
     for (name, kind, index, item) in GIVEN {
-        assert!(rt; answers(&rt, rt.alloc(), &routes, name, kind, index, item));
+        right = answers(&rt, rt.alloc(), &routes, name, *kind, *index, *item) && right;
     }
+    drop(routes);
+    assert!(rt; right);
 }
 
 // A handler of a program's own: it keeps a law, and counts its calls.
@@ -303,21 +317,28 @@ impl Handler for Counted {
     }
 }
 
+// The route `own` of such a handler.
+fn own_routes(rt: &impl Abort, alloc: Global, calls: &Arc<AtomicU64>) -> Routes<Counted> {
+    let own = Counted {
+        calls: Arc::try_clone(calls).expect(rt, "there is room"),
+    };
+    let mut routes = Routes::new(alloc);
+    let stored = Stored::new(Law::Upper, own);
+    let law = stored.law();
+    let added = routes.add(blob(rt, alloc, b"own"), Kind::Response, stored);
+    assert!(rt; law == Law::Upper && added == Ok(()));
+    routes
+}
+
 #[test]
 fn a_handler_of_a_programs_own_is_stored(rt: HostRuntime) {
     let alloc = rt.alloc();
     let calls = Arc::new(alloc, AtomicU64::new(0)).expect(&rt, "there is memory");
-    let own = Counted {
-        calls: Arc::try_clone(&calls).expect(&rt, "there is room"),
-    };
-    let mut routes = Routes::new(alloc);
-    let stored = Stored::new(Law::Upper, own);
-    assert_eq!(rt; stored.law(), Law::Upper);
-    assert_eq!(rt;
-        routes.add(blob(&rt, alloc, b"own"), Kind::Response, stored),
-        Ok(())
-    );
-    assert!(rt; answers(&rt, alloc, &routes, b"own", Kind::Response, 0, Some(b"2B")));
-    assert!(rt; answers(&rt, alloc, &routes, b"own", Kind::Response, 1, None));
-    assert_eq!(rt; calls.load(Ordering::SeqCst), 2);
+    let routes = own_routes(&rt, alloc, &calls);
+    let is_upper = answers(&rt, alloc, &routes, b"own", Kind::Response, 0, Some(b"2B"));
+    let is_over = answers(&rt, alloc, &routes, b"own", Kind::Response, 1, None);
+    drop(routes);
+    let count = calls.load(Ordering::SeqCst);
+    drop(calls);
+    assert!(rt; is_upper && is_over && count == 2);
 }

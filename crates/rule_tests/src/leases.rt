@@ -17,7 +17,7 @@ enum Step {
 }
 
 /// What happens at a new lease, in turn.
-const ROWS: [(&str, &[Step]); 5] = [
+const ROWS: &[(&str, &[Step])] = &[
     (
         "a lease is used up by its count",
         &[
@@ -113,28 +113,29 @@ fn a_responder_admits_as_many_as_it_granted_in_sum(rt: HostRuntime) {
     let mut granted = Granted::new();
     assert!(rt; !granted.would_admit() && !granted.admit());
     granted.grant(Amount::of(1).expect(&rt, "an amount"));
-    assert!(rt; granted.would_admit());
-    assert_eq!(rt; (granted.admit(), granted.admit()), (true, false));
+    assert!(rt; granted.would_admit() && granted.admit() && !granted.admit());
     granted.grant(Amount::of(2).expect(&rt, "an amount"));
-    assert_eq!(rt;
-        (granted.admit(), granted.admit(), granted.admit()),
-        (true, true, false)
-    );
+    assert!(rt; granted.admit() && granted.admit() && !granted.admit());
 }
+
+/// Faults, and what they say.
+const SENTENCES: &[(LeaseFault, &str)] = &[
+    (
+        LeaseFault::Used(2),
+        "all 2 requests that were allowed are used",
+    ),
+    (
+        LeaseFault::Over(1_000),
+        "the lease is over since the moment 1000 ms",
+    ),
+];
 
 #[test]
 fn a_fault_says_why_in_a_sentence(rt: HostRuntime) {
-    for (fault, sentence) in [
-        (
-            LeaseFault::Used(2),
-            "all 2 requests that were allowed are used",
-        ),
-        (
-            LeaseFault::Over(1_000),
-            "the lease is over since the moment 1000 ms",
-        ),
-    ] {
+    for (fault, sentence) in SENTENCES {
         let told = format!(in rt.alloc(); "{fault}").expect(&rt, "there is memory");
-        assert!(rt; told.as_str() == sentence, "{sentence}");
+        let is_so = told.as_str() == *sentence;
+        drop(told);
+        assert!(rt; is_so, "{sentence}");
     }
 }

@@ -71,14 +71,15 @@ fn given(rt: &impl Abort, alloc: Global, reassembly: &mut Reassembly, row: &Row)
 fn comes(rt: &impl Abort, alloc: Global, reassembly: &mut Reassembly, rows: &[Row]) {
     for row in rows {
         let given = given(rt, alloc, reassembly, row);
-        assert!(rt; is_answer(&given, row));
+        let is_answer = is_answer(&given, row);
+        drop(given);
         let (stream, follows, _, _, _) = *row;
-        assert!(rt; reassembly.has_part(stream) == follows);
+        assert!(rt; is_answer && reassembly.has_part(stream) == follows);
     }
 }
 
 /// Parts that come in turn, where no part was before.
-const LISTS: [&[Row]; 4] = [
+const LISTS: &[&[Row]] = &[
     // Parts of two streams come in turn.
     &[
         (1, true, (None, b"ab"), (false, false), None),
@@ -139,11 +140,12 @@ fn parts_are_joined_by_stream(rt: HostRuntime) {
     for rows in LISTS {
         let mut reassembly = Reassembly::new(rt.alloc());
         comes(&rt, rt.alloc(), &mut reassembly, rows);
+        drop(reassembly);
     }
 }
 
 /// A part with N.
-const NEXT: [Row; 1] = [(1, true, (Some(b"m"), b"ab"), (false, true), None)];
+const NEXT: &[Row] = &[(1, true, (Some(b"m"), b"ab"), (false, true), None)];
 
 // How large the message would be with more on this stream, and whether N stood on any part of it.
 fn measure(rt: &impl Abort, reassembly: &Reassembly, stream: u32, more: &Message) -> (u64, bool) {
@@ -158,20 +160,23 @@ fn measure(rt: &impl Abort, reassembly: &Reassembly, stream: u32, more: &Message
 fn a_part_is_measured_before_it_is_pushed(rt: HostRuntime) {
     let mut reassembly = Reassembly::new(rt.alloc());
     let more = message(&rt, rt.alloc(), (Some(b"mn"), b"c"));
-    assert!(rt; measure(&rt, &reassembly, 1, &more) == (3, false));
-    comes(&rt, rt.alloc(), &mut reassembly, &NEXT);
-    assert!(rt; measure(&rt, &reassembly, 1, &more) == (6, true));
-    assert!(rt; measure(&rt, &reassembly, 3, &more) == (3, false));
+    let before = measure(&rt, &reassembly, 1, &more);
+    comes(&rt, rt.alloc(), &mut reassembly, NEXT);
+    let after = measure(&rt, &reassembly, 1, &more);
+    let other = measure(&rt, &reassembly, 3, &more);
+    drop(more);
+    drop(reassembly);
+    assert!(rt; before == (3, false) && after == (6, true) && other == (3, false));
 }
 
 /// Parts of two streams.
-const BEGUN: [Row; 2] = [
+const BEGUN: &[Row] = &[
     (1, true, (None, b"a"), (false, false), None),
     (3, true, (None, b"b"), (false, false), None),
 ];
 
 /// The last part of the second.
-const SECOND: [Row; 1] = [(
+const SECOND: &[Row] = &[(
     3,
     false,
     (None, b""),
@@ -180,7 +185,7 @@ const SECOND: [Row; 1] = [(
 )];
 
 /// A whole message on the first, where no part is.
-const FIRST: [Row; 1] = [(
+const FIRST: &[Row] = &[(
     1,
     false,
     (None, b"c"),
@@ -188,15 +193,26 @@ const FIRST: [Row; 1] = [(
     Some(((None, b"c"), false, false)),
 )];
 
+// Whether the parts leave nothing once they are whole.
+fn leave_nothing(
+    rt: &impl Abort,
+    alloc: Global,
+    reassembly: &mut Reassembly,
+    rows: &[Row],
+) -> bool {
+    comes(rt, alloc, reassembly, rows);
+    reassembly.is_empty()
+}
+
 #[test]
 fn a_whole_or_forgotten_message_leaves_nothing(rt: HostRuntime) {
     let mut reassembly = Reassembly::new(rt.alloc());
-    assert!(rt; reassembly.is_empty());
-    comes(&rt, rt.alloc(), &mut reassembly, &BEGUN);
+    let was_empty = reassembly.is_empty();
+    comes(&rt, rt.alloc(), &mut reassembly, BEGUN);
     reassembly.forget(1);
-    assert!(rt; !reassembly.has_part(1) && reassembly.has_part(3));
-    comes(&rt, rt.alloc(), &mut reassembly, &SECOND);
-    assert!(rt; reassembly.is_empty());
-    comes(&rt, rt.alloc(), &mut reassembly, &FIRST);
-    assert!(rt; reassembly.is_empty());
+    let is_forgotten = !reassembly.has_part(1) && reassembly.has_part(3);
+    let second = leave_nothing(&rt, rt.alloc(), &mut reassembly, SECOND);
+    let first = leave_nothing(&rt, rt.alloc(), &mut reassembly, FIRST);
+    drop(reassembly);
+    assert!(rt; was_empty && is_forgotten && second && first);
 }

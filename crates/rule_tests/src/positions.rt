@@ -2,37 +2,44 @@
 
 use position::{Counter, Spent};
 
+/// Lengths that are added in turn to a counter whose top is 10, what that comes to, and the sum then.
+const ADDED: &[(u32, Result<(), Spent>, u64)] = &[
+    (8, Ok(()), 8),
+    (3, Err(Spent), 8),
+    (2, Ok(()), 10),
+    (0, Ok(()), 10),
+    (1, Err(Spent), 10),
+];
+
+// Whether adding the length comes to this, and leaves this sum.
+fn adds(counter: &mut Counter, length: u32, added: Result<(), Spent>, sum: u64) -> bool {
+    counter.add(length) == added && counter.now() == sum
+}
+
 #[test]
 fn a_length_that_passes_the_top_is_not_added(rt: HostRuntime) {
     let mut counter = Counter::new(10);
-    assert_eq!(rt; counter.now(), 0);
-    assert_eq!(rt; counter.add(8), Ok(()));
-    assert_eq!(rt; counter.add(3), Err(Spent));
-    assert_eq!(rt; counter.add(2), Ok(()));
-    assert_eq!(rt; counter.now(), 10);
-    assert_eq!(rt; counter.add(0), Ok(()));
-    assert_eq!(rt; counter.add(1), Err(Spent));
-    assert_eq!(rt; counter.now(), 10);
+    assert!(rt; counter.now() == 0);
+    for (length, added, sum) in ADDED {
+        assert!(rt; adds(&mut counter, *length, *added, *sum));
+    }
 }
 
 #[test]
 fn a_top_of_zero_takes_nothing_and_sums_may_pass_32_bits(rt: HostRuntime) {
     let mut empty = Counter::new(0);
-    assert_eq!(rt; empty.add(1), Err(Spent));
-    assert_eq!(rt; empty, Counter::new(0));
+    assert!(rt; adds(&mut empty, 1, Err(Spent), 0) && empty == Counter::new(0));
 
     let mut counter = Counter::new(u64::MAX);
-    for _ in 0..2 {
-        assert_eq!(rt; counter.add(u32::MAX), Ok(()));
+    for sum in [4_294_967_295, 8_589_934_590] {
+        assert!(rt; adds(&mut counter, u32::MAX, Ok(()), sum));
     }
-    assert_eq!(rt; counter.now(), 8_589_934_590);
 }
 
 #[test]
 fn a_spent_position_says_so_in_a_sentence(rt: HostRuntime) {
     let sentence = format!(in rt.alloc(); "{}", Spent).expect(&rt, "there is memory");
-    assert_eq!(rt;
-        sentence.as_str(),
-        "the sum of the lengths would pass its top"
-    );
+    let is_so = sentence.as_str() == "the sum of the lengths would pass its top";
+    drop(sentence);
+    assert!(rt; is_so);
 }

@@ -16,65 +16,103 @@ fn kept_twice(rt: &impl Abort, alloc: Global, hold: u64) -> Replay {
     replay
 }
 
+// Where the oldest frame that is held starts, and where the newest ended.
+fn held(replay: &Replay) -> (u64, u64) {
+    (replay.first(), replay.end())
+}
+
 #[test]
 fn forgets_a_frame_where_two_pass_the_limit(rt: HostRuntime) {
     let replay = kept_twice(&rt, rt.alloc(), 10);
-    assert_eq!(rt; (replay.first(), replay.end()), (8, 16));
-    assert!(rt; replay.is_boundary(8) && replay.is_boundary(16));
-    assert!(rt; !replay.is_boundary(0) && !replay.is_boundary(12));
+    let held = held(&replay);
+    let is_whole = replay.is_boundary(8) && replay.is_boundary(16);
+    let is_cut = replay.is_boundary(0) || replay.is_boundary(12);
+    drop(replay);
+    assert!(rt; held == (8, 16) && is_whole && !is_cut);
+}
+
+// That the framed bytes from 8 on are those of one frame of eight bytes.
+fn copies_the_second(rt: &impl Abort, replay: &Replay) {
+    assert!(rt; replay.readable(8) && replay.framed_len(8) == 11);
+    let mut buffer = [9; 3];
+    assert!(rt; replay.copy(8, 0, &mut buffer) == 3 && buffer == [0, 0, 8]);
+    let mut rest = [9; 12];
+    assert!(rt; replay.copy(8, 2, &mut rest) == 9);
+    assert!(rt; rest == [8, 1, 2, 3, 4, 5, 6, 7, 8, 9, 9, 9]);
 }
 
 #[test]
 fn copies_framed_bytes(rt: HostRuntime) {
     let replay = kept_twice(&rt, rt.alloc(), 10);
-    assert!(rt; replay.readable(8));
-    assert_eq!(rt; replay.framed_len(8), 11);
-    let mut buffer = [9; 3];
-    assert_eq!(rt; replay.copy(8, 0, &mut buffer), 3);
-    assert_eq!(rt; buffer, [0, 0, 8]);
-    let mut rest = [9; 12];
-    assert_eq!(rt; replay.copy(8, 2, &mut rest), 9);
-    assert_eq!(rt; rest, [8, 1, 2, 3, 4, 5, 6, 7, 8, 9, 9, 9]);
+    copies_the_second(&rt, &replay);
+    drop(replay);
 }
 
 #[test]
 fn holds_exactly_the_limit_and_releases_whole_frames(rt: HostRuntime) {
     let mut replay = kept_twice(&rt, rt.alloc(), 16);
-    assert_eq!(rt; (replay.first(), replay.end()), (0, 16));
+    let both = held(&replay);
     replay.release(9);
-    assert_eq!(rt; (replay.first(), replay.end()), (8, 16));
+    let second = held(&replay);
     replay.release(100);
-    assert_eq!(rt; (replay.first(), replay.end()), (16, 16));
+    let none = held(&replay);
+    drop(replay);
+    assert!(rt; both == (0, 16) && second == (8, 16) && none == (16, 16));
 }
 
 #[test]
 fn holds_nothing_under_limit_zero(rt: HostRuntime) {
     let replay = kept_twice(&rt, rt.alloc(), 0);
-    assert_eq!(rt; (replay.first(), replay.end()), (16, 16));
-    assert!(rt; replay.is_boundary(16) && replay.readable(16));
-    assert_eq!(rt; replay.framed_len(16), 0);
+    let held = held(&replay);
+    let is_end = replay.is_boundary(16) && replay.readable(16) && replay.framed_len(16) == 0;
+    drop(replay);
+    assert!(rt; held == (16, 16) && is_end);
+}
+
+// A buffer that kept two frames of eight bytes after its start was pinned.
+fn pinned(rt: &impl Abort, alloc: Global, hold: u64) -> Replay {
+    let mut replay = Replay::new(alloc, hold).expect(rt, "there is memory");
+    replay.reserve(2, 16).expect(rt, "there is memory");
+    assert!(rt; replay.readable(0));
+    replay.pin(0);
+    replay.keep(&EIGHT);
+    replay.keep(&EIGHT);
+    replay
+}
+
+// That both frames are read until the pin is gone, and those from `first` on are held.
+fn reads_pinned(rt: &impl Abort, replay: &mut Replay, first: u64) {
+    assert!(rt; held(replay) == (first, 16) && replay.floor() == 0);
+    assert!(rt; replay.readable(0) && !replay.is_boundary(0) && replay.framed_len(0) == 22);
+    let place = replay.place_after(0, 13);
+    replay.unpin();
+    assert!(rt; place.position == 8 && place.skip == 2);
+    assert!(rt; replay.floor() == first && !replay.readable(0));
 }
 
 #[test]
 fn reads_a_pinned_frame_that_was_forgotten(rt: HostRuntime) {
     for (hold, first) in [(0, 16), (8, 8)] {
-        let mut replay = Replay::new(rt.alloc(), hold).expect(&rt, "there is memory");
-        replay.reserve(2, 16).expect(&rt, "there is memory");
-        assert!(rt; replay.readable(0));
-        replay.pin(0);
-        replay.keep(&EIGHT);
-        replay.keep(&EIGHT);
-        assert_eq!(rt;
-            (replay.first(), replay.floor(), replay.end()),
-            (first, 0, 16)
-        );
-        assert!(rt; replay.readable(0) && !replay.is_boundary(0));
-        assert_eq!(rt; replay.framed_len(0), 22);
-        let place = replay.place_after(0, 13);
-        assert_eq!(rt; (place.position, place.skip), (8, 2));
-        replay.unpin();
-        assert_eq!(rt; replay.floor(), first);
-        assert!(rt; !replay.readable(0));
+        let mut replay = pinned(&rt, rt.alloc(), hold);
+        reads_pinned(&rt, &mut replay, first);
+        drop(replay);
+    }
+}
+
+// Keeps a frame of its own length and bytes, and reads it where it is held.
+fn keeps_and_reads(rt: &impl Abort, replay: &mut Replay, number: u32) {
+    let length = 6 + (number % 40) as usize;
+    let bytes = [(number % 251) as u8; 64];
+    let frame = &bytes[..length];
+    replay.reserve(1, length).expect(rt, "there is memory");
+    let from = replay.end();
+    assert!(rt; from < 1_000_000);
+    replay.keep(frame);
+    assert!(rt; replay.end() == from + length as u64);
+    let mut buffer = [0; 64];
+    if replay.readable(from) {
+        assert!(rt; replay.copy(from, 0, &mut buffer) == 3 + length);
+        assert!(rt; buffer[2] == length as u8 && &buffer[3..3 + length] == frame);
     }
 }
 
@@ -82,21 +120,7 @@ fn reads_a_pinned_frame_that_was_forgotten(rt: HostRuntime) {
 fn reads_round_the_end_of_a_ring(rt: HostRuntime) {
     let mut replay = Replay::new(rt.alloc(), 24).expect(&rt, "there is memory");
     for number in 0..2000u32 {
-        let length = 6 + (number % 40) as usize;
-        let frame = vec![in rt.alloc(); (number % 251) as u8; length].expect(
-            &rt,
-            "there is memory",
-        );
-        replay.reserve(1, length).expect(&rt, "there is memory");
-        let from = replay.end();
-        assert!(rt; from < 1_000_000);
-        replay.keep(&frame);
-        assert_eq!(rt; replay.end(), from + length as u64);
-        let mut buffer = [0; 64];
-        if replay.readable(from) {
-            assert_eq!(rt; replay.copy(from, 0, &mut buffer), 3 + length);
-            assert_eq!(rt; buffer[2], length as u8);
-            assert_eq!(rt; &buffer[3..3 + length], frame.as_slice());
-        }
+        keeps_and_reads(&rt, &mut replay, number);
     }
+    drop(replay);
 }

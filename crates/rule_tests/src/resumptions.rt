@@ -29,12 +29,15 @@ fn verdict(
         server_position,
         client_position,
     };
-    judge_resume(&frame, &own, 10, 20, boundary, 30)
+    let verdict = judge_resume(&frame, &own, 10, 20, boundary, 30);
+    drop(frame);
+    drop(own);
+    verdict
 }
 
 /// Of a RESUME its major version, token and positions, with whether the server position is a boundary
 /// between them; and its first fault.
-const FAULTS: [(u16, &[u8], u64, bool, u64, Gone); 7] = [
+const FAULTS: &[(u16, &[u8], u64, bool, u64, Gone)] = &[
     (2, b"tok2", 9, false, 31, Gone::Version(2)),
     (1, b"tok2", 9, false, 31, Gone::Token),
     (1, b"tok", 15, true, 30, Gone::Token),
@@ -68,13 +71,13 @@ fn the_first_fault_of_resume_is_answered(rt: HostRuntime) {
         let verdict = verdict(
             &rt,
             rt.alloc(),
-            major,
+            *major,
             token,
-            server_position,
-            boundary,
-            client_position,
+            *server_position,
+            *boundary,
+            *client_position,
         );
-        assert!(rt; verdict == Err(gone), "{gone:?}");
+        assert!(rt; verdict == Err(*gone), "{gone:?}");
     }
 }
 
@@ -88,17 +91,28 @@ fn a_position_within_a_frame_is_no_boundary(rt: HostRuntime) {
         client_position: 0,
     };
     let own = blob(&rt, rt.alloc(), b"");
-    assert_eq!(rt;
-        judge_resume(&frame, &own, 0, 16, false, 0),
-        Err(Gone::NotBoundary)
-    );
+    let verdict = judge_resume(&frame, &own, 0, 16, false, 0);
+    drop(frame);
+    drop(own);
+    assert!(rt; verdict == Err(Gone::NotBoundary));
 }
+
+/// Of a RESUME_OK its position, the positions from which and to which frames are held, and whether
+/// its position is a boundary between them; and the verdict.
+const OK_VERDICTS: &[(u64, u64, u64, bool, Result<(), Gone>)] = &[
+    (17, 0, 16, false, Err(Gone::Ahead(16))),
+    (9, 10, 16, false, Err(Gone::ClientGone(10))),
+    (7, 0, 16, false, Err(Gone::NotBoundary)),
+    (10, 10, 16, true, Ok(())),
+    (16, 10, 16, true, Ok(())),
+];
 
 #[test]
 fn the_first_fault_of_resume_ok_is_answered(rt: HostRuntime) {
-    assert_eq!(rt; judge_ok(17, 0, 16, false), Err(Gone::Ahead(16)));
-    assert_eq!(rt; judge_ok(9, 10, 16, false), Err(Gone::ClientGone(10)));
-    assert_eq!(rt; judge_ok(7, 0, 16, false), Err(Gone::NotBoundary));
-    assert_eq!(rt; judge_ok(10, 10, 16, true), Ok(()));
-    assert_eq!(rt; judge_ok(16, 10, 16, true), Ok(()));
+    for (position, first, end, boundary, verdict) in OK_VERDICTS {
+        assert!(rt;
+            judge_ok(*position, *first, *end, *boundary) == *verdict,
+            "{verdict:?}"
+        );
+    }
 }

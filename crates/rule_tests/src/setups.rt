@@ -9,7 +9,7 @@ use std::process::Abort;
 /// Whether the server takes resumption and leases, or neither; then, of a SETUP of minor version 7,
 /// the major version, and whether it asks for resumption and for leases; whether the token is taken;
 /// and the verdict.
-const VERDICTS: [(bool, u16, bool, bool, bool, Result<(), SetupFault>); 8] = [
+const VERDICTS: &[(bool, u16, bool, bool, bool, Result<(), SetupFault>)] = &[
     (
         false,
         2,
@@ -83,24 +83,28 @@ fn verdict(
     rt: &impl Abort,
     alloc: Global,
     able: bool,
-    first: &Frame,
+    first: Frame,
     taken: bool,
 ) -> Result<(), SetupFault> {
-    judge(first, &server(rt, alloc, able), taken)
+    let server = server(rt, alloc, able);
+    let verdict = judge(&first, &server, taken);
+    drop(server);
+    drop(first);
+    verdict
 }
 
 #[test]
 fn the_first_fault_of_a_setup_is_answered(rt: HostRuntime) {
     for (able, major, resume, lease, taken, wanted) in VERDICTS {
-        let first = setup(&rt, rt.alloc(), major, resume, lease);
-        let verdict = verdict(&rt, rt.alloc(), able, &first, taken);
-        assert!(rt; verdict == wanted, "{wanted:?}");
+        let first = setup(&rt, rt.alloc(), *major, *resume, *lease);
+        let verdict = verdict(&rt, rt.alloc(), *able, first, *taken);
+        assert!(rt; verdict == *wanted, "{wanted:?}");
     }
 }
 
 #[test]
 fn another_frame_is_not_first(rt: HostRuntime) {
-    let verdict = verdict(&rt, rt.alloc(), false, &Frame::Cancel { stream: 1 }, true);
+    let verdict = verdict(&rt, rt.alloc(), false, Frame::Cancel { stream: 1 }, true);
     assert!(rt; verdict == Err(SetupFault::NotFirst));
 }
 

@@ -35,7 +35,9 @@ fn state_after(rt: &impl Abort, alloc: Global, kind: Kind, ways: &[Way]) -> Stat
     for way in ways {
         table.finish(1, *way);
     }
-    table.state(1)
+    let state = table.state(1);
+    drop(table);
+    state
 }
 
 // Starts a stream on the next own id, or answers 0 where none is left.
@@ -56,16 +58,18 @@ fn start_next(rt: &impl Abort, table: &mut Table, kind: Kind) -> u32 {
 fn one_stream_more_than_may_be_open_is_refused(rt: HostRuntime) {
     let mut table = Table::new(rt.alloc(), Side::Client, 1, 3).expect(&rt, "there is memory");
     let one = table.start(1, Kind::Response, Side::Client);
-    assert_eq!(rt; one, Ok(()));
     let more = table.start(3, Kind::Response, Side::Client);
-    assert_eq!(rt; more, Err(TableFault::TooMany(1)));
-    assert_eq!(rt; (table.next_id(), table.live()), (Some(3), 1));
-    assert_eq!(rt; table.state(3), State::Above);
+    let next = table.next_id();
+    let live = table.live();
+    let state = table.state(3);
+    drop(table);
+    assert!(rt; one == Ok(()) && more == Err(TableFault::TooMany(1)));
+    assert!(rt; next == Some(3) && live == 1 && state == State::Above);
 }
 
 /// A kind, the ways that were finished in this order, and whether the request and the reply are over
 /// then; none where the stream is over.
-const WAYS: [(Kind, &[Way], Option<(bool, bool)>); 13] = [
+const WAYS: &[(Kind, &[Way], Option<(bool, bool)>)] = &[
     (Kind::Fnf, &[], Some((false, false))),
     (Kind::Fnf, &[Way::Request], None),
     (Kind::Fnf, &[Way::Reply], None),
@@ -88,8 +92,8 @@ const WAYS: [(Kind, &[Way], Option<(bool, bool)>); 13] = [
 #[test]
 fn a_stream_is_over_by_the_ways_of_its_kind(rt: HostRuntime) {
     for (kind, ways, over) in WAYS {
-        let state = state_after(&rt, rt.alloc(), kind, ways);
-        assert!(rt; state == wanted(kind, over), "{kind:?} {ways:?}");
+        let state = state_after(&rt, rt.alloc(), *kind, ways);
+        assert!(rt; state == wanted(*kind, *over), "{kind:?} {ways:?}");
     }
 }
 
@@ -111,7 +115,7 @@ const PEERS: State = State::Live {
     reply_over: false,
 };
 
-const STATES: [(u32, State); 6] = [
+const STATES: &[(u32, State)] = &[
     (0, State::Above),
     (1, State::Above),
     (2, State::Over),
@@ -120,13 +124,20 @@ const STATES: [(u32, State); 6] = [
     (8, State::Above),
 ];
 
+// That the table tells these states.
+fn tells_states(rt: &impl Abort, table: &Table) {
+    for (id, state) in STATES {
+        assert!(rt; table.state(*id) == *state, "id {id}");
+    }
+}
+
 #[test]
 fn an_id_is_above_open_or_over(rt: HostRuntime) {
     let table = skipped(&rt, rt.alloc());
-    for (id, state) in STATES {
-        assert!(rt; table.state(id) == state, "id {id}");
-    }
-    assert!(rt; table.highest(Side::Client) == 0 && table.highest(Side::Server) == 6);
+    tells_states(&rt, &table);
+    let highest = [table.highest(Side::Client), table.highest(Side::Server)];
+    drop(table);
+    assert!(rt; highest == [0, 6]);
 }
 
 // The ids of three streams that an end starts, and 0 where none is left.
@@ -161,12 +172,17 @@ fn a_hundred_thousand_streams_that_are_over_leave_nothing(rt: HostRuntime) {
         "there is memory",
     );
     pass(&rt, &mut table, 100_000);
-    assert!(rt; table.live() == 0 && table.highest(Side::Server) == 200_000);
+    let live = table.live();
+    let highest = table.highest(Side::Server);
+    drop(table);
+    assert!(rt; live == 0 && highest == 200_000);
 }
 
 #[test]
 fn a_fault_says_why_in_a_sentence(rt: HostRuntime) {
     let fault = TableFault::TooMany(8);
     let sentence = format!(in rt.alloc(); "{fault}").expect(&rt, "there is memory");
-    assert_eq!(rt; sentence.as_str(), "the limit of 8 open streams is reached");
+    let is_so = sentence.as_str() == "the limit of 8 open streams is reached";
+    drop(sentence);
+    assert!(rt; is_so);
 }

@@ -27,7 +27,7 @@ struct Row {
     steps: &'static [Step],
 }
 
-const ROWS: [Row; 5] = [
+const ROWS: &[Row] = &[
     Row {
         shows: "a KEEPALIVE is due at the interval",
         interval: 20_000,
@@ -139,6 +139,6 @@ fn plays(row: &Row) -> Option<bool> {
 #[test]
 fn timers_tell_what_is_due(rt: HostRuntime) {
     for row in ROWS {
-        assert!(rt; plays(&row) == Some(true), "{}", row.shows);
+        assert!(rt; plays(row) == Some(true), "{}", row.shows);
     }
 }

@@ -1,5 +1,5 @@
 -- A call that goes out in one frame, once it is applied.
-use Rattle.std.proofs.Common.{◌≡◌, ◌+◌, ◌-◌, ◌++◌, ◌<◌, ◌≤◌, ◌^◌, ◌∷◌, [], ℕ, Bool, true, false, add-zero, List, drop, length, Option, Some, IfSome, refl, ap, sym, subst, ◌∙◌, arith}
+use Rattle.std.proofs.Common.{◌≡◌, ◌+◌, ◌++◌, ◌<◌, ◌≤◌, ◌^◌, ℕ, Bool, true, false, add-zero, List, length, Option, Some, IfSome, refl, ap, sym, subst, ◌∙◌, arith}
 use Rattle.rs_wire.specs.declared.settings.Settings.{Settings}
 use Rattle.rs_wire.specs.declared.call.Call.{Call}
 use Rattle.rs_wire.specs.declared.call.Call.TheVariants as call
@@ -14,13 +14,11 @@ use Rattle.stream_model.specs.Marks.{Mark}
 use Rattle.fragment.specs.Joining.{Gathered}
 use Rattle.interactions.specs.Seen.{Seen, acted, known_to, stream_of_call}
 use Rattle.reassembly.specs.Gathering.{ReassemblyView, gathered_at}
-use Rattle.rs_frame.specs.Spelling.{canonical}
-use Rattle.replay_buffer.specs.Held.{HasSpare, end_of}
-use Rattle.outbox.specs.Waiting.{CanKeepLast, Waiting}
+use Rattle.outbox.specs.Waiting.{Waiting}
 use Rattle.session_model.specs.declared.facts.Counted.{Counted}
 use Rattle.session_model.specs.Frames.{if_agreed, makes, spoken}
 use Rattle.session_model.specs.Legal.{IsFair}
-use Rattle.session_model.specs.Life.{agrees_leases, agrees_resumption}
+use Rattle.session_model.specs.Life.{agrees_leases, agrees_resumption, live_after}
 use Rattle.session_model.specs.Streams.{gathers, marks_in}
 use Rattle.session_core.specs.declared.state.State.{State}
 use Rattle.session_core.specs.After.{IsAfter, IsApplied, more_counted}
@@ -28,17 +26,18 @@ use Rattle.session_core.specs.Fits.{Fits, facts_of}
 use Rattle.session_core.specs.Gathering.{IsOfHeard, is_that, touches}
 use Rattle.session_core.specs.Kept.{HoldsMore}
 use Rattle.session_core.specs.Leasing.{LetsStart, covers_next, lease_after}
-use Rattle.session_core.specs.Prepared.{left_in_line, with_line}
-use Rattle.session_core.specs.Sending.{IsCallOn, IsLastOf, LetsGo, MaySend, Sends, answer_on, own_next, spoken_after}
+use Rattle.session_core.specs.Line.{line_of}
+use Rattle.session_core.specs.Prepared.{left_in_line, lined_on, with_line}
+use Rattle.session_core.specs.Sending.{FindsPosition, IsCallOn, IsLined, LetsGo, MaySend, Sends, answer_on, own_next, spoken_after}
 use Rattle.session_core.specs.Speaking.{Acts, CanSay, FindsRoom, speaks_on, with_room}
 use Rattle.session_model.proofs.Spelled.{makes_fit}
 use Rattle.session_core.specs.Sound.{IsSound}
-use Rattle.session_core.proofs.KeptLast.{can_keep, holds_last}
+use Rattle.session_core.proofs.Lined.{lined_held, lined_hold, lined_queue, top_where}
 use Rattle.session_core.proofs.Messages.{Goes, kept_parts, still_heard}
 use Rattle.session_core.proofs.Saying.{can_say}
 use Rattle.session_core.proofs.Standing.{after_act, no_draw, opened_above, or_false, or_none}
 use Rattle.session_core.proofs.Sums.{none_counted}
-use Rattle.session_core.proofs.SentOnce.{is_spoken, sent_answer, sent_means}
+use Rattle.session_core.proofs.SentOnce.{is_spoken, sent_answer, sent_lined, sent_means}
 use Rattle.session_core.proofs.Soundness.{end_below, starts_of}
 
 finds_room : (next : ℕ) (asked : Call) (on : ℕ) → IsCallOn next asked on → FindsRoom (speaks_on (answer_on asked on) (event.Asked asked)) (Some on)
@@ -148,60 +147,59 @@ stays_lined : (asked : Call) (on n : ℕ) (queue : List ℕ) → queue ≡ left_
 stays_lined (call.Request kind initial message complete) on n queue = refl
 stays_lined asked on n queue = refl
 
-pub sent_after : (g : Settings) (s : State) (past : List Entry) (mid new : State) (asked : Call) (on n : ℕ) (keeps leases : Bool) → Fits g s past → IsCallOn (own_next s.streams) asked on → Sends g s asked on n
+pub sent_after : (g : Settings) (s : State) (past : List Entry) (ready mid new : State) (asked : Call) (on n : ℕ) (keeps leases : Bool) → Fits g s past → IsCallOn (own_next s.streams) asked on → Sends g s asked on n
     → keeps ≡ agrees_resumption g s.setup → leases ≡ agrees_leases g s.setup
-    → mid ≡ with_room (with_line g s (event.Asked asked) (answer_on asked on)) (Some on) s.parts mid.outbox.room
-    → IfSome (spoken (known_to s.streams) on asked) (IsLastOf mid.outbox n)
-    → new ≡ spoken_after mid asked n new.parts new.outbox new.lease
-    → ((f : Frame) → drop (length mid.outbox.queue - n) mid.outbox.queue ≡ canonical f → HoldsMore mid.outbox.held (if_agreed keeps (f ∷ [])) 0 new.outbox.held)
-    → new.outbox.held.hold ≡ mid.outbox.held.hold
+    → ready ≡ with_room s (Some on) s.parts s.outbox.room → mid ≡ record ready { outbox = mid.outbox }
+    → IfSome (spoken (known_to s.streams) on asked) (λ f. IsLined keeps f ready.outbox mid.outbox)
+    → new ≡ spoken_after mid asked n new.parts mid.outbox new.lease
     → ((id now : ℕ) → new.lease ≡ lease_after leases now (answer_on asked id) (event.Asked asked) mid.lease)
     → LetsGo (known_to (acted mid.streams asked)) on mid.parts new.parts
     → IsAfter g s (event.Asked asked) (answer_on asked on) new
-sent_after g s past mid new asked on n keeps leases fits is sends kept leased lined last same holds hold lease go =
+sent_after g s past ready mid new asked on n keeps leases fits is sends kept leased found put lined same lease go =
     let a = answer_on asked on in
     let e = event.Asked asked in
     let ms = makes g (covers_next g s) (known_to s.streams) a e in
+    let frame = spoken (known_to s.streams) on asked in
     let old : State = with_room (with_line g s e a) (Some on) s.parts mid.outbox.room in
-    let spoke : new ≡ spoken_after old asked n new.parts new.outbox new.lease = same ∙ ap (λ (k : State). spoken_after k asked n new.parts new.outbox new.lease) lined in
-    let gone : LetsGo (known_to (acted old.streams asked)) on old.parts new.parts = subst (λ (k : State). LetsGo (known_to (acted k.streams asked)) on k.parts new.parts) lined go in
+    let start : State = record (with_room s (Some on) s.parts s.outbox.room) { outbox = mid.outbox } in
+    let begun : mid ≡ start = put ∙ ap (λ (k : State). record k { outbox = mid.outbox }) found in
+    let of_old : IfSome frame (λ f. IsLined keeps f s.outbox mid.outbox) = subst (λ (k : State). IfSome frame (λ f. IsLined keeps f k.outbox mid.outbox)) found lined in
     let means = sent_means g s asked on fits.limits_are is sends.may in
     let some = is_spoken (known_to s.streams) (own_next s.streams) asked on is in
-    let of_mid : HoldsMore mid.outbox.held (if_agreed keeps ms) 0 new.outbox.held = holds_last (spoken (known_to s.streams) on asked) ms mid.outbox n keeps mid.outbox.held new.outbox.held some sends.alone last holds in
-    let of_old : HoldsMore s.outbox.held (if_agreed keeps ms) 0 new.outbox.held = subst (λ (k : State). HoldsMore k.outbox.held (if_agreed keeps ms) 0 new.outbox.held) lined of_mid in
-    let held : HoldsMore s.outbox.held (if_agreed (agrees_resumption g s.setup) ms) 0 new.outbox.held = subst (λ (b : Bool). HoldsMore s.outbox.held (if_agreed b ms) 0 new.outbox.held) kept of_old in
-    let bound : new.outbox.held.hold ≡ s.outbox.held.hold = hold ∙ ap (λ (k : State). k.outbox.held.hold) lined in
+    let queue : mid.outbox.queue ≡ s.outbox.queue ++ lined_on (live_after a s.live) (line_of g s a e) =
+    lined_queue keeps frame s.outbox mid.outbox some of_old ∙ ap (λ (l : List ℕ). s.outbox.queue ++ l) (sent_lined g s asked on is sends.may.out sends.alone) in
+    let spoke : new ≡ spoken_after old asked n new.parts mid.outbox new.lease =
+    same ∙ ap (λ (k : State). spoken_after k asked n new.parts mid.outbox new.lease) begun
+    ∙ ap (λ (q : List ℕ). record (spoken_after start asked n new.parts mid.outbox new.lease) { outbox = record mid.outbox { queue = q } }) queue in
+    let gone : LetsGo (known_to (acted old.streams asked)) on old.parts new.parts = subst (λ (k : State). LetsGo (known_to (acted k.streams asked)) on k.parts new.parts) begun go in
+    let all : HoldsMore s.outbox.held (if_agreed keeps ms) 0 mid.outbox.held = lined_held keeps frame ms s.outbox mid.outbox some sends.alone of_old in
+    let held : HoldsMore s.outbox.held (if_agreed (agrees_resumption g s.setup) ms) 0 mid.outbox.held = subst (λ (b : Bool). HoldsMore s.outbox.held (if_agreed b ms) 0 mid.outbox.held) kept all in
     let lets : (id now : ℕ) → new.lease ≡ lease_after (agrees_leases g s.setup) now (answer_on asked id) e s.lease =
-    λ id now. lease id now ∙ ap (λ (b : Bool). lease_after b now (answer_on asked id) e mid.lease) leased ∙ ap (λ (k : State). lease_after (agrees_leases g s.setup) now (answer_on asked id) e k.lease) lined in
-    let applied = sent_applied g old asked on n new.parts new.outbox new.lease is fits.heard sends.one sends.long held bound lets gone in
+    λ id now. lease id now ∙ ap (λ (b : Bool). lease_after b now (answer_on asked id) e mid.lease) leased ∙ ap (λ (k : State). lease_after (agrees_leases g s.setup) now (answer_on asked id) e k.lease) begun in
+    let applied = sent_applied g old asked on n new.parts mid.outbox new.lease is fits.heard sends.one sends.long held (lined_hold keeps frame s.outbox mid.outbox some of_old) lets gone in
     after_act g s new e a (length s.outbox.queue) (Some on) s.parts mid.outbox.room (λ i. refl) (no_draw g (facts_of s) e a means tt) refl (opened_above g (facts_of s) e a means)
     (subst (IsApplied g old e a) (sym spoke) applied) (ap (λ (k : State). k.outbox.queue) spoke ∙ stays_lined asked on (length s.outbox.queue) (with_line g s e a).outbox.queue)
 
--- the frame can be kept
-pub sent_keeps : (g : Settings) (s : State) (past : List Entry) (told : Option (List Entry)) (count : ℕ) (mid : State) (asked : Call) (on n : ℕ) → IsSound g s past told count → IsCallOn (own_next s.streams) asked on
-    → Sends g s asked on n → mid ≡ with_room (with_line g s (event.Asked asked) (answer_on asked on)) (Some on) s.parts mid.outbox.room
-    → IfSome (spoken (known_to s.streams) on asked) (IsLastOf mid.outbox n) → HasSpare mid.outbox.room.spare n → CanKeepLast mid.outbox n
-sent_keeps g s past told count mid asked on n sound is sends lined last spare =
+-- the frame ends at a position that can be told
+pub sent_top : (g : Settings) (s : State) (past : List Entry) (told : Option (List Entry)) (count : ℕ) (asked : Call) (on n : ℕ) → IsSound g s past told count → IsCallOn (own_next s.streams) asked on
+    → Sends g s asked on n → IfSome (spoken (known_to s.streams) on asked) (FindsPosition s.outbox.held)
+sent_top g s past told count asked on n sound is sends =
     let a = answer_on asked on in
     let e = event.Asked asked in
+    let ms = makes g (covers_next g s) (known_to s.streams) a e in
     let means = sent_means g s asked on sound.fits.limits_are is sends.may in
-    let within : s.made.position + pos (makes g (covers_next g s) (known_to s.streams) a e) ≤ g.top_position = makes_fit g (facts_of s) e a means sound.made.position in
+    let within : s.made.position + pos ms ≤ g.top_position = makes_fit g (facts_of s) e a means sound.made.position in
     let end = end_below g s past sound.fits in
-    let same : end_of mid.outbox.held ≡ end_of s.outbox.held = ap (λ (k : State). end_of k.outbox.held) lined in
-    can_keep (spoken (known_to s.streams) on asked) mid.outbox n (is_spoken (known_to s.streams) (own_next s.streams) asked on is) last spare
-    (omega (arith, within, end, same, sends.long, sound.checked.top_position))
+    top_where (spoken (known_to s.streams) on asked) ms s.outbox.held sends.alone (omega (arith, within, end, sound.checked.top_position))
 
 same_lets : (agreed : Bool) (asked : Call) (on id : ℕ) (lease : Option Terms) → LetsStart agreed (answer_on asked on) lease → LetsStart agreed (answer_on asked id) lease
 same_lets agreed (call.Request kind initial message complete) on id lease lets = lets
 same_lets agreed asked on id lease lets = lets
 
 -- the lease lets a request start
-pub sent_lets : (g : Settings) (s : State) (past : List Entry) (told : Option (List Entry)) (count : ℕ) (mid : State) (asked : Call) (on n : ℕ) (leases : Bool) → IsSound g s past told count → IsCallOn (own_next s.streams) asked on
-    → Sends g s asked on n → leases ≡ agrees_leases g s.setup → mid ≡ with_room (with_line g s (event.Asked asked) (answer_on asked on)) (Some on) s.parts mid.outbox.room
-    → (id : ℕ) → LetsStart leases (answer_on asked id) mid.lease
-sent_lets g s past told count mid asked on n leases sound is sends leased lined id =
+pub sent_lets : (g : Settings) (s : State) (past : List Entry) (told : Option (List Entry)) (count : ℕ) (asked : Call) (on n : ℕ) (leases : Bool) → IsSound g s past told count → IsCallOn (own_next s.streams) asked on
+    → Sends g s asked on n → leases ≡ agrees_leases g s.setup → (id : ℕ) → LetsStart leases (answer_on asked id) s.lease
+sent_lets g s past told count asked on n leases sound is sends leased id =
     let answer = sent_answer g s past asked on sound.fits is sends.may in
     let starts = starts_of g s past told count (event.Asked asked) (answer_on asked on) sound answer in
-    let same : mid.lease ≡ s.lease = ap (λ (k : State). k.lease) lined in
-    subst (λ (o : Option Terms). LetsStart leases (answer_on asked id) o) (sym same)
-    (subst (λ (b : Bool). LetsStart b (answer_on asked id) s.lease) (sym leased) (same_lets (agrees_leases g s.setup) asked on id s.lease starts))
+    subst (λ (b : Bool). LetsStart b (answer_on asked id) s.lease) (sym leased) (same_lets (agrees_leases g s.setup) asked on id s.lease starts)

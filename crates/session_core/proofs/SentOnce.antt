@@ -1,5 +1,5 @@
 -- A call that goes out in one frame: its answer, its frame, and the frame in line.
-use Rattle.std.proofs.Common.{rules, ◌≡◌, ◌++◌, ◌<◌, ◌^◌, ◌==◌, ◌||◌, ℕ, Bool, true, false, cond, List, [], ◌∷◌, length, take, Option, Some, None, IfSome, is_some, option_to_list, refl, ap, sym, subst, ◌∙◌}
+use Rattle.std.proofs.Common.{rules, ◌≡◌, ◌<◌, ◌^◌, ◌==◌, ◌||◌, ℕ, Bool, true, false, cond, List, [], ◌∷◌, length, Option, Some, None, IfSome, is_some, option_to_list, refl, ap, sym, subst, ◌∙◌}
 use Rattle.std.specs.Prelude.{nat_le, nat_lt}
 use Rattle.rs_wire.specs.Settings.{IsChecked}
 use Rattle.rs_wire.specs.declared.settings.Settings.{Settings}
@@ -13,14 +13,12 @@ use Rattle.rs_frame.specs.Spelling.{IsSpellable, length_of}
 use Rattle.position.specs.Boundaries.{pos}
 use Rattle.tape.specs.declared.entry.Entry.{Entry}
 use Rattle.tape.specs.declared.event.Event.TheVariants as event
-use Rattle.tape.specs.declared.answer.Answer.{Answer}
 use Rattle.tape.specs.declared.answer.Answer.TheVariants as answer
 use Rattle.stream_model.specs.declared.stream.Limits.{Limits}
 use Rattle.stream_model.specs.Known.{Known, next_id}
 use Rattle.stream_model.specs.Arriving.{no_message}
 use Rattle.interactions.specs.Answers.{next_within}
 use Rattle.interactions.specs.Seen.{Seen, known_to}
-use Rattle.outbox.specs.Waiting.{Room, Waiting, with_last, with_queue, with_spare}
 use Rattle.session_model.specs.Answers.{accepted, answer_to, refused_or}
 use Rattle.session_model.specs.Frames.{if_carrying, in_fragments, makes, request_frame, sent_as, spoken}
 use Rattle.session_model.specs.Legal.{IsFair, LeavesEntry}
@@ -31,13 +29,11 @@ use Rattle.session_core.specs.Fits.{AreLimits, Fits, facts_of}
 use Rattle.session_core.specs.Leasing.{covers_next}
 use Rattle.session_core.specs.Line.{line_of}
 use Rattle.session_core.specs.Outgoing.{CanGo, frame_made}
-use Rattle.session_core.specs.Prepared.{lined_on, with_line}
+use Rattle.session_core.specs.Prepared.{lined_on}
 use Rattle.session_core.specs.Sending.{GoesOut, IsCallOn, MaySend, Sends, answer_on, frame_on, is_last, own_next}
-use Rattle.session_core.specs.Speaking.{with_room}
 use Rattle.session_core.proofs.Framed.{fits_alone}
 use Rattle.session_core.proofs.Soundness.{answer_of}
 use Rattle.session_core.proofs.Spelling.{frame_goes}
-use Rattle.session_core.proofs.Standing.{forgotten}
 use Rattle.session_core.proofs.Sums.{pos_one}
 
 or_true : (a b : Bool) → b ≡ true → (a || b) ≡ true
@@ -174,7 +170,7 @@ still_live : (asked : Call) (on live : ℕ) → live_after (answer_on asked on) 
 still_live (call.Request kind initial message complete) on live = refl
 still_live asked on live = refl
 
-sent_lined : (g : Settings) (s : State) (asked : Call) (on : ℕ) → IsCallOn (own_next s.streams) asked on → GoesOut s
+pub sent_lined : (g : Settings) (s : State) (asked : Call) (on : ℕ) → IsCallOn (own_next s.streams) asked on → GoesOut s
     → makes g (covers_next g s) (known_to s.streams) (answer_on asked on) (event.Asked asked) ≡ option_to_list (spoken (known_to s.streams) on asked)
     → framed_all (option_to_list (spoken (known_to s.streams) on asked)) ≡ lined_on (live_after (answer_on asked on) s.live) (line_of g s (answer_on asked on) (event.Asked asked))
 sent_lined g s asked on is out made =
@@ -186,26 +182,3 @@ sent_lined g s asked on is out made =
     ∙ (sym (line_alone g s (own_next s.streams) asked on is)
     ∙ (ap (λ (b : Bool). cond {A = List ℕ} b (line_of g s a e) []) (sym out.connected)
     ∙ ap (λ (n : ℕ). lined_on n (line_of g s a e)) (sym (still_live asked on s.live)))))
-
--- what comes last in line, where spare was made before
-in_line : (old mid now : Waiting) (bytes more : List ℕ) → now ≡ with_last mid bytes → mid ≡ with_spare old mid.room.spare → bytes ≡ more → now ≡ record old { queue = old.queue ++ more; room = now.room }
-in_line old mid now bytes more last kept is =
-    let all : now ≡ with_last (with_spare old mid.room.spare) bytes = last ∙ ap (λ (k : Waiting). with_last k bytes) kept in
-    all
-    ∙ ap (λ (r : Room). record old { queue = old.queue ++ bytes; room = r }) (ap (λ (k : Waiting). k.room) (sym all))
-    ∙ ap (λ (l : List ℕ). record old { queue = old.queue ++ l; room = now.room }) is
-
-pub sent_in_line : (g : Settings) (s : State) (asked : Call) (on : ℕ) (mid now : Waiting) (streams : Seen) → IsCallOn (own_next s.streams) asked on → GoesOut s
-    → makes g (covers_next g s) (known_to s.streams) (answer_on asked on) (event.Asked asked) ≡ option_to_list (spoken (known_to s.streams) on asked)
-    → now ≡ with_last mid (framed_all (option_to_list (spoken (known_to s.streams) on asked))) → streams ≡ record s.streams { ready = Some on } → mid ≡ with_spare s.outbox mid.room.spare
-    → record s { streams = streams; outbox = now } ≡ with_room (with_line g s (event.Asked asked) (answer_on asked on)) (Some on) s.parts now.room
-sent_in_line g s asked on mid now streams is out made last ready kept =
-    ap (λ (k : Seen). record s { streams = k; outbox = now }) ready
-    ∙ ap (λ (k : Waiting). record s { streams = record s.streams { ready = Some on }; outbox = k }) (in_line s.outbox mid now _ _ last kept (sent_lined g s asked on is out made))
-
--- where the tape has no room for it, the frame is taken out of line again
-pub sent_forgotten : (g : Settings) (s mid : State) (asked : Call) (a : Answer) (on before : ℕ) (now : Waiting) (room : Room) → before ≡ length s.outbox.queue
-    → mid ≡ with_room (with_line g s (event.Asked asked) a) (Some on) s.parts room → now ≡ with_queue mid.outbox (take before mid.outbox.queue) now.room.loose
-    → record mid { outbox = now } ≡ with_room s (Some on) s.parts now.room
-sent_forgotten g s mid asked a on before now room is lined q =
-    forgotten g s mid (record mid { outbox = now }) (event.Asked asked) a before now.room.loose (Some on) s.parts room is lined (ap (λ (k : Waiting). record mid { outbox = k }) q)

@@ -1,11 +1,12 @@
 -- Calls that go out in one frame.
-use Rattle.std.specs.Prelude.{◌≡◌, ◌≤◌, ◌<◌, ◌^◌, ◌||◌, ◌+◌, ◌-◌, ◌==◌, ℕ, drop, Bool, true, false, length, option_to_list, Option, Some, None}
+use Rattle.std.specs.Prelude.{◌≡◌, ◌<◌, ◌^◌, ◌||◌, ◌+◌, ◌==◌, ◌++◌, ◌∷◌, [], ℕ, Bool, true, false, length, option_to_list, Option, Some, None, IfSome}
 use Rattle.rs_wire.specs.declared.settings.Settings.{Settings}
 use Rattle.rs_wire.specs.declared.call.Call.{Call}
 use Rattle.rs_wire.specs.declared.call.Call.TheVariants as call
 use Rattle.rs_frame.specs.declared.frame.Frame.{Frame}
 use Rattle.rs_frame.specs.declared.frame.Frame.TheVariants as frame
-use Rattle.rs_frame.specs.Spelling.{canonical}
+use Rattle.rs_frame.specs.Framed.{framed_all}
+use Rattle.rs_frame.specs.Spelling.{IsSpellable, length_of}
 use Rattle.position.specs.Boundaries.{pos}
 use Rattle.tape.specs.declared.event.Event.TheVariants as event
 use Rattle.tape.specs.declared.answer.Answer.{Answer}
@@ -14,12 +15,15 @@ use Rattle.stream_model.specs.Known.{Known, hears_on, is_open_response, next_id}
 use Rattle.stream_model.specs.Arriving.{no_message}
 use Rattle.interactions.specs.Seen.{Seen, acted, known_to}
 use Rattle.reassembly.specs.Gathering.{ReassemblyView, gathered_at, has_part_at}
+use Rattle.replay_buffer.specs.Held.{Held, end_of}
 use Rattle.outbox.specs.Waiting.{Waiting}
 use Rattle.lease.specs.declared.requester.Terms.{Terms}
 use Rattle.session_model.specs.Answers.{refused_call}
-use Rattle.session_model.specs.Frames.{makes, request_frame, spoken}
+use Rattle.session_model.specs.Frames.{if_agreed, makes, request_frame, spoken}
 use Rattle.session_core.specs.Fits.{facts_of}
+use Rattle.session_core.specs.Kept.{HoldsMore}
 use Rattle.session_core.specs.Leasing.{covers_next}
+use Rattle.session_core.specs.declared.sending.Single.{Single}
 use Rattle.session_core.specs.Queued.{is_connected}
 use Rattle.session_core.specs.declared.state.State.{State}
 
@@ -81,13 +85,21 @@ pub record LetsGo (t : Known) (on : ℕ) (old new : ReassemblyView) : Type 0 whe
   pub over : (s : ℕ) → (on == s) ≡ true → hears_on (t.kept s) ≡ false → has_part_at new s ≡ false
   pub others : (s : ℕ) → (on == s) ≡ false → has_part_at new s ≡ has_part_at old s
 
--- these many last bytes that wait are those of the frame, which has the length of one, and lie in one piece
-pub record IsLastOf (o : Waiting) (n : ℕ) (f : Frame) : Type 0 where
-  pub bytes : drop (length o.queue - n) o.queue ≡ canonical f
-  pub within : n ≤ length o.queue
-  pub loose : n ≤ o.room.loose
-  pub shortest : 6 ≤ n
-  pub longest : n < 2 ^ 24
+-- a call on that stream makes this one frame
+pub record IsSingle (g : Settings) (s : State) (asked : Call) (on : ℕ) (single : Single) : Type 0 where
+  pub sends : Sends g s asked on single.count
+  pub frame : frame_on on single.last asked ≡ spoken (known_to s.streams) on asked
+  pub spellable : IfSome (spoken (known_to s.streams) on asked) IsSpellable
+
+-- the frame ends at a position that can be told, where it is kept next
+abbrev pub FindsPosition : Held → Frame → Type 0
+FindsPosition h f = end_of h + length_of f < 2 ^ 63
+
+-- the frame was put in line last, and is kept where frames are kept
+pub record IsLined (keeps : Bool) (f : Frame) (old new : Waiting) : Type 0 where
+  pub queue : new.queue ≡ old.queue ++ framed_all (f ∷ [])
+  pub held : HoldsMore old.held (if_agreed keeps (f ∷ [])) 0 new.held
+  pub hold : new.held.hold ≡ old.held.hold
 
 -- the state after a call that made one frame of that length, where these parts, these frames and this lease are kept
 abbrev pub spoken_after : State → Call → ℕ → ReassemblyView → Waiting → Option Terms → State

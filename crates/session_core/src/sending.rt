@@ -1,26 +1,23 @@
 //! Calls that go out in one frame: that of a request or a payload is written from the call's own
 //! parts.
 
-ghost use Rattle.std.specs.Prelude.{◌≡◌, ◌≢◌, ◌≤◌, ◌+◌, ◌-◌, ◌<◌, ◌^◌, ◌∷◌, [], ℕ, None, Some, IfOk, IfSome, OnErr, OnOk, drop, false, true, length, option_to_list};
+ghost use Rattle.std.specs.Prelude.{◌≡◌, ◌≢◌, ◌≤◌, ◌+◌, ◌<◌, ◌^◌, ℕ, None, Some, false, IfOk, IfSome, OnErr, OnOk, true, length, option_to_list};
 ghost use Rattle.rs_wire.specs.Calls.{CanBeAsked};
 ghost use Rattle.rs_wire.specs.Settings.{IsChecked};
 ghost use Rattle.rs_frame.specs.declared.frame.Frame.{Frame as Sent};
 ghost use Rattle.rs_frame.specs.Framed.{framed_all};
-ghost use Rattle.rs_frame.specs.Spelling.{IsSpellable, canonical, length_of};
+ghost use Rattle.rs_frame.specs.Spelling.{IsSpellable, length_of};
 ghost use Rattle.tape.specs.declared.event.Event.TheVariants as events;
 ghost use Rattle.interactions.specs.Seen.{acted, known_to};
-ghost use Rattle.replay_buffer.specs.Held.{HasSpare};
-ghost use Rattle.outbox.specs.Waiting.{CanKeepLast, with_last, with_spare};
+ghost use Rattle.outbox.specs.Waiting.{IsKept, with_last, with_spare};
+ghost use Rattle.stream_model.specs.Arriving.{no_message};
 ghost use Rattle.session_model.specs.Answers.{answer_to};
-ghost use Rattle.session_model.specs.Frames.{if_agreed, spoken};
 ghost use Rattle.session_model.specs.Legal.{IsFair};
 ghost use Rattle.session_model.specs.Life.{agrees_leases, agrees_resumption};
 ghost use Rattle.session_core.specs.Fits.{AreLimits, HasRoom};
-ghost use Rattle.session_core.specs.Kept.{HoldsMore};
 ghost use Rattle.session_core.specs.Leasing.{LetsStart, lease_after};
-ghost use Rattle.session_core.specs.Prepared.{with_line};
 ghost use Rattle.session_core.specs.Seen.{IsOrOutOfMemory, entries_after};
-ghost use Rattle.session_core.specs.Sending.{IsCallOn, IsLastOf, LetsGo, MaySend, Sends, answer_on, frame_on, is_last, own_next, spoken_after};
+ghost use Rattle.session_core.specs.Sending.{FindsPosition, IsCallOn, IsLined, IsSingle, LetsGo, MaySend, answer_on, frame_on, is_last, own_next, spoken_after};
 ghost use Rattle.session_core.specs.Speaking.{Acts, with_room};
 
 use crate::amounts::call_amounts_fit;
@@ -36,7 +33,7 @@ use interactions::Streams;
 use lease::Lease;
 use outbox::Outbox;
 use rs_frame::Frame;
-use rs_wire::{Call, Checked, OutOfMemory};
+use rs_wire::{Amount, Blob, Call, Checked, OutOfMemory};
 use std::alloc::Global;
 use tape::{Answer, Tape};
 
@@ -47,6 +44,15 @@ pub(crate) struct Agreed {
     resumption: bool,
     // Requests are counted by leases.
     leases: bool,
+}
+
+/// What goes out for a call in one frame.
+#[derive(Debug, Clone, Copy)]
+pub struct Single {
+    /// How many bytes the frame has, without its length field.
+    pub count: u32,
+    /// Whether it says that this end sends nothing more on its stream.
+    pub last: bool,
 }
 
 fn agreed_by(settings: &Checked, state: &State) -> Agreed
@@ -149,6 +155,116 @@ fn append_frame(
     }
 }
 
+// Puts the frame that says that nothing more follows in line, and keeps it. Each such frame is made on
+// the stack of a call of its own: what is cleared for it is not cleared for an item.
+#[inline(never)]
+fn keep_done(alloc: Global, outbox: &mut Outbox, on: u32) -> Result<(), OutOfMemory>
+    requires spellable { IsSpellable (Sent.Payload on false true false no_message) }
+    requires top { FindsPosition outbox.old.held (Sent.Payload on false true false no_message) }
+    ensures ok { OnOk result (IsKept
+        (Sent.Payload on false true false no_message) outbox.old outbox.new) }
+    ensures err { OnErr result (outbox.new ≡ with_spare outbox.old outbox.new.room.spare) }
+{
+    outbox.keep_frame(&nothing_more(alloc, on))
+}
+
+// The same of a REQUEST_N.
+#[inline(never)]
+fn keep_grant(outbox: &mut Outbox, on: u32, n: Amount) -> Result<(), OutOfMemory>
+    requires spellable { IsSpellable (Sent.RequestN on n) }
+    requires top { FindsPosition outbox.old.held (Sent.RequestN on n) }
+    ensures ok { OnOk result (IsKept
+        (Sent.RequestN on n) outbox.old outbox.new) }
+    ensures err { OnErr result (outbox.new ≡ with_spare outbox.old outbox.new.room.spare) }
+{
+    outbox.keep_frame(&Frame::RequestN { stream: on, n })
+}
+
+// The same of a CANCEL.
+#[inline(never)]
+fn keep_cancel(outbox: &mut Outbox, on: u32) -> Result<(), OutOfMemory>
+    requires spellable { IsSpellable (Sent.Cancel on) }
+    requires top { FindsPosition outbox.old.held (Sent.Cancel on) }
+    ensures ok { OnOk result (IsKept
+        (Sent.Cancel on) outbox.old outbox.new) }
+    ensures err { OnErr result (outbox.new ≡ with_spare outbox.old outbox.new.room.spare) }
+{
+    outbox.keep_frame(&Frame::Cancel { stream: on })
+}
+
+// The same of an ERROR.
+#[inline(never)]
+fn keep_error(
+    alloc: Global,
+    outbox: &mut Outbox,
+    on: u32,
+    code: u32,
+    content: &Blob,
+) -> Result<(), OutOfMemory>
+    requires spellable { IsSpellable (Sent.Error on code content.now) }
+    requires top { FindsPosition outbox.old.held (Sent.Error on code content.now) }
+    ensures ok { OnOk result (IsKept (Sent.Error on code content.now) outbox.old outbox.new) }
+    ensures err { OnErr result (outbox.new ≡ with_spare outbox.old outbox.new.room.spare) }
+{
+    outbox.keep_frame(&Frame::Error {
+        stream: on,
+        code,
+        content: content.copy(alloc)?,
+    })
+}
+
+// Puts the frame of a call on a stream in line, and keeps it; nothing of any other call.
+fn keep_frame(
+    alloc: Global,
+    outbox: &mut Outbox,
+    on: u32,
+    last: bool,
+    call: &Call,
+) -> Result<(), OutOfMemory>
+    requires spellable { IfSome (frame_on on last call.now) IsSpellable }
+    requires top { IfSome (frame_on on last call.now) (FindsPosition outbox.old.held) }
+    ensures ok { OnOk result (IfSome (frame_on on last call.now) (λ f.
+        IsKept f outbox.old outbox.new)) }
+    ensures err { OnErr result (outbox.new ≡ with_spare outbox.old outbox.new.room.spare) }
+{
+    match call {
+        Call::Request {
+            kind,
+            initial,
+            message,
+            ..
+        } => outbox.keep_request(on, *kind, initial, last, message),
+        Call::Next { message, .. } => outbox.keep_item(on, last, message),
+        Call::Done { .. } => keep_done(alloc, outbox, on),
+        Call::Grant { n, .. } => keep_grant(outbox, on, *n),
+        Call::Cancel { .. } => keep_cancel(outbox, on),
+        Call::Fail { code, content, .. } => keep_error(alloc, outbox, on, *code, content),
+        _ => Ok(()),
+    }
+}
+
+// Puts the frame of a call on a stream in line, and keeps it where frames are kept.
+#[inline(always)]
+fn line_frame(
+    alloc: Global,
+    outbox: &mut Outbox,
+    on: u32,
+    last: bool,
+    call: &Call,
+    keeps: bool,
+) -> Result<(), OutOfMemory>
+    requires spellable { IfSome (frame_on on last call.now) IsSpellable }
+    requires top { IfSome (frame_on on last call.now) (FindsPosition outbox.old.held) }
+    ensures ok { OnOk result (IfSome (frame_on on last call.now) (λ f.
+        IsLined keeps f outbox.old outbox.new)) }
+    ensures err { OnErr result (outbox.new ≡ with_spare outbox.old outbox.new.room.spare) }
+{
+    if keeps {
+        return keep_frame(alloc, outbox, on, last, call);
+    }
+    append_frame(alloc, outbox, on, last, call)
+}
+
 // The answer to a call on that stream: a request starts it.
 fn answer_on(call: &Call, on: u32) -> Answer
     ensures { result ≡ answer_on call.now on }
@@ -157,32 +273,6 @@ fn answer_on(call: &Call, on: u32) -> Answer
         Call::Request { .. } => Answer::Started(on),
         _ => Answer::Done,
     }
-}
-
-// Reserves memory to keep a frame of so many bytes, where frames are kept.
-fn reserve_one(outbox: &mut Outbox, count: u32, keeps: bool) -> Result<(), OutOfMemory>
-    ensures same { outbox.new ≡ with_spare outbox.old outbox.new.room.spare }
-    ensures spare { OnOk result (keeps ≡ true → HasSpare outbox.new.room.spare count) }
-{
-    if !keeps {
-        return Ok(());
-    }
-    outbox.reserve(1, count as usize)
-}
-
-// Keeps the frame of so many bytes that was put in line last, where frames are kept.
-fn keep_last(outbox: &mut Outbox, count: u32, keeps: bool)
-    requires { keeps ≡ true → CanKeepLast outbox.old count }
-    ensures held { (f : Sent) →
-        drop (length outbox.old.queue - count) outbox.old.queue ≡ canonical f →
-        HoldsMore outbox.old.held (if_agreed keeps (f ∷ [])) 0 outbox.new.held }
-    ensures hold { outbox.new.held.hold ≡ outbox.old.held.hold }
-    ensures queue { outbox.new.queue ≡ outbox.old.queue }
-{
-    if !keeps {
-        return;
-    }
-    outbox.keep_last(count as usize);
 }
 
 // Counts a request, where leases are agreed.
@@ -199,31 +289,22 @@ fn use_lease(lease: &mut Lease, agreed: bool, call: &Call)
 }
 
 impl State {
-    // Puts the frame of a call in line where it goes out alone on this stream, and gives its
-    // length. Where frames are kept, memory is reserved for it.
-    fn line_call(
+    // What goes out for a call, where that is one frame, at once. Room is made on its stream.
+    fn ready_call(
         &mut self,
-        alloc: Global,
         settings: &Checked,
         call: &Call,
         on: u32,
-        keeps: bool,
-    ) -> Result<Option<u32>, OutOfMemory>
+    ) -> Result<Option<Single>, OutOfMemory>
         requires stream { IsCallOn (own_next self.old.streams) call.now on }
         requires checked { IsChecked settings.now }
         requires fair { IsFair settings.now (events.Asked call.now) }
         requires room { HasRoom self.old }
         requires limits { AreLimits settings.now self.old }
-        ensures sends { IfOk result (λ o. IfSome o (λ n.
-            Sends settings.now self.old call.now on n)) }
-        ensures lined { IfOk result (λ o. IfSome o (λ _. self.new ≡ with_room
-            (with_line settings.now self.old (events.Asked call.now) (answer_on call.now on))
-            (Some on) self.old.parts self.new.outbox.room)) }
-        ensures last { IfOk result (λ o. IfSome o (λ n. IfSome
-            (spoken (known_to self.old.streams) on call.now)
-            (IsLastOf self.new.outbox n))) }
-        ensures spare { IfOk result (λ o. IfSome o (λ n.
-            keeps ≡ true → HasSpare self.new.outbox.room.spare n)) }
+        ensures single { IfOk result (λ o. IfSome o (λ r.
+            IsSingle settings.now self.old call.now on r)) }
+        ensures ready { IfOk result (λ o. IfSome o (λ _. self.new ≡ with_room
+            self.old (Some on) self.old.parts self.old.outbox.room)) }
         ensures none { IfOk result (λ o. o ≡ None → self.new ≡ self.old) }
         ensures err { OnErr result (self.new ≡ with_room
             self.old self.new.streams.ready self.old.parts self.new.outbox.room) }
@@ -239,38 +320,27 @@ impl State {
             return Ok(None);
         }
         self.streams.reserve(on)?;
-        reserve_one(&mut self.outbox, count, keeps)?;
-        append_frame(alloc, &mut self.outbox, on, last, call)?;
-        Ok(Some(count))
+        Ok(Some(Single { count, last }))
     }
 
-    // Applies a call on a stream whose frame of so many bytes was put in line last, for which room
-    // was made.
+    // Applies a call on a stream, for which room was made, once its frame of so many bytes is in line.
     #[inline(always)]
-    fn speak_once(&mut self, call: &Call, on: u32, count: u32, agreed: Agreed)
+    fn speak_once(&mut self, call: &Call, on: u32, count: u32, leases: bool)
         requires acts { Acts self.old.streams call.now }
         requires frames { self.old.made.frames < 2 ^ 63 }
         requires position { self.old.made.position < 2 ^ 63 }
-        requires keeps { agreed.resumption ≡ true →
-            CanKeepLast self.old.outbox count }
         requires lets { (id : ℕ) →
-            LetsStart agreed.leases (answer_on call.now id) self.old.lease }
+            LetsStart leases (answer_on call.now id) self.old.lease }
         ensures after { self.new ≡ spoken_after
-            self.old call.now count self.new.parts self.new.outbox self.new.lease }
-        ensures held { (f : Sent) →
-            drop (length self.old.outbox.queue - count) self.old.outbox.queue ≡ canonical f →
-            HoldsMore self.old.outbox.held (if_agreed agreed.resumption (f ∷ [])) 0
-            self.new.outbox.held }
-        ensures hold { self.new.outbox.held.hold ≡ self.old.outbox.held.hold }
+            self.old call.now count self.new.parts self.old.outbox self.new.lease }
         ensures lease { (id now : ℕ) → self.new.lease ≡ lease_after
-            agreed.leases now (answer_on call.now id) (events.Asked call.now) self.old.lease }
+            leases now (answer_on call.now id) (events.Asked call.now) self.old.lease }
         ensures parts { LetsGo
             (known_to (acted self.old.streams call.now)) on self.old.parts self.new.parts }
     {
         self.made.frames += 1;
         self.made.position += u64::from(count);
-        keep_last(&mut self.outbox, count, agreed.resumption);
-        use_lease(&mut self.lease, agreed.leases, call);
+        use_lease(&mut self.lease, leases, call);
         let _stream = self.streams.act(call);
         let_stream_go(&mut self.parts, &self.streams, on);
     }
@@ -297,23 +367,24 @@ impl<T: Tape> Session<T> {
         let on = stream_of(&self.state.streams, call)?;
         // It does nothing: it says that the amounts of the call have their range.
         call_amounts_fit(call);
-        let before = self.state.outbox.len();
         let agreed = agreed_by(&self.settings, &self.state);
-        let count = match self
-            .state
-            .line_call(self.alloc, &self.settings, call, on, agreed.resumption)
-        {
-            Ok(Some(count)) => count,
+        let single = match self.state.ready_call(&self.settings, call, on) {
+            Ok(Some(single)) => single,
             Ok(None) => return None,
             Err(OutOfMemory) => return Some(Answer::OutOfMemory),
         };
         let answer = answer_on(call, on);
         if let Err(OutOfMemory) = self.tape.note_call(who, call, &answer) {
-            self.state.outbox.truncate(before);
+            return Some(Answer::OutOfMemory);
+        }
+        let outbox = &mut self.state.outbox;
+        let lined = line_frame(self.alloc, outbox, on, single.last, call, agreed.resumption);
+        if let Err(OutOfMemory) = lined {
+            self.tape.take_back();
             return Some(Answer::OutOfMemory);
         }
         self.history.note_call(who, call, &answer);
-        self.state.speak_once(call, on, count, agreed);
+        self.state.speak_once(call, on, single.count, agreed.leases);
         Some(answer)
     }
 }

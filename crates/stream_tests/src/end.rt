@@ -149,17 +149,25 @@ impl End {
 
     /// Takes what waits on a stream, or says why nothing is to come.
     pub fn take(&mut self, rt: &impl Abort, stream: u32) -> Answer {
-        let judged = self.streams.judge(&Call::Take { stream });
+        let call = Call::Take { stream };
+        let judged = self.streams.judge(&call);
+        drop(call);
         if let Err(refusal) = judged {
             return Answer::Refused(refusal);
         }
         self.step(rt);
-        Answer::taken(&self.streams.take(stream))
+        let taken = self.streams.take(stream);
+        let answer = Answer::taken(&taken);
+        drop(taken);
+        answer
     }
 
     /// Takes the job that waits first.
     pub fn take_job(&mut self, rt: &impl Abort) -> Answer {
         self.step(rt);
-        Answer::job(&self.streams.take_job())
+        let job = self.streams.take_job();
+        let answer = Answer::job(&job);
+        drop(job);
+        answer
     }
 }

@@ -7,6 +7,9 @@ use std::alloc::Global;
 use std::collections::VecDeque;
 use std::process::Abort;
 
+/// An end, a step at it, and the answer.
+pub type Row = (Side, Step, Answer);
+
 /// An end, and what the other one said that did not come yet.
 #[derive(Drop)]
 struct Place {
@@ -24,7 +27,9 @@ impl Place {
 
     // A call acts. What it says is under way to the other end then.
     fn does(&mut self, rt: &impl Abort, alloc: Global, other: &mut Place, act: Act) -> Answer {
-        let answer = self.end.act(rt, &act.call(rt, alloc));
+        let call = act.call(rt, alloc);
+        let answer = self.end.act(rt, &call);
+        drop(call);
         if let Answer::Did(stream) = answer {
             let said = act.said(stream);
             other
@@ -56,22 +61,12 @@ impl Place {
     }
 }
 
-/// Plays the steps one after another on a new client and a new server with the usual limits, or
-/// with these: how many streams may be open, and the last id. Each step has the answer that stands
-/// beside it.
-pub fn play_within(
-    rt: &impl Abort,
-    alloc: Global,
-    max_streams: u32,
-    last_id: u32,
-    steps: &[(Side, Step, Answer)],
-) {
-    let mut client = Place::new(rt, alloc, Side::Client, max_streams, last_id);
-    let mut server = Place::new(rt, alloc, Side::Server, max_streams, last_id);
+// Plays the steps at these two ends.
+fn play_at(rt: &impl Abort, alloc: Global, client: &mut Place, server: &mut Place, steps: &[Row]) {
     for (number, (side, step, expected)) in steps.iter().enumerate() {
         let given = match side {
-            Side::Client => client.answer(rt, alloc, &mut server, *step),
-            Side::Server => server.answer(rt, alloc, &mut client, *step),
+            Side::Client => client.answer(rt, alloc, server, *step),
+            Side::Server => server.answer(rt, alloc, client, *step),
         };
         assert!(rt;
             given == *expected,
@@ -80,7 +75,18 @@ pub fn play_within(
     }
 }
 
+/// Plays the steps one after another on a new client and a new server with the usual limits, or
+/// with these: how many streams may be open, and the last id. Each step has the answer that stands
+/// beside it.
+pub fn play_within(rt: &impl Abort, alloc: Global, max_streams: u32, last_id: u32, steps: &[Row]) {
+    let mut client = Place::new(rt, alloc, Side::Client, max_streams, last_id);
+    let mut server = Place::new(rt, alloc, Side::Server, max_streams, last_id);
+    play_at(rt, alloc, &mut client, &mut server, steps);
+    drop(client);
+    drop(server);
+}
+
 /// The same with room for 256 streams, and all ids.
-pub fn play(rt: &impl Abort, alloc: Global, steps: &[(Side, Step, Answer)]) {
+pub fn play(rt: &impl Abort, alloc: Global, steps: &[Row]) {
     play_within(rt, alloc, 256, 2_147_483_647, steps);
 }

@@ -69,6 +69,10 @@ impl Tape for Blank {
         Ok(())
     }
 
+    fn take_back(&mut self) {
+        self.count -= 1;
+    }
+
     fn count(&self) -> u64 {
         self.count
     }

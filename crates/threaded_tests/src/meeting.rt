@@ -113,6 +113,10 @@ impl Tape for Meeting {
         Ok(())
     }
 
+    fn take_back(&mut self) {
+        self.count -= 1;
+    }
+
     fn count(&self) -> u64 {
         self.count
     }

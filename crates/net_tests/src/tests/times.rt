@@ -8,14 +8,13 @@ use std::alloc::Global;
 use std::net::{TcpListener, TcpStream};
 use std::process::Abort;
 use std::random::RandomSource;
-use std::test::Fail;
 use std::time::{Duration, Instant};
 use std::{io, net, thread, time};
 
 /// Two dials at which nobody listens, after those of the rows before, and how long they take at
 /// least, in milliseconds: they pause for 0 and 100, for 200 and 400. The dial after them pauses for
 /// 800 and works, and then the pauses begin again.
-const PAUSES: [u64; 2] = [100, 600];
+const PAUSES: &[u64] = &[100, 600];
 
 // How long two dials take that fail, in milliseconds.
 fn two_dials<R: time::Clock + Abort, N: Net>(rt: &R, net: &mut N, nobody: &Blob) -> io::Result<u128>
@@ -39,7 +38,7 @@ fn pause<R: time::Clock + Abort, N: Net>(
 where
     N::Link: Drop,
 {
-    for least in PAUSES {
+    for &least in PAUSES {
         assert!(rt; two_dials(rt, net, nobody)? >= u128::from(least));
     }
     let Ok(link) = net.dial(somebody, false) else {
@@ -54,18 +53,22 @@ where
 }
 
 #[test]
-fn a_dial_that_failed_pauses_before_the_next(rt: HostRuntime) -> Result<(), Fail> {
+fn a_dial_that_failed_pauses_before_the_next(rt: HostRuntime) {
     let nobody = free_address(&rt, rt.alloc());
     let somebody = free_address(&rt, rt.alloc());
     let mut server = HostNet::new(rt.alloc(), &rt);
     assert!(rt; server.listen(&somebody) == Ok(()));
     let mut net = HostNet::new(rt.alloc(), &rt);
-    pause(&rt, &mut net, &nobody, &somebody)?;
-    Ok(())
+    let paused = pause(&rt, &mut net, &nobody, &somebody);
+    drop(net);
+    drop(server);
+    drop(somebody);
+    drop(nobody);
+    paused.expect(&rt, "there is a clock");
 }
 
 /// What a server leaves unread.
-const UNREAD: [u8; 4096] = [7; 4096];
+const UNREAD: &[u8] = &[7; 4096];
 
 // How long the server takes to put its link back, in milliseconds, where the client sent what is not
 // read and ends nothing. The client has what was given last.
@@ -85,7 +88,7 @@ where
     let Ok(mut far) = server.accept(false) else {
         panic!(rt; "the client dialed");
     };
-    assert!(rt; near.give(&UNREAD) == Given::Took(4096));
+    assert!(rt; near.give(UNREAD) == Given::Took(4096));
     assert!(rt; far.give(&FRAMES) == Given::Took(9));
     let start = Instant::now(rt);
     server.put_back(far);
@@ -96,14 +99,17 @@ where
 }
 
 #[test]
-fn what_was_given_last_comes_though_the_link_was_put_back(rt: HostRuntime) -> Result<(), Fail> {
+fn what_was_given_last_comes_though_the_link_was_put_back(rt: HostRuntime) {
     let address = free_address(&rt, rt.alloc());
     let mut server = HostNet::new(rt.alloc(), &rt);
     let mut client = HostNet::new(rt.alloc(), &rt);
     assert!(rt; server.listen(&address) == Ok(()));
-    let passed = give_up(&rt, &mut server, &mut client, &address)?;
+    let passed = give_up(&rt, &mut server, &mut client, &address);
+    drop(client);
+    drop(server);
+    drop(address);
+    let passed = passed.expect(&rt, "there is a clock");
     assert!(rt; passed >= 190 && passed < 5_000, "{passed} milliseconds");
-    Ok(())
 }
 
 #[test]

@@ -45,7 +45,7 @@ const PIECE: u32 = 30;
 /// A call of the link that fails, and how many bytes were given by then. The first three turns give
 /// 30, 30 and 11 bytes, and each takes then. The fourth and the fifth have nothing to give: they
 /// take alone and lull, and that was the run. There is no ninth call.
-const FAILS: [(u64, usize, Turned); 9] = [
+const FAILS: &[(u64, usize, Turned)] = &[
     (1, 0, Turned::LinkFault),
     (2, 30, Turned::LinkFault),
     (3, 30, Turned::LinkFault),
@@ -78,7 +78,7 @@ fn fail_at<R: Abort + Wait, T: Tape>(
 
 #[test]
 fn a_link_that_fails_at_any_call_is_a_fault(rt: HostRuntime) {
-    for (call, given, wanted) in FAILS {
+    for &(call, given, wanted) in FAILS {
         fail_at(&rt, rt.alloc(), Blank::new(), call, given, wanted);
     }
 }

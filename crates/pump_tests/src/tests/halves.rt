@@ -44,11 +44,14 @@ fn drawn_by<R: Abort + Wait, T: Tape + Drop>(rt: &R, alloc: Global, tape: T, mos
     bytes
 }
 
+/// The most bytes of a draw, fewer than there are and one more.
+const LENGTHS: &[usize] = &[1, 2, 30, 70, 71, 72];
+
 #[test]
 fn draws_of_any_length_draw_the_same_bytes(rt: HostRuntime) {
     let whole = drawn_by(&rt, rt.alloc(), Blank::new(), 1_000_000);
     assert!(rt; whole.len() == SETUP_BYTES as usize);
-    for most in [1, 2, 30, 70, 71, 72] {
+    for &most in LENGTHS {
         let bytes = drawn_by(&rt, rt.alloc(), Blank::new(), most);
         assert!(rt; bytes == whole);
         drop(bytes);

@@ -47,7 +47,7 @@ const MOST: u32 = 100;
 /// A frame of 3 bytes, which has no whole header: rule 1 (RSocket 1.0, "Frame Header Format").
 const SHORT: &[u8] = &[0, 0, 3, 1, 2, 3];
 
-const ROWS: [Row; 7] = [
+const ROWS: &[Row] = &[
     // The SETUP is given, and nothing came.
     Row {
         wanted: Turned::Moved {
@@ -120,7 +120,7 @@ fn turn_of<R: Abort + Wait, T: Tape>(rt: &R, alloc: Global, tape: T, row: Row) -
 #[test]
 fn each_result_has_its_cause(rt: HostRuntime) {
     for row in ROWS {
-        turn_of(&rt, rt.alloc(), Blank::new(), row);
+        turn_of(&rt, rt.alloc(), Blank::new(), *row);
     }
 }
 
@@ -176,9 +176,12 @@ fn run_for<R: Abort + Wait, T: Tape>(rt: &R, alloc: Global, tape: T, lulls: u64,
     tape
 }
 
+/// The lull at which a run ends, from 1; 0 is the first too. And how many turns it makes.
+const RUNS: &[(u64, u64)] = &[(0, 1), (1, 1), (2, 2), (7, 7)];
+
 #[test]
 fn a_run_ends_at_the_lull_of_its_number(rt: HostRuntime) {
-    for (lulls, turns) in [(0, 1), (1, 1), (2, 2), (7, 7)] {
+    for &(lulls, turns) in RUNS {
         run_for(&rt, rt.alloc(), Blank::new(), lulls, turns);
     }
 }

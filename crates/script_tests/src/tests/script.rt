@@ -1,8 +1,9 @@
 use super::{Row, fault, is_read_so};
 use cable_script::ScriptFault;
-use std::test::Fail;
+use std::alloc::Global;
+use std::process::Abort;
 
-const READ: [Row; 12] = [
+const READ: &[Row] = &[
     Row {
         shows: "each line has one text",
         text: b"client fnf 68ff\nserver fnf -:00\nserver close\nup 2147483647\ndown 1\ndrain\ncut",
@@ -105,12 +106,17 @@ Ask { side: Client, call: Lease { ttl: Amount { number: 2147483647 }, count: Amo
 #[test]
 fn each_script_is_read_so(rt: HostRuntime) {
     for row in READ {
-        assert!(rt; is_read_so(&rt, rt.alloc(), &row), "{}", row.shows);
+        assert!(rt; is_read_so(&rt, rt.alloc(), row), "{}", row.shows);
     }
 }
 
+// Whether the first wrong line of a text is this one, from 1; 0 is the whole text.
+fn is_wrong(alloc: Global, text: &[u8], line: u32) -> bool {
+    fault(alloc, text) == Some(ScriptFault::Line(line))
+}
+
 /// Texts of which the first line is wrong.
-const WRONG: [&[u8]; 98] = [
+const WRONG: &[&[u8]] = &[
     b"up 0",
     b"up 01",
     b"up +1",
@@ -217,19 +223,15 @@ const WRONG: [&[u8]; 98] = [
 
 #[test]
 fn the_first_wrong_line_is_told(rt: HostRuntime) {
-    for text in WRONG {
-        assert_eq!(rt;
-            fault(rt.alloc(), text),
-            Some(ScriptFault::Line(1)),
-            "{text:?}"
-        );
+    for &text in WRONG {
+        assert!(rt; is_wrong(rt.alloc(), text, 1), "{text:?}");
     }
     let fifth = b"up 1\nup 2\n\n# up 3\nup 0\nup 0";
-    assert_eq!(rt; fault(rt.alloc(), fifth), Some(ScriptFault::Line(5)));
+    assert!(rt; is_wrong(rt.alloc(), fifth, 5));
 }
 
 /// Texts with the last numbers that are right.
-const RIGHT: [&[u8]; 8] = [
+const RIGHT: &[&[u8]] = &[
     b"client fail 1 513 -",
     b"client fail 1 516 -",
     b"client fail 1 769 -",
@@ -242,18 +244,20 @@ const RIGHT: [&[u8]; 8] = [
 
 #[test]
 fn the_last_numbers_are_right(rt: HostRuntime) {
-    for text in RIGHT {
-        assert_eq!(rt; fault(rt.alloc(), text), None, "{text:?}");
+    for &text in RIGHT {
+        assert!(rt; fault(rt.alloc(), text).is_none(), "{text:?}");
     }
 }
 
+// So many bytes of a comment.
+fn comment<R: Abort>(rt: &R, alloc: Global, length: usize) -> Vec<u8> {
+    vec![in alloc; b'#'; length].expect(rt, "there is memory")
+}
+
 #[test]
-fn a_text_above_the_limit_is_line_0(rt: HostRuntime) -> Result<(), Fail> {
-    let text = vec![in rt.alloc(); b'#'; 16_777_217]?;
-    assert_eq!(rt;
-        fault(rt.alloc(), text.as_slice()),
-        Some(ScriptFault::Line(0))
-    );
-    assert_eq!(rt; fault(rt.alloc(), &text[1..]), None);
-    Ok(())
+fn a_text_above_the_limit_is_line_0(rt: HostRuntime) {
+    let text = comment(&rt, rt.alloc(), 16_777_217);
+    assert!(rt; is_wrong(rt.alloc(), &text, 0));
+    let text = comment(&rt, rt.alloc(), 16_777_216);
+    assert!(rt; fault(rt.alloc(), &text).is_none());
 }

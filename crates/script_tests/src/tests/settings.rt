@@ -4,7 +4,7 @@ use rs_wire::{Checked, Settings, Side};
 use std::alloc::Global;
 use std::process::Abort;
 
-const READ: [Row; 3] = [
+const READ: &[Row] = &[
     Row {
         shows: "setting lines are read in their order",
         text: b"set hold 0\n\n# up 1\nset client maxin 64\nset server streams 65536\nup 1",
@@ -39,7 +39,7 @@ Tick { now: 0 }
 #[test]
 fn setting_lines_are_read_in_their_order(rt: HostRuntime) {
     for row in READ {
-        assert!(rt; is_read_so(&rt, rt.alloc(), &row), "{}", row.shows);
+        assert!(rt; is_read_so(&rt, rt.alloc(), row), "{}", row.shows);
     }
 }
 
@@ -56,7 +56,7 @@ struct Made {
     hold: u64,
 }
 
-const MADE: [Made; 10] = [
+const MADE: &[Made] = &[
     Made {
         shows: "without a line an end does not resume",
         text: b"",
@@ -152,10 +152,9 @@ const MADE: [Made; 10] = [
 // The settings that the lines of a text make for a side.
 fn settings_of<R: Abort>(rt: &R, alloc: Global, text: &[u8], side: Side) -> Checked {
     let script = script_of(rt, alloc, text);
-    match script.settings(alloc, side) {
-        Ok(settings) => settings,
-        Err(_) => panic!(rt; "there is memory"),
-    }
+    let settings = script.settings(alloc, side).expect(rt, "there is memory");
+    drop(script);
+    settings
 }
 
 // Whether the settings are what the row says.
@@ -169,18 +168,20 @@ fn are_so(settings: &Settings, row: &Made) -> bool {
 /// Whether the lines make of the settings what the row says.
 fn is_made_so<R: Abort>(rt: &R, alloc: Global, row: &Made) -> bool {
     let checked = settings_of(rt, alloc, row.text, row.side);
-    are_so(checked.settings(), row)
+    let is_so = are_so(checked.settings(), row);
+    drop(checked);
+    is_so
 }
 
 #[test]
 fn setting_lines_make_such_settings(rt: HostRuntime) {
     for row in MADE {
-        assert!(rt; is_made_so(&rt, rt.alloc(), &row), "{}", row.shows);
+        assert!(rt; is_made_so(&rt, rt.alloc(), row), "{}", row.shows);
     }
 }
 
 /// Texts, and the wrong line of each, where there is one.
-const FAULTS: [(&[u8], Option<ScriptFault>); 74] = [
+const FAULTS: &[(&[u8], Option<ScriptFault>)] = &[
     // The edges of ranges.
     (b"set keepalive 1", None),
     (b"set keepalive 2147483647", None),
@@ -270,7 +271,7 @@ const FAULTS: [(&[u8], Option<ScriptFault>); 74] = [
 
 #[test]
 fn each_wrong_setting_line_is_told(rt: HostRuntime) {
-    for (text, wanted) in FAULTS {
-        assert_eq!(rt; fault(rt.alloc(), text), wanted, "{text:?}");
+    for &(text, wanted) in FAULTS {
+        assert!(rt; fault(rt.alloc(), text) == wanted, "{text:?}");
     }
 }

@@ -23,15 +23,14 @@ frame_is o w own start count i view own_is loose sum =
     rest_is own start ∙ (λ j. drop (place j) (own_is j)) ∙ sym (last_own o count i fits) ∙ ap (λ (x : Waiting). drop (length x.queue - count) x.queue) view
 
 -- the frame after its length
-cut_is : (own : List ℕ) (start : ℕ) → drop 3 (take (length own - start) (drop start own)) ≡ drop (start + 3) own
-cut_is own start = ap (drop 3) (rest_is own start) ∙ drop-drop 3 start own
+cut_is : (own bytes : List ℕ) (start : ℕ) → bytes ≡ take (length own - start) (drop start own) → drop 3 bytes ≡ drop (start + 3) own
+cut_is own bytes start last = ap (drop 3) (last ∙ rest_is own start) ∙ drop-drop 3 start own
 
-framed_is : (own : List ℕ) (start : ℕ) → drop start own ≡ framed (drop (start + 3) own)
-    → take (length own - start) (drop start own) ≡ framed (drop 3 (take (length own - start) (drop start own)))
-framed_is own start is = rest_is own start ∙ is ∙ ap framed (sym (cut_is own start))
+framed_is : (own bytes : List ℕ) (start : ℕ) → bytes ≡ take (length own - start) (drop start own) → drop start own ≡ framed (drop (start + 3) own) → bytes ≡ framed (drop 3 bytes)
+framed_is own bytes start last is = last ∙ rest_is own start ∙ is ∙ ap framed (sym (cut_is own bytes start last))
 
 pub keep_last-requires-clause-framed : goal.keep_last-requires-clause-framed
-keep_last-requires-clause-framed c = framed_is c.as_slice-own.result.now c.in-Some.start c.in-Some.ensures.framed
+keep_last-requires-clause-framed c = framed_is c.as_slice-own.result.now c.of.result c.in-Some.start c.of.ensures c.in-Some.ensures.framed
 
 pub invariant_of-self : goal.invariant_of-self
 invariant_of-self c =
@@ -42,13 +41,13 @@ invariant_of-self c =
     let within : start ≤ length o.own.bytes = omega (arith, c.in-Some.ensures.within, ap length own_is) in
     (lines o c.truncate.new.self c.keep_last.new.self (drop (start + 3) slice) start c.self.invariant within c.in-Some.ensures.after
     (ap (λ (q : Contents). q.bytes) c.truncate.ensures) (ap (drop start) (sym own_is) ∙ c.in-Some.ensures.framed)
-    (c.keep_last.ensures.bytes ∙ ap (λ b. o.spans.bytes ++ run (start - own_in o.spans.bytes) b) (rest_is slice start ∙ c.in-Some.ensures.framed))).0
+    (c.keep_last.ensures.bytes ∙ ap (λ b. o.spans.bytes ++ run (start - own_in o.spans.bytes) b) (c.of.ensures ∙ rest_is slice start ∙ c.in-Some.ensures.framed))).0
 
 pub returns-in-Some-clause-held : goal.returns-in-Some-clause-held
 returns-in-Some-clause-held c =
     let slice = c.as_slice-own.result.now in
     let start = c.in-Some.start + 3 in
-    let frame = cut_is slice c.in-Some.start ∙ sym (rest_is slice start) ∙ frame_is c.self.inside c.args.self.now slice start c.args.count c.self.invariant c.self.view_is c.as_slice-own.ensures c.requires.loose (omega (arith, c.in-Some.ensures.within)) in
+    let frame = cut_is slice c.of.result c.in-Some.start c.of.ensures ∙ sym (rest_is slice start) ∙ frame_is c.self.inside c.args.self.now slice start c.args.count c.self.invariant c.self.view_is c.as_slice-own.ensures c.requires.loose (omega (arith, c.in-Some.ensures.within)) in
     c.keep_last.ensures.held ∙ (λ j.
     let h = (c.self.view_is j).held in
     let all = with_newest h (frame j) in
@@ -59,7 +58,7 @@ pub returns-in-Some-clause-of_made : goal.returns-in-Some-clause-of_made
 returns-in-Some-clause-of_made c = λ made told newest is up_to spelled.
     let slice = c.as_slice-own.result.now in
     let start = c.in-Some.start + 3 in
-    let frame = cut_is slice c.in-Some.start ∙ sym (rest_is slice start) ∙ frame_is c.self.inside c.args.self.now slice start c.args.count c.self.invariant c.self.view_is c.as_slice-own.ensures c.requires.loose (omega (arith, c.in-Some.ensures.within)) in
+    let frame = cut_is slice c.of.result c.in-Some.start c.of.ensures ∙ sym (rest_is slice start) ∙ frame_is c.self.inside c.args.self.now slice start c.args.count c.self.invariant c.self.view_is c.as_slice-own.ensures c.requires.loose (omega (arith, c.in-Some.ensures.within)) in
     c.keep_last.ensures.of_made made told newest (subst (λ (w : Waiting). IsHeldOf made told w.held) (sym c.self.view_is) is) up_to (frame ∙ spelled)
 
 pub returns-in-Some-clause-queue : goal.returns-in-Some-clause-queue
@@ -71,7 +70,7 @@ returns-in-Some-clause-queue c =
     let within : start ≤ length o.own.bytes = omega (arith, c.in-Some.ensures.within, ap length own_is) in
     (lines o c.truncate.new.self c.keep_last.new.self (drop (start + 3) slice) start c.self.invariant within c.in-Some.ensures.after
     (ap (λ (q : Contents). q.bytes) c.truncate.ensures) (ap (drop start) (sym own_is) ∙ c.in-Some.ensures.framed)
-    (c.keep_last.ensures.bytes ∙ ap (λ b. o.spans.bytes ++ run (start - own_in o.spans.bytes) b) (rest_is slice start ∙ c.in-Some.ensures.framed))).1
+    (c.keep_last.ensures.bytes ∙ ap (λ b. o.spans.bytes ++ run (start - own_in o.spans.bytes) b) (c.of.ensures ∙ rest_is slice start ∙ c.in-Some.ensures.framed))).1
     ∙ ap (λ (w : Waiting). w.queue) c.self.view_is
 
 pub returns-in-None-clause-held : goal.returns-in-None-clause-held

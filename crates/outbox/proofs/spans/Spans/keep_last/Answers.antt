@@ -18,15 +18,15 @@ joined c =
     let frame = drop 3 c.args.bytes.now in
     let all = with_newest b.held frame in
     let keeps = kept_goes b c.keep_framed.new.self frame (end_of all - all.hold) c.floor-floor.ensures.within c.keep_framed.ensures.held c.keep_framed.ensures.readable c.keep_framed.ensures.pin in
-    frame_joined b c.keep_framed.new.self c.self.inside.stretches.items c.lengthen.new.stretches.items (length c.args.bytes.now) frame keeps c.self.invariant.each (c.lengthen.ensures.longer c.if-lengthen.true) (ap length c.requires.framed)
+    frame_joined b c.keep_framed.new.self c.self.inside.stretches.items c.lengthen.new.stretches.items c.len-count.result frame keeps c.self.invariant.each (c.lengthen.ensures.longer c.if-lengthen.true) (c.len-count.ensures ∙ ap length c.requires.framed)
 
-joined_counted : (c : goal.After-self-1) → Counted (pieces c.keep_framed.new.self c.lengthen.new.stretches.items) c.self.inside.own (c.self.inside.held + (length c.args.bytes.now))
+joined_counted : (c : goal.After-self-1) → Counted (pieces c.keep_framed.new.self c.lengthen.new.stretches.items) c.self.inside.own (c.self.inside.held + c.len-count.result)
 joined_counted c =
     let r = c.self.inside in
     let none : 0 ≡ r.own - r.own = omega arith in
-    counted_run (pieces r.replay r.stretches.items) _ r.own r.held r.own (framed (drop 3 c.args.bytes.now)) (length c.args.bytes.now)
+    counted_run (pieces r.replay r.stretches.items) _ r.own r.held r.own (framed (drop 3 c.args.bytes.now)) c.len-count.result
     (record { own_is = c.self.invariant.own; all_is = c.self.invariant.all }) (omega arith)
-    ((joined c).lined ∙ ap (λ k. pieces r.replay r.stretches.items ++ run k (framed (drop 3 c.args.bytes.now))) none) (ap length c.requires.framed)
+    ((joined c).lined ∙ ap (λ k. pieces r.replay r.stretches.items ++ run k (framed (drop 3 c.args.bytes.now))) none) (c.len-count.ensures ∙ ap length c.requires.framed)
 
 pub invariant_of-self : goal.invariant_of-self
 invariant_of-self c =
@@ -38,8 +38,8 @@ invariant_of-self c =
       each = (joined c).each;
       own = (joined_counted c).own_is;
       all = (joined_counted c).all_is;
-      reaches = λ yes. frame_joined_reaches b c.keep_framed.new.self c.self.inside.stretches.items c.lengthen.new.stretches.items (length c.args.bytes.now) frame keeps c.self.invariant.each
-          (c.lengthen.ensures.longer c.if-lengthen.true) (ap length c.requires.framed);
+      reaches = λ yes. frame_joined_reaches b c.keep_framed.new.self c.self.inside.stretches.items c.lengthen.new.stretches.items c.len-count.result frame keeps c.self.invariant.each
+          (c.lengthen.ensures.longer c.if-lengthen.true) (c.len-count.ensures ∙ ap length c.requires.framed);
     }
 
 pub returns-then-lengthen-clause-of_made : goal.returns-then-lengthen-clause-of_made
@@ -73,8 +73,8 @@ pushed c =
     let each = subst (AreSpans b) (sym (c.lengthen.ensures.same c.if-lengthen.false)) c.self.invariant.each in
     let s = go_where_some b now old c.is_empty.result (deque_len c.lengthen.new.stretches) c.is_empty.ensures c.lengthen.new.stretches.ok.0 (λ others. goes_same b now (c.next_place-place.ensures.same others)) each in
     let keeps = kept_goes now new frame (end_of all - all.hold) c.floor-floor-2.ensures.within c.keep_framed-2.ensures.held c.keep_framed-2.ensures.readable c.keep_framed-2.ensures.pin in
-    let l = frame_pushed now new old (record { own = c.args.own - c.self.inside.own; place = c.next_place-place.result; count = length c.args.bytes.now }) frame keeps s.each
-    c.next_place-place.ensures.boundary c.next_place-place.ensures.pinned c.next_place-place.ensures.end (ap length c.requires.framed) (omega (arith, c.requires.shortest, length-drop 3 c.args.bytes.now)) in
+    let l = frame_pushed now new old (record { own = c.args.own - c.self.inside.own; place = c.next_place-place.result; count = c.len-count.result }) frame keeps s.each
+    c.next_place-place.ensures.boundary c.next_place-place.ensures.pinned c.next_place-place.ensures.end (c.len-count.ensures ∙ ap length c.requires.framed) (omega (arith, c.len-count.ensures, c.requires.shortest, length-drop 3 c.args.bytes.now)) in
     record {
       each = subst (AreSpans new) (sym c.push_back_reserved.ensures.items) l.each;
       lined = ap (pieces new) c.push_back_reserved.ensures.items ∙ l.lined ∙ ap (λ x. x ++ run (c.args.own - c.self.inside.own) (framed frame)) s.bytes;
@@ -85,12 +85,12 @@ pushed_lined c =
     let r = c.self.inside in
     (pushed c).lined ∙ ap (λ ss. pieces r.replay ss ++ run (c.args.own - r.own) (framed (drop 3 c.args.bytes.now))) (c.lengthen.ensures.same c.if-lengthen.false)
 
-pushed_counted : (c : goal.After-self-4-1) → Counted (pieces c.keep_framed-2.new.self c.push_back_reserved.new.self.items) c.args.own (c.self.inside.held + (length c.args.bytes.now))
+pushed_counted : (c : goal.After-self-4-1) → Counted (pieces c.keep_framed-2.new.self c.push_back_reserved.new.self.items) c.args.own (c.self.inside.held + c.len-count.result)
 pushed_counted c =
     let r = c.self.inside in
     let le : r.own ≤ c.args.own = omega (arith, c.requires.own, ap (λ (l : Line). own_in l.bytes) c.self.view_is, c.self.invariant.own) in
-    counted_run (pieces r.replay r.stretches.items) _ r.own r.held c.args.own (framed (drop 3 c.args.bytes.now)) (length c.args.bytes.now)
-    (record { own_is = c.self.invariant.own; all_is = c.self.invariant.all }) le (pushed_lined c) (ap length c.requires.framed)
+    counted_run (pieces r.replay r.stretches.items) _ r.own r.held c.args.own (framed (drop 3 c.args.bytes.now)) c.len-count.result
+    (record { own_is = c.self.invariant.own; all_is = c.self.invariant.all }) le (pushed_lined c) (c.len-count.ensures ∙ ap length c.requires.framed)
 
 pub invariant_of-self-2 : goal.invariant_of-self-2
 invariant_of-self-2 c =
@@ -104,7 +104,7 @@ invariant_of-self-2 c =
       own = (pushed_counted c).own_is;
       all = (pushed_counted c).all_is;
       reaches = λ yes. subst (Reaches new) (sym c.push_back_reserved.ensures.items)
-          (frame_pushed_reaches now new c.lengthen.new.stretches.items _ frame keeps c.next_place-place.ensures.boundary c.next_place-place.ensures.pinned c.next_place-place.ensures.end (ap length c.requires.framed));
+          (frame_pushed_reaches now new c.lengthen.new.stretches.items _ frame keeps c.next_place-place.ensures.boundary c.next_place-place.ensures.pinned c.next_place-place.ensures.end (c.len-count.ensures ∙ ap length c.requires.framed));
     }
 
 pub returns-clause-of_made : goal.returns-clause-of_made

@@ -3,30 +3,28 @@ use Rattle.std.proofs.lemmas.List.{length-append, length-drop, take-append-le, d
 use Rattle.position.specs.Boundaries.{pos_by}
 use Rattle.position.proofs.Boundaries.{pos-push}
 use Rattle.circular_buffer.specs.Buffer.{Buffer}
-use Rattle.rs_frame.specs.Framed.{framed}
-use Rattle.replay_buffer.specs.Held.{Spare}
 use Rattle.replay_buffer.specs.Stored.{Stored, end_of}
 use Rattle.replay_buffer.specs.Storage.{all_of}
 use Rattle.replay_buffer.proofs.Shown.{shows, same_stored}
-use Rattle.replay_buffer.proofs.Stored.{Reads, Stores-append, length-framed}
+use Rattle.replay_buffer.proofs.Stored.{Reads, Stores-append}
 use Rattle.replay_buffer.proofs.store.Store.append_framed.Goals as goal
 
-pub put-requires : goal.put-requires
-put-requires c =
+pub put_pieces-requires : goal.put_pieces-requires
+put_pieces-requires c =
     let few = ap (λ (v : Stored). v.spare.frames) c.self.view_is in
     let some = ap (λ (v : Stored). v.spare.bytes) c.self.view_is in
     omega (arith, c.self.invariant.spare_of_bytes, few, some, c.requires.spare.0, c.requires.spare.1, length-drop 3 c.args.bytes.now)
 
 -- how long the frame is
-size : (bytes : List ℕ) → length bytes - 3 ≡ length (drop 3 bytes)
-size bytes = sym (length-drop 3 bytes)
+size : (bytes : List ℕ) (n : ℕ) → n ≡ length bytes → n - 3 ≡ length (drop 3 bytes)
+size bytes n is = ap (λ k. k - 3) is ∙ sym (length-drop 3 bytes)
 
-all : (c : goal.After-self-3-1) → Reads c.self.inside.floor c.push.new.positions.items c.put.new.bytes.items (all_of c.self.inside ++ drop 3 c.args.bytes.now ∷ [])
+all : (c : goal.After-self-3-1) → Reads c.self.inside.floor c.push.new.positions.items c.put_pieces.new.bytes.items (all_of c.self.inside ++ drop 3 c.args.bytes.now ∷ [])
 all c =
     let r = c.self.inside in
-    let bytes = ap (λ (b : Buffer ℕ). b.items) c.put.ensures ∙ ap (λ l. r.bytes.items ++ l) c.requires.framed in
-    let ends = ap (λ (b : Buffer ℕ). b.items) c.push.ensures ∙ ap (λ n. r.ends.items ++ (r.end + n) ∷ []) (size c.args.bytes.now) in
-    Stores-append r.floor r.end r.ends.items r.bytes.items c.put.new.bytes.items c.push.new.positions.items (all_of r) (drop 3 c.args.bytes.now) c.self.invariant.stored bytes ends c.requires.shortest c.self.invariant.end
+    let bytes = ap (λ (b : Buffer ℕ). b.items) c.put_pieces.ensures ∙ ap (λ l. r.bytes.items ++ l) c.requires.framed in
+    let ends = ap (λ (b : Buffer ℕ). b.items) c.push.ensures ∙ ap (λ n. r.ends.items ++ (r.end + n) ∷ []) (size c.args.bytes.now c.len-count.result c.len-count.ensures) in
+    Stores-append r.floor r.end r.ends.items r.bytes.items c.put_pieces.new.bytes.items c.push.new.positions.items (all_of r) (drop 3 c.args.bytes.now) c.self.invariant.stored bytes ends c.requires.shortest c.self.invariant.end
 
 pub invariant_of-self : goal.invariant_of-self
 invariant_of-self c =
@@ -37,15 +35,15 @@ invariant_of-self c =
     let more = ap length reads.same ∙ length-append (all_of r) (frame ∷ []) in
     let few = ap (λ (v : Stored). v.spare.frames) c.self.view_is in
     let some = ap (λ (v : Stored). v.spare.bytes) c.self.view_is in
-    let count = size c.args.bytes.now in
+    let count = size c.args.bytes.now c.len-count.result c.len-count.ensures in
     record {
       stored = reads.stored;
       end = omega (arith, count, ap (pos_by length) reads.same, s.end, pos-push length (all_of r) frame);
       top = omega (arith, count, (shows r s).end, ap end_of c.self.view_is, c.requires.top);
       passed = omega (arith, more, s.passed);
       first = omega (arith, s.first, ap (λ fs. pos_by length (take r.passed fs)) reads.same, ap (pos_by length) (take-append-le r.passed (all_of r) (frame ∷ []) s.passed));
-      spare_of_bytes = omega (arith, count, s.spare_of_bytes, ap (λ (b : Buffer ℕ). length b.items) c.put.ensures, length-append r.bytes.items c.args.bytes.now, ap (λ (b : Buffer ℕ). b.capacity) c.put.ensures, few, some, c.requires.spare.0, c.requires.spare.1);
-      spare_of_frames = omega (arith, s.spare_of_frames, ap (λ (b : Buffer ℕ). length b.items) c.push.ensures, length-append r.ends.items ((r.end + (length c.args.bytes.now - 3)) ∷ []), ap (λ (b : Buffer ℕ). b.capacity) c.push.ensures, few, c.requires.spare.0);
+      spare_of_bytes = omega (arith, count, s.spare_of_bytes, ap (λ (b : Buffer ℕ). length b.items) c.put_pieces.ensures, length-append r.bytes.items c.args.bytes.now, ap (λ (b : Buffer ℕ). b.capacity) c.put_pieces.ensures, few, some, c.requires.spare.0, c.requires.spare.1);
+      spare_of_frames = omega (arith, s.spare_of_frames, ap (λ (b : Buffer ℕ). length b.items) c.push.ensures, length-append r.ends.items ((r.end + (c.len-count.result - 3)) ∷ []), ap (λ (b : Buffer ℕ). b.capacity) c.push.ensures, few, c.requires.spare.0);
     }
 
 pub returns : goal.returns
@@ -56,5 +54,5 @@ returns c =
     let reads = all c in
     let below = ap (take r.passed) reads.same ∙ take-append-le r.passed (all_of r) (frame ∷ []) s.passed in
     let held = ap (drop r.passed) reads.same ∙ drop-append-le r.passed (all_of r) (frame ∷ []) s.passed in
-    let spare = ap (λ n. record { frames = r.spare_frames - 1; bytes = r.spare_bytes - n }) (size c.args.bytes.now) in
+    let spare = ap (λ n. record { frames = r.spare_frames - 1; bytes = r.spare_bytes - n }) (size c.args.bytes.now c.len-count.result c.len-count.ensures) in
     rw (← c.self.view_is) (same_stored _ _ refl below held spare)
