@@ -1,5 +1,5 @@
-//! Tests of the crates of rules between the frames and the session. They stand above the crates that
-//! they test, since a crate with tests is proved once more with them.
+//! Tests of the crates of rules between the frames and the session, and of the handlers. They stand above
+//! the crates that they test, since a crate with tests is proved once more with them.
 #![tactic(auto)]
 
 #[cfg(test)]
@@ -20,6 +20,8 @@ mod positions;
 mod replays;
 #[cfg(test)]
 mod resumptions;
+#[cfg(test)]
+mod routes;
 #[cfg(test)]
 mod setups;
 #[cfg(test)]

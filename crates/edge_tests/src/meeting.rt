@@ -67,7 +67,7 @@ pub enum Seat {
 
 impl Place<Links, Meeting> for Seat {
     ghost use Rattle.std.specs.Prelude.{◌≡◌};
-    ghost use Rattle.crew_tests.specs.declared.meeting.Seat.TheVariants as seats;
+    ghost use Rattle.edge_tests.specs.declared.meeting.Seat.TheVariants as seats;
 
     ghost vacant = { λ meeting p. p ≡ seats.Vacant };
 

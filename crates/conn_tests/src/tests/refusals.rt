@@ -1,4 +1,6 @@
-//! The ERROR of a first frame or a RESUME that is refused (RSocket 1.0, "Error Codes").
+//! The ERROR that a server gives on a connection that it refuses, for a first frame or a RESUME (RSocket
+//! 1.0, "Error Codes"). Lists of events with their answers are rows of files, which the program `ends`
+//! plays.
 
 use rs_frame::Frame;
 use rs_wire::{Blob, Gone, Rule, SetupFault};
