@@ -83,6 +83,7 @@ impl Outbox {
         requires framed { frame.now ≡ framed (drop 3 frame.now) }
         requires spare { HasSpare self.old.room.spare (length (drop 3 frame.now)) }
         requires shortest { 6 ≤ length (drop 3 frame.now) }
+        requires longest { length (drop 3 frame.now) < 2 ^ 24 }
         requires top { end_of self.old.held + length (drop 3 frame.now) < 2 ^ 63 }
         ensures kept { (newest : Sent) → frame.now ≡ framed_frame newest → result ≡ true →
             IsKept newest self.old self.new }

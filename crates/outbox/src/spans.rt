@@ -193,6 +193,7 @@ impl Spans {
         requires framed { bytes.now ≡ framed (drop 3 bytes.now) }
         requires spare { HasSpare self.old.spare (length (drop 3 bytes.now)) }
         requires shortest { 6 ≤ length (drop 3 bytes.now) }
+        requires longest { length (drop 3 bytes.now) < 2 ^ 24 }
         requires top { end_of self.old.held + length (drop 3 bytes.now) < 2 ^ 63 }
         requires room { 0 < self.old.room }
         requires own { own_in self.old.bytes ≤ own }

@@ -1,10 +1,11 @@
 -- Where frames end: boundaries rise, and the frames from one on are those after it.
-use Rattle.std.proofs.Common.{◌≡◌, ℕ, zero, suc, ◌+◌, ◌<◌, ◌≤◌, min, List, [], ◌∷◌, ◌++◌, length, take, drop, refl, ap, arith}
+use Rattle.std.proofs.Common.{◌≡◌, ℕ, zero, suc, ◌+◌, ◌<◌, ◌≤◌, min, List, [], ◌∷◌, ◌++◌, length, take, drop, refl, ap, ◌∙◌, arith}
 use Rattle.std.specs.List.{AllByRecursion}
 use Rattle.std.proofs.lemmas.List.{take_min, take-take}
 use Rattle.std.proofs.lemmas.Grind.{common_steps}
+use Rattle.std.proofs.Math.Seq.{take-add}
 use Rattle.position.specs.Boundaries.{pos_by, frames_from_by}
-use Rattle.position.proofs.Boundaries.{boundary-le, from-zero, from-in}
+use Rattle.position.proofs.Boundaries.{boundary-le, from-zero, from-in, pos-append}
 use Rattle.replay_buffer.specs.Held.{Held, IsHeldBoundary}
 
 pub rising : (fs : List (List ℕ)) (i j : ℕ) → i ≤ j → pos_by length (take i fs) ≤ pos_by length (take j fs)
@@ -36,6 +37,25 @@ from-taken fs zero all le = from-zero length fs
 from-taken [] (suc k) all le = absurd (omega arith)
 from-taken (f ∷ fs) (suc k) all le =
     grind (arith, common_steps, from-in length f fs (length f + pos_by length (take k fs)), all.0, from-taken fs k all.1)
+
+-- the frame at an index, and those after it
+pub record At (fs : List (List ℕ)) (i : ℕ) : Type 0 where
+  pub frame : List ℕ
+  pub rest : drop i fs ≡ frame ∷ drop (suc i) fs
+  pub sum : pos_by length (take (i + 1) fs) ≡ pos_by length (take i fs) + length frame
+
+pub at_index : (fs : List (List ℕ)) (i : ℕ) → i < length fs → At fs i
+unfolding pos_by
+at_index [] i lt = absurd (omega arith)
+at_index (f ∷ fs) zero lt = record { frame = f; rest = refl; sum = omega arith }
+at_index (f ∷ fs) (suc i) lt =
+    let a = at_index fs i (omega arith) in
+    let more : suc i + 1 ≡ suc (i + 1) = omega arith in
+    record { frame = a.frame; rest = a.rest; sum = omega (arith, a.sum, ap (λ k. pos_by length (take k (f ∷ fs))) more) }
+
+-- the sum of some first frames and of those after them
+pub pos_parts : (fs : List (List ℕ)) (k j : ℕ) → pos_by length (take (k + j) fs) ≡ pos_by length (take k fs) + pos_by length (take j (drop k fs))
+pos_parts fs k j = ap (pos_by length) (take-add k j fs) ∙ pos-append length (take k fs) (take j (drop k fs))
 
 -- how many of the held frames end at or before a held boundary
 pub record EndsAt (at : ℕ) (fs : List (List ℕ)) (p k : ℕ) : Type 0 where

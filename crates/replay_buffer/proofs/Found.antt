@@ -1,76 +1,42 @@
--- Boundaries that are looked up among the ends.
-use Rattle.std.proofs.Common.{◌≡◌, ℕ, zero, suc, ◌+◌, ◌-◌, ◌*◌, ◌<◌, ◌≤◌, List, [], ◌∷◌, ◌++◌, length, take, drop, get_or, refl, sym, ap, ◌∙◌, arith}
+-- Boundaries that are looked up.
+use Rattle.std.proofs.Common.{◌≡◌, ℕ, ◌+◌, ◌-◌, ◌*◌, ◌<◌, ◌≤◌, List, length, take, drop, sym, ap, ◌∙◌, arith, inl, inr}
 use Rattle.std.specs.List.{AllByRecursion, flat_map}
-use Rattle.std.proofs.lemmas.List.{drop_at, length-take-le, take-append-drop, take_all}
-use Rattle.std.proofs.lemmas.List.Concat.{flat_map-append}
+use Rattle.std.proofs.lemmas.Bool.{cases_lt}
+use Rattle.std.proofs.lemmas.List.{take_all}
 use Rattle.rs_frame.specs.Framed.{framed}
 use Rattle.position.specs.Boundaries.{pos_by, frames_from_by, IsBoundaryBy}
-use Rattle.replay_buffer.specs.Storage.{ends_of, Stores}
-use Rattle.replay_buffer.proofs.Boundaries.{rising, rising_more, from-taken, ends_at}
-use Rattle.replay_buffer.proofs.Stored.{length-framed_all}
+use Rattle.replay_buffer.specs.Marked.{IsAt}
+use Rattle.replay_buffer.specs.declared.marks.Spot.{Spot}
+use Rattle.replay_buffer.proofs.Boundaries.{ends_at, from-taken, rising}
+use Rattle.replay_buffer.proofs.Stored.{framed_all-drop, length-framed_all}
 
-pub length-ends_of : (at : ℕ) (fs : List (List ℕ)) → length (ends_of at fs) ≡ length fs
-length-ends_of at [] = refl
-length-ends_of at (f ∷ fs) = omega (arith, length-ends_of (at + length f) fs)
+-- each frame after this place starts above the position
+abbrev pub IsLast : ℕ → List (List ℕ) → ℕ → ℕ → Type 0
+IsLast at fs index position = (k : ℕ) → index < k → k ≤ length fs → position < at + pos_by length (take k fs)
 
-pub get_or-ends_of : (at : ℕ) (fs : List (List ℕ)) (k : ℕ) → k < length fs → get_or (ends_of at fs) k 0 ≡ at + pos_by length (take (suc k) fs)
+-- so it is where the next one does
+pub last_here : (at : ℕ) (fs : List (List ℕ)) (index position : ℕ) → position < at + pos_by length (take (index + 1) fs) → IsLast at fs index position
+last_here at fs index position above k more le = omega (arith, above, rising fs (index + 1) k (omega arith))
+
+-- it is not above the position, where the first frame does not start above it
+not_above : (at : ℕ) (fs : List (List ℕ)) (s : Spot) (p : ℕ) → IsAt at fs s → (0 < s.index → s.position ≤ p) → at ≤ p → s.position ≤ p
 unfolding pos_by
-get_or-ends_of at [] k lt = absurd (omega arith)
-get_or-ends_of at (f ∷ fs) zero lt = omega arith
-get_or-ends_of at (f ∷ fs) (suc k) lt = omega (arith, get_or-ends_of (at + length f) fs k (omega arith))
+not_above at fs s p here low from = elim (cases_lt 0 s.index) [
+  | inl some ↦ low some
+  | inr none ↦
+      let first : s.index ≡ 0 = omega arith in
+      omega (arith, here.start, ap (λ k. pos_by length (take k fs)) first)
+]
 
--- the positions as they lie in the fields
-pub record Ends (at : ℕ) (ends : List ℕ) (fs : List (List ℕ)) : Type 0 where
-  pub many : length ends ≡ length fs
-  pub one : (k : ℕ) → k < length fs → get_or ends k 0 ≡ at + pos_by length (take (suc k) fs)
-  pub rise : (i j : ℕ) → i ≤ j → j < length ends → get_or ends i 0 ≤ get_or ends j 0
-  pub few : 6 * length ends ≤ pos_by length fs
-
-pub ends_in : (at : ℕ) (ends bytes : List ℕ) (fs : List (List ℕ)) → Stores at ends bytes fs → Ends at ends fs
-unfolding pos_by
-ends_in at ends bytes fs s = rw s.ends_are (record {
-  many = length-ends_of at fs;
-  one = get_or-ends_of at fs;
-  rise = λ i j le lt. omega (arith, length-ends_of at fs, get_or-ends_of at fs i (omega (arith, length-ends_of at fs)), get_or-ends_of at fs j (omega (arith, length-ends_of at fs)), rising fs (suc i) (suc j) (omega arith));
-  few = omega (arith, length-ends_of at fs, few fs s.longer);
-})
-  where
-    few : (fs : List (List ℕ)) → AllByRecursion (λ f. 6 ≤ length f) fs → 6 * length fs ≤ pos_by length fs
-    few [] all = omega arith
-    few (f ∷ fs) all = omega (arith, all.0, few fs all.1)
-
--- so many frames, and no more, start at the position or before it
-pub record CountsUpTo (at : ℕ) (fs : List (List ℕ)) (position count : ℕ) : Type 0 where
-  pub bound : count ≤ length fs
-  pub within : (k : ℕ) → 0 < k → k ≤ count → at + pos_by length (take k fs) ≤ position
-  pub after : (k : ℕ) → count < k → k ≤ length fs → position < at + pos_by length (take k fs)
-
-pub counts_up_to : (at : ℕ) (ends : List ℕ) (fs : List (List ℕ)) (position count : ℕ) → Ends at ends fs → count ≤ length ends
-    → ((k : ℕ) → k < count → get_or ends k 0 ≤ position) → ((k : ℕ) → count ≤ k → k < length ends → position < get_or ends k 0) → CountsUpTo at fs position count
-counts_up_to at ends fs position count e bound within after = record { bound = omega (arith, e.many); within = low; after = high }
-  where
-    low : (k : ℕ) → 0 < k → k ≤ count → at + pos_by length (take k fs) ≤ position
-    low zero some le = absurd (omega arith)
-    low (suc k) some le = omega (arith, within k (omega arith), e.one k (omega (arith, e.many)))
-
-    high : (k : ℕ) → count < k → k ≤ length fs → position < at + pos_by length (take k fs)
-    high zero more le = absurd (omega arith)
-    high (suc k) more le = omega (arith, after k (omega arith) (omega (arith, e.many)), e.one k (omega arith))
-
--- the frames up to a boundary are those that start at it or before it
-pub boundary_is : (at : ℕ) (fs : List (List ℕ)) (p k : ℕ) → AllByRecursion (λ f. 6 ≤ length f) fs → CountsUpTo at fs p k
-    → at ≤ p → IsBoundaryBy length fs (p - at) → p ≡ at + pos_by length (take k fs)
-boundary_is at fs p k longer c from boundary =
+-- a boundary is the last one that is not above it
+pub boundary_is : (at : ℕ) (fs : List (List ℕ)) (s : Spot) (p : ℕ) → IsAt at fs s → (0 < s.index → s.position ≤ p) → IsLast at fs s.index p
+    → at ≤ p → IsBoundaryBy length fs (p - at) → s.position ≡ p
+boundary_is at fs s p here low last from boundary =
     let e = ends_at (record { first = at; frames = fs; hold = 0 }) p (from, boundary) in
-    let same : k ≡ e.0 =
-    grind (arith, e.1.is, e.1.within, c.bound, c.within k, c.after e.0, rising_more fs e.0 longer, rising fs (suc e.0) k) in
-    omega (arith, e.1.is, ap (λ n. pos_by length (take n fs)) same)
-
-pub framed_all-drop : (fs : List (List ℕ)) (m : ℕ) → m ≤ length fs → drop (pos_by length (take m fs) + 3 * m) (flat_map framed fs) ≡ flat_map framed (drop m fs)
-framed_all-drop fs m le =
-    let parts : flat_map framed fs ≡ flat_map framed (take m fs) ++ flat_map framed (drop m fs) = ap (flat_map framed) (sym (take-append-drop m fs)) ∙ flat_map-append framed (take m fs) (drop m fs) in
-    let len : length (flat_map framed (take m fs)) ≡ pos_by length (take m fs) + 3 * m = omega (arith, length-framed_all (take m fs), length-take-le m fs le) in
-    ap (drop (pos_by length (take m fs) + 3 * m)) parts ∙ drop_at (flat_map framed (take m fs)) (flat_map framed (drop m fs)) (pos_by length (take m fs) + 3 * m) len
+    elim (cases_lt s.index e.0) [
+      | inl more ↦ absurd (omega (arith, last e.0 more e.1.within, e.1.is))
+      | inr less ↦ omega (arith, not_above at fs s p here low from, here.start, e.1.is, rising fs e.0 s.index less)
+    ]
 
 -- where the frames from a boundary on lie in the bytes
 pub record LiesAt (fs : List (List ℕ)) (from k : ℕ) : Type 0 where
@@ -85,7 +51,3 @@ lies_at fs from k longer le is =
       rest = ap (λ n. drop n (flat_map framed fs)) place ∙ framed_all-drop fs k le ∙ ap (flat_map framed) (sym (from-taken fs k longer le) ∙ ap (frames_from_by length fs) (sym is));
       within = omega (arith, is, length-framed_all fs, rising fs k (length fs) le, ap (pos_by length) all);
     }
-
-pub head_and_rest : (xs : List ℕ) → 0 < length xs → xs ≡ get_or xs 0 0 ∷ drop 1 xs
-head_and_rest [] some = absurd (omega arith)
-head_and_rest (x ∷ xs) some = refl

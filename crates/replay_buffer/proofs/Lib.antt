@@ -1,13 +1,14 @@
+pub mod Acked
 pub mod Boundaries
 pub mod Stored
+pub mod Marked
 pub mod Forgotten
 pub mod HeldOf
 pub mod Shown
 pub mod Copied
+pub mod Dropped
 pub mod Found
-pub mod Freed
 pub mod Known
-pub mod Popped
 pub mod Passed
 pub mod Trimmed
 pub mod Walked

@@ -1,28 +1,39 @@
 -- Frames that are held no longer, and frames that are forgotten, one by one.
 use Rattle.std.proofs.Common.{◌≡◌, ℕ, ◌+◌, ◌-◌, ◌<◌, ◌≤◌, List, [], ◌∷◌, ◌++◌, length, take, drop, min, refl, sym, ap, subst, ◌∙◌, append_assoc, arith, ◌⊎◌, inl, inr, Option, Some, None}
 use Rattle.std.specs.Option.{IfSome}
-use Rattle.std.proofs.lemmas.List.{take-append-drop, take_at}
+use Rattle.std.proofs.lemmas.List.{drop_at, take-append-drop, take_at}
 use Rattle.std.proofs.lemmas.Bool.{cases_lt}
 use Rattle.position.specs.Boundaries.{pos_by, frames_from_by, IsBoundaryBy}
 use Rattle.position.proofs.Boundaries.{pos-append, boundary_after, boundary_cases, boundary_zero, from-in, from-zero}
 use Rattle.position.proofs.Growing.{boundary_rest}
+use Rattle.replay_buffer.proofs.Boundaries.{pos_parts}
 use Rattle.replay_buffer.specs.Held.{Held, IsHeldBoundary, lesser}
 use Rattle.replay_buffer.specs.Stored.{Stored, IsPassed, IsStart, IsTrimmed, first_after, floor_of, frames_of, held_in}
 
--- the oldest held frame is held no longer
-abbrev pub passed_one : Stored → Stored
-passed_one v = record v { first = first_after v; below = v.below ++ take 1 v.held; held = drop 1 v.held }
+-- the oldest held frames are held no longer
+abbrev pub passed_to : Stored → ℕ → ℕ → Stored
+passed_to v n first = record v { first = first; below = v.below ++ take n v.held; held = drop n v.held }
 
-pub passed-same : (v : Stored) → IsPassed v (passed_one v)
-passed-same v =
-    let cut = take-append-drop 1 v.held in
-    let sum = pos-append length (take 1 v.held) (drop 1 v.held) in
+pub passed_to-same : (v : Stored) (n first : ℕ) → first ≡ v.first + pos_by length (take n v.held) → IsPassed v (passed_to v n first)
+passed_to-same v n first is =
+    let cut = take-append-drop n v.held in
+    let sum = pos-append length (take n v.held) (drop n v.held) in
     record {
-      frames = append_assoc v.below (take 1 v.held) (drop 1 v.held) ∙ ap (λ l. v.below ++ l) cut;
-      floor = omega (arith, pos-append length v.below (take 1 v.held));
-      end = omega (arith, sum, ap (pos_by length) cut);
+      frames = append_assoc v.below (take n v.held) (drop n v.held) ∙ ap (λ l. v.below ++ l) cut;
+      floor = omega (arith, is, pos-append length v.below (take n v.held));
+      end = omega (arith, is, sum, ap (pos_by length) cut);
       spare = refl;
     }
+
+-- the oldest of them
+abbrev pub passed_one : Stored → Stored
+passed_one v = passed_to v 1 (first_after v)
+
+-- the first frames are those held no longer and some of those held
+pub beyond : (v : Stored) (j : ℕ) → pos_by length (take (length v.below + j) (frames_of v)) ≡ pos_by length v.below + pos_by length (take j v.held)
+beyond v j =
+    pos_parts (frames_of v) (length v.below) j
+    ∙ (λ i. pos_by length (take_at v.below v.held (length v.below) refl i) + pos_by length (take j (drop_at v.below v.held (length v.below) refl i)))
 
 -- what a loop that passes frames keeps, where `left` is what it comes to
 pub record Passes (left : Held → Held) (old now : Stored) : Type 0 where
@@ -35,7 +46,7 @@ not_yet left v = record { same = λ hold. refl; all = record { frames = refl; fl
 pub passes : (left : Held → Held) (old now new : Stored) → Passes left old now → new ≡ passed_one now
     → ((hold : ℕ) → left (held_in hold (passed_one now)) ≡ left (held_in hold now)) → Passes left old new
 passes left old now new p is step =
-    let one = subst (IsPassed now) (sym is) (passed-same now) in
+    let one = subst (IsPassed now) (sym is) (passed_to-same now 1 (first_after now) refl) in
     record {
       same = λ hold. ap (λ v. left (held_in hold v)) is ∙ step hold ∙ p.same hold;
       all = record {

@@ -1,14 +1,15 @@
 -- The fields hold the list of frames: reading, appending and dropping.
-use Rattle.std.proofs.Common.{◌≡◌, ℕ, ◌+◌, ◌-◌, ◌*◌, ◌≤◌, List, [], ◌∷◌, ◌++◌, length, take, drop, refl, ap, ◌∙◌, append_assoc, arith}
+use Rattle.std.proofs.Common.{◌≡◌, ℕ, zero, suc, ◌+◌, ◌-◌, ◌*◌, ◌<◌, ◌≤◌, ◌^◌, List, [], ◌∷◌, ◌++◌, length, take, drop, refl, sym, ap, subst, ◌∙◌, append_assoc, arith}
 use Rattle.std.specs.List.{AllByRecursion, flat_map}
 use Rattle.std.proofs.lemmas.Grind.{common_steps}
-use Rattle.std.proofs.lemmas.List.{length-append, take_at, drop_at, append-nil}
+use Rattle.std.proofs.lemmas.List.{length-append, length-drop, length-take-le, take-append-drop, take_at, drop_at, append-nil}
 use Rattle.std.proofs.lemmas.List.Concat.{flat_map-append, flat_map-cons}
-use Rattle.byteorder.specs.Endian.{big_bytes}
-use Rattle.byteorder.specs.Numbers.{length-bytes_high_first}
+use Rattle.byteorder.specs.Endian.{big_bytes, big_number}
+use Rattle.byteorder.specs.Numbers.{big_number-reads_back, length-bytes_high_first}
 use Rattle.rs_frame.specs.Framed.{framed}
 use Rattle.position.specs.Boundaries.{pos_by}
-use Rattle.replay_buffer.specs.Storage.{ends_of, frames_in, Stores}
+use Rattle.replay_buffer.specs.Storage.{frames_in, Stores}
+use Rattle.replay_buffer.proofs.Boundaries.{at_index}
 
 length-prefix : (f : List ℕ) → length (big_bytes 3 (length f)) ≡ 3
 length-prefix f = length-bytes_high_first 3 (length f)
@@ -24,7 +25,10 @@ unfolding pos_by
 length-framed_all [] = refl
 length-framed_all (f ∷ fs) = grind (arith, common_steps, length-framed f, length-framed_all fs)
 
--- the first frame is cut out of the bytes
+-- the length of the first frame is read from the bytes, and the frame is cut out of them
+number_before : (f rest : List ℕ) → length f < 2 ^ 24 → big_number 3 (framed f ++ rest) ≡ length f
+number_before f rest lt = big_number-reads_back 3 (length f) (f ++ rest) (omega arith)
+
 take_first : (f rest : List ℕ) (n : ℕ) → n ≡ length f → take n (drop 3 (framed f ++ rest)) ≡ f
 take_first f rest n is =
     grind (arith, length-prefix f, append_assoc, drop_at (big_bytes 3 (length f)) (f ++ rest) 3, take_at f rest n)
@@ -32,65 +36,82 @@ take_first f rest n is =
 drop_first : (f rest : List ℕ) (n : ℕ) → n ≡ length f → drop (3 + n) (framed f ++ rest) ≡ rest
 drop_first f rest n is = drop_at (framed f) rest (3 + n) (omega (arith, length-framed f, is))
 
-read_again : (at : ℕ) (fs : List (List ℕ)) → frames_in at (ends_of at fs) (flat_map framed fs) ≡ fs
-read_again at [] = refl
-read_again at (f ∷ fs) =
+read_again : (fs : List (List ℕ)) → AllByRecursion (λ f. length f < 2 ^ 24) fs → frames_in (length fs) (flat_map framed fs) ≡ fs
+read_again [] all = refl
+read_again (f ∷ fs) all =
     let rest = flat_map framed fs in
-    let n : (at + length f) - at ≡ length f = omega arith in
-    cc (flat_map-cons framed f fs, take_first f rest _ n, drop_first f rest _ n, read_again (at + length f) fs)
+    let n : big_number 3 (framed f ++ rest) ≡ length f = number_before f rest all.0 in
+    let left : frames_in (length fs) (drop (3 + big_number 3 (framed f ++ rest)) (framed f ++ rest)) ≡ fs = ap (frames_in (length fs)) (drop_first f rest _ n) ∙ read_again fs all.1 in
+    ap (frames_in (suc (length fs))) (flat_map-cons framed f fs) ∙ (λ i. take_first f rest _ n i ∷ left i)
+
+pub length-frames_in : (n : ℕ) (bytes : List ℕ) → length (frames_in n bytes) ≡ n
+length-frames_in zero bytes = refl
+length-frames_in (suc n) bytes = omega (arith, length-frames_in n (drop (3 + big_number 3 bytes) bytes))
 
 -- what is stored is what is read
-pub record Reads (at : ℕ) (ends bytes : List ℕ) (fs : List (List ℕ)) : Type 0 where
-  pub stored : Stores at ends bytes (frames_in at ends bytes)
-  pub same : frames_in at ends bytes ≡ fs
+pub record Reads (n : ℕ) (bytes : List ℕ) (fs : List (List ℕ)) : Type 0 where
+  pub stored : Stores bytes (frames_in n bytes)
+  pub same : frames_in n bytes ≡ fs
 
-pub reads : (at : ℕ) (ends bytes : List ℕ) (fs : List (List ℕ)) → Stores at ends bytes fs → Reads at ends bytes fs
-reads at ends bytes fs s =
-    let same : frames_in at ends bytes ≡ fs = rw (s.ends_are, s.bytes_are) (read_again at fs) in
-    record { stored = rw same s; same = same }
+reads : (n : ℕ) (bytes : List ℕ) (fs : List (List ℕ)) → n ≡ length fs → Stores bytes fs → Reads n bytes fs
+reads n bytes fs many s =
+    let same : frames_in n bytes ≡ fs = (λ i. frames_in (many i) (s.bytes_are i)) ∙ read_again fs s.shorter in
+    record { stored = subst (Stores bytes) (sym same) s; same = same }
 
 all_push : {X : Type 0} (P : X → Type 0) (xs : List X) (x : X) → AllByRecursion P xs → P x → AllByRecursion P (xs ++ x ∷ [])
 all_push P [] x all one = (one, tt)
 all_push P (y ∷ xs) x all one = (all.0, all_push P xs x all.1 one)
 
-ends_of-push : (at : ℕ) (fs : List (List ℕ)) (f : List ℕ) → ends_of at (fs ++ f ∷ []) ≡ ends_of at fs ++ (at + pos_by length fs + length f) ∷ []
-unfolding pos_by
-ends_of-push at [] f = grind (arith, common_steps)
-ends_of-push at (g ∷ fs) f = grind (arith, common_steps, ends_of-push (at + length g) fs f)
-
--- what the fields hold once the oldest frame is gone
-pub record Pops (at end : ℕ) (ends bytes rest : List ℕ) (fs : List (List ℕ)) : Type 0 where
-  pub reads : Reads end ends rest (drop 1 fs)
-  pub end_is : end ≡ at + pos_by length (take 1 fs)
-  pub rises : at + 6 ≤ end
-  pub within : 3 + (end - at) ≤ length bytes
-  pub all : pos_by length fs ≡ pos_by length (take 1 fs) + pos_by length (drop 1 fs)
-
-pub Stores-pop : (at end : ℕ) (ends left bytes rest : List ℕ) (fs : List (List ℕ)) → Stores at ends bytes fs → ends ≡ end ∷ left
-    → rest ≡ drop (3 + (end - at)) bytes → Pops at end left bytes rest fs
-unfolding pos_by
-Stores-pop at end ends left bytes rest [] s is dropped = absurd (cc (s.ends_are, is))
-Stores-pop at end ends left bytes rest (f ∷ fs) s is dropped =
-    let e : end ≡ at + length f = cc (is, s.ends_are) in
-    let n : end - at ≡ length f = omega (arith, e) in
-    let bs : bytes ≡ framed f ++ flat_map framed fs = s.bytes_are ∙ flat_map-cons framed f fs in
-    record {
-      reads = reads end left rest fs (record {
-        bytes_are = cc (dropped, bs, drop_first f (flat_map framed fs) (end - at) n);
-        ends_are = cc (is, s.ends_are, e);
-        longer = s.longer.1;
-      });
-      end_is = omega (arith, e);
-      rises = omega (arith, e, s.longer.0);
-      within = omega (arith, n, ap length bs, length-append (framed f) (flat_map framed fs), length-framed f);
-      all = omega arith;
-    }
+pub all_drop : {X : Type 0} (P : X → Type 0) (xs : List X) (k : ℕ) → AllByRecursion P xs → AllByRecursion P (drop k xs)
+all_drop P xs zero all = all
+all_drop P [] (suc k) all = all
+all_drop P (x ∷ xs) (suc k) all = all_drop P xs k all.1
 
 -- the fields once a frame was appended
-pub Stores-append : (at end : ℕ) (ends bytes longer more : List ℕ) (fs : List (List ℕ)) (f : List ℕ) → Stores at ends bytes fs → longer ≡ bytes ++ framed f
-    → more ≡ ends ++ (end + length f) ∷ [] → 6 ≤ length f → end ≡ at + pos_by length fs → Reads at more longer (fs ++ f ∷ [])
-Stores-append at end ends bytes longer more fs f s l m long is = reads at more longer (fs ++ f ∷ []) (record {
-  bytes_are = cc (l, s.bytes_are, framed_all-push fs f);
-  ends_are = cc (m, s.ends_are, is, ends_of-push at fs f);
+pub Stores-append : (n : ℕ) (bytes more : List ℕ) (fs : List (List ℕ)) (f : List ℕ) → Stores bytes fs → n ≡ length fs + 1 → more ≡ bytes ++ framed f
+    → 6 ≤ length f → length f < 2 ^ 24 → Reads n more (fs ++ f ∷ [])
+Stores-append n bytes more fs f s many m long short = reads n more (fs ++ f ∷ []) (omega (arith, many, length-append fs (f ∷ []))) (record {
+  bytes_are = m ∙ ap (λ b. b ++ framed f) s.bytes_are ∙ sym (framed_all-push fs f);
   longer = all_push (λ g. 6 ≤ length g) fs f s.longer long;
+  shorter = all_push (λ g. length g < 2 ^ 24) fs f s.shorter short;
 })
+
+-- the frames from one on lie after those before it
+pub framed_all-drop : (fs : List (List ℕ)) (m : ℕ) → m ≤ length fs → drop (pos_by length (take m fs) + 3 * m) (flat_map framed fs) ≡ flat_map framed (drop m fs)
+framed_all-drop fs m le =
+    let parts : flat_map framed fs ≡ flat_map framed (take m fs) ++ flat_map framed (drop m fs) = ap (flat_map framed) (sym (take-append-drop m fs)) ∙ flat_map-append framed (take m fs) (drop m fs) in
+    let len : length (flat_map framed (take m fs)) ≡ pos_by length (take m fs) + 3 * m = omega (arith, length-framed_all (take m fs), length-take-le m fs le) in
+    ap (drop (pos_by length (take m fs) + 3 * m)) parts ∙ drop_at (flat_map framed (take m fs)) (flat_map framed (drop m fs)) (pos_by length (take m fs) + 3 * m) len
+
+-- the fields once the first frames are gone
+pub Stores-drop : (n size : ℕ) (bytes left : List ℕ) (fs : List (List ℕ)) (k : ℕ) → Stores bytes fs → k ≤ length fs → n ≡ length fs - k
+    → size ≡ pos_by length (take k fs) + 3 * k → left ≡ drop size bytes → Reads n left (drop k fs)
+Stores-drop n size bytes left fs k s le many is dropped = reads n left (drop k fs) (omega (arith, many, length-drop k fs)) (record {
+  bytes_are = dropped ∙ (λ i. drop (is i) (s.bytes_are i)) ∙ framed_all-drop fs k le;
+  longer = all_drop _ fs k s.longer;
+  shorter = all_drop _ fs k s.shorter;
+})
+
+-- the length of a frame is read before it
+pub record Measured (bytes : List ℕ) (fs : List (List ℕ)) (k before : ℕ) : Type 0 where
+  pub within : before + 3 ≤ length bytes
+  pub next : pos_by length (take (k + 1) fs) ≡ pos_by length (take k fs) + big_number 3 (drop before bytes)
+
+pub measured : (bytes : List ℕ) (fs : List (List ℕ)) (k before : ℕ) → Stores bytes fs → k < length fs → before ≡ pos_by length (take k fs) + 3 * k → Measured bytes fs k before
+measured bytes fs k before s lt is =
+    let a = at_index fs k lt in
+    let rest = flat_map framed (drop (suc k) fs) in
+    let short = subst (AllByRecursion (λ f. length f < 2 ^ 24)) a.rest (all_drop _ fs k s.shorter) in
+    let left : drop before bytes ≡ framed a.frame ++ rest =
+    (λ i. drop (is i) (s.bytes_are i)) ∙ framed_all-drop fs k (omega arith) ∙ ap (flat_map framed) a.rest ∙ flat_map-cons framed a.frame (drop (suc k) fs) in
+    let number : big_number 3 (drop before bytes) ≡ length a.frame = ap (big_number 3) left ∙ number_before a.frame rest short.0 in
+    let size = ap length left ∙ length-append (framed a.frame) rest in
+    record {
+      within = omega (arith, size, length-framed a.frame, length-drop before bytes);
+      next = omega (arith, number, a.sum);
+    }
+
+pub few_frames : (fs : List (List ℕ)) → AllByRecursion (λ f. 6 ≤ length f) fs → 6 * length fs ≤ pos_by length fs
+unfolding pos_by
+few_frames [] all = omega arith
+few_frames (f ∷ fs) all = omega (arith, all.0, few_frames fs all.1)

@@ -1,5 +1,5 @@
 -- Frames that were drawn, one after the other.
-use Rattle.std.proofs.Common.{◌≡◌, ℕ, zero, suc, ◌+◌, ◌-◌, ◌<◌, ◌≤◌, List, [], ◌∷◌, ◌++◌, length, take, drop, refl, sym, ap, ◌∙◌, arith, inl, inr}
+use Rattle.std.proofs.Common.{◌≡◌, ℕ, ◌+◌, ◌-◌, ◌*◌, ◌<◌, ◌≤◌, List, [], ◌∷◌, length, take, drop, refl, sym, ap, ◌∙◌, arith, inl, inr}
 use Rattle.std.specs.List.{AllByRecursion, flat_map}
 use Rattle.std.proofs.lemmas.List.{drop_at, drop-drop, length-append, length-drop, take_all, take_at}
 use Rattle.std.proofs.lemmas.Bool.{cases_lt}
@@ -9,22 +9,8 @@ use Rattle.position.specs.Boundaries.{pos_by, frames_from_by}
 use Rattle.position.proofs.Boundaries.{boundary-le, from-in}
 use Rattle.position.proofs.Growing.{from_after}
 use Rattle.replay_buffer.specs.Stored.{Stored, IsStart, floor_of, framed_from, frames_of, held_from}
-use Rattle.replay_buffer.proofs.Boundaries.{from-taken, rising}
-use Rattle.replay_buffer.proofs.Stored.{length-framed}
-
--- the frame at an index, and those after it
-pub record At (fs : List (List ℕ)) (i : ℕ) : Type 0 where
-  pub frame : List ℕ
-  pub rest : drop i fs ≡ frame ∷ drop (suc i) fs
-  pub sum : pos_by length (take (suc i) fs) ≡ pos_by length (take i fs) + length frame
-
-pub at_index : (fs : List (List ℕ)) (i : ℕ) → i < length fs → At fs i
-unfolding pos_by
-at_index [] i lt = absurd (omega arith)
-at_index (f ∷ fs) zero lt = record { frame = f; rest = refl; sum = omega arith }
-at_index (f ∷ fs) (suc i) lt =
-    let a = at_index fs i (omega arith) in
-    record { frame = a.frame; rest = a.rest; sum = omega (arith, a.sum) }
+use Rattle.replay_buffer.proofs.Boundaries.{from-taken, pos_parts, rising}
+use Rattle.replay_buffer.proofs.Stored.{framed_all-drop, length-framed_all}
 
 -- where a walk over the frames has come to
 pub record Walks (v : Stored) (from count index position skip : ℕ) : Type 0 where
@@ -35,33 +21,38 @@ pub record Walks (v : Stored) (from count index position skip : ℕ) : Type 0 wh
   pub rest : drop (count - skip) (framed_from v from) ≡ framed_from v position
   pub inside : skip ≤ length (framed_from v position)
 
--- the framed bytes from the start of a frame are those of this frame and those from its end on
-pub framed_next : (v : Stored) (i p q n : ℕ) → AllByRecursion (λ f. 6 ≤ length f) (frames_of v) → i < length (frames_of v)
-    → p ≡ floor_of v + pos_by length (take i (frames_of v)) → q ≡ floor_of v + pos_by length (take (suc i) (frames_of v)) → n ≡ 3 + (q - p)
+-- the framed bytes from a start are those of the frames up to another one, and those from there on
+pub framed_next : (v : Stored) (i j p q n : ℕ) → AllByRecursion (λ f. 6 ≤ length f) (frames_of v) → i ≤ j → j ≤ length (frames_of v)
+    → p ≡ floor_of v + pos_by length (take i (frames_of v)) → q ≡ floor_of v + pos_by length (take j (frames_of v)) → n ≡ (q - p) + 3 * (j - i)
     → (drop n (framed_from v p) ≡ framed_from v q) × (length (framed_from v p) ≡ n + length (framed_from v q))
-framed_next v i p q n longer lt at to is =
+framed_next v i j p q n longer up le at to is =
     let fs = frames_of v in
-    let a = at_index fs i lt in
+    let gs = drop i fs in
+    let m = j - i in
+    let whole : i + (j - i) ≡ j = omega (arith, up) in
     let low : p - floor_of v ≡ pos_by length (take i fs) = omega (arith, at) in
-    let high : q - floor_of v ≡ pos_by length (take (suc i) fs) = omega (arith, to) in
-    let here : framed_from v p ≡ flat_map framed (drop i fs) = ap (flat_map framed) (ap (frames_from_by length fs) low ∙ from-taken fs i longer (omega arith)) in
-    let there : framed_from v q ≡ flat_map framed (drop (suc i) fs) = ap (flat_map framed) (ap (frames_from_by length fs) high ∙ from-taken fs (suc i) longer (omega arith)) in
-    let cut : framed_from v p ≡ framed a.frame ++ framed_from v q =
-    here ∙ ap (flat_map framed) a.rest ∙ flat_map-cons framed a.frame (drop (suc i) fs) ∙ ap (λ l. framed a.frame ++ l) (sym there) in
-    let size : length (framed a.frame) ≡ n = omega (arith, length-framed a.frame, is, at, to, a.sum) in (
-      ap (drop n) cut ∙ drop_at (framed a.frame) (framed_from v q) n size,
-      ap length cut ∙ omega (arith, length-append (framed a.frame) (framed_from v q), size),
-    )
+    let high : q - floor_of v ≡ pos_by length (take j fs) = omega (arith, to) in
+    let here : framed_from v p ≡ flat_map framed gs = ap (flat_map framed) (ap (frames_from_by length fs) low ∙ from-taken fs i longer (omega arith)) in
+    let there : framed_from v q ≡ flat_map framed (drop j fs) = ap (flat_map framed) (ap (frames_from_by length fs) high ∙ from-taken fs j longer le) in
+    let parts = ap (λ k. pos_by length (take k fs)) (sym whole) ∙ pos_parts fs i (j - i) in
+    let size : n ≡ pos_by length (take (j - i) gs) + 3 * (j - i) = omega (arith, is, at, to, parts) in
+    let few : j - i ≤ length gs = omega (arith, le, length-drop i fs) in
+    let cut = framed_all-drop gs (j - i) few in
+    let rest : drop n (framed_from v p) ≡ framed_from v q =
+    (λ k. drop (size k) (here k)) ∙ cut ∙ ap (flat_map framed) (drop-drop (j - i) i fs ∙ ap (λ k. drop k fs) whole) ∙ sym there in
+    let all = ap (pos_by length) (take_all (length gs) gs (omega arith)) in
+    let inside = rising gs (j - i) (length gs) few in
+    (rest, omega (arith, ap length rest, length-drop n (framed_from v p), ap length here, length-framed_all gs, size, all, inside, few))
 
-pub walks : (v : Stored) (from count index position skip end n : ℕ) → AllByRecursion (λ f. 6 ≤ length f) (frames_of v) → Walks v from count index position skip → index < length (frames_of v)
-    → end ≡ floor_of v + pos_by length (take (suc index) (frames_of v)) → n ≡ 3 + (end - position) → n ≤ skip → position ≤ end → Walks v from count (index + 1) end (skip - n)
-walks v from count index position skip end n longer w lt to is fits le =
-    let next = framed_next v index position end n longer lt w.at to is in
+pub walks : (v : Stored) (from count index position skip j end n : ℕ) → AllByRecursion (λ f. 6 ≤ length f) (frames_of v) → Walks v from count index position skip → index ≤ j
+    → j ≤ length (frames_of v) → end ≡ floor_of v + pos_by length (take j (frames_of v)) → n ≡ (end - position) + 3 * (j - index) → n ≤ skip → position ≤ end
+    → Walks v from count j end (skip - n)
+walks v from count index position skip j end n longer w up lt to is fits le =
+    let next = framed_next v index j position end n longer up lt w.at to is in
     let left : (count - skip) + n ≡ count - (skip - n) = omega (arith, w.less) in
-    let more : suc index ≡ index + 1 = omega arith in
     record {
-      bound = omega arith;
-      at = to ∙ ap (λ k. floor_of v + pos_by length (take k (frames_of v))) more;
+      bound = lt;
+      at = to;
       later = omega (arith, w.later);
       less = omega (arith, w.less);
       rest = ap (λ k. drop k (framed_from v from)) (sym left) ∙ sym (drop-drop n (count - skip) (framed_from v from)) ∙ ap (drop n) w.rest ∙ next.0;
@@ -93,16 +84,16 @@ later_shorter v a p start le =
 
 -- a frame that is not wholly drawn: the starts after it are not reached
 pub not_reached : (v : Stored) (from count index position skip end n : ℕ) → AllByRecursion (λ f. 6 ≤ length f) (frames_of v) → Walks v from count index position skip → index < length (frames_of v)
-    → end ≡ floor_of v + pos_by length (take (suc index) (frames_of v)) → n ≡ 3 + (end - position) → skip < n
+    → end ≡ floor_of v + pos_by length (take (index + 1) (frames_of v)) → n ≡ 3 + (end - position) → skip < n
     → (p : ℕ) → IsStart v p → position < p → count + length (framed_from v p) < length (framed_from v from)
 not_reached v from count index position skip end n longer w lt to is drawn p start above =
     let fs = frames_of v in
-    let next = framed_next v index position end n longer lt w.at to is in
+    let next = framed_next v index (index + 1) position end n longer (omega arith) (omega arith) w.at to (omega (arith, is)) in
     let beyond : end ≤ p = elim (cases_lt index start.1.0) [
-      | inl more ↦ omega (arith, to, start.0, start.1.1, rising fs (suc index) start.1.0 (omega arith))
+      | inl more ↦ omega (arith, to, start.0, start.1.1, rising fs (index + 1) start.1.0 (omega arith))
       | inr less ↦ absurd (omega (arith, w.at, above, start.0, start.1.1, rising fs start.1.0 index less))
     ] in
-    let fewer = later_shorter v end p (omega (arith, to), (suc index, omega (arith, to))) beyond in
+    let fewer = later_shorter v end p (omega (arith, to), (index + 1, omega (arith, to))) beyond in
     let left = ap length w.rest in
     omega (arith, next.1, fewer, left, length-drop (count - skip) (framed_from v from), w.less, drawn)
 

@@ -1,4 +1,5 @@
 pub mod Held
 pub mod Stored
+pub mod Marked
 pub mod Storage
 pub mod Pinned

@@ -13,14 +13,16 @@
 //! starts at `first` of the crate `position` (the peer may still need it, and no more than `hold`
 //! bytes are held), and [`Replay::copy`] gives the readable frames as they go onto a stream, each
 //! after its length ([`held_of_made`]). No frame is forgotten sooner or later. The frames lie in a
-//! ring of bytes, and the positions where they end in another. A ring grows by a sixth, and where a
-//! quarter of it would do, the rest is given back. Only [`Replay::reserve`] takes memory.
+//! ring of bytes, and the positions where some of them start in another. A ring grows by a
+//! sixteenth, and where a quarter of it would do, the rest is given back. Only [`Replay::reserve`]
+//! takes memory.
 //!
 //! It leaves out which frames are resumable, how they are spelled, and whether a peer's position
 //! may be believed.
 #![tactic(auto)]
 
 mod laws;
+mod marks;
 mod passing;
 mod replay;
 mod rings;

@@ -34,8 +34,9 @@ pub fn pass_up_to(store: &mut Store, position: u64)
         held_in hold store.new ≡ from_acked (held_in hold store.old) position }
     ensures all { IsPassed store.old store.new }
 {
-    while store.is_oldest_past(position) {
-        store.pass_oldest();
+    let spot = store.find(position);
+    if spot.index > store.passed() {
+        store.pass_to(spot);
     }
 }
 

@@ -94,6 +94,7 @@ impl Replay {
         requires framed { bytes.now ≡ framed (drop 3 bytes.now) }
         requires spare { HasSpare self.old.spare (length (drop 3 bytes.now)) }
         requires shortest { 6 ≤ length (drop 3 bytes.now) }
+        requires longest { length (drop 3 bytes.now) < 2 ^ 24 }
         requires top { end_of self.old.held + length (drop 3 bytes.now) < 2 ^ 63 }
         ensures held { let all = with_newest self.old.held (drop 3 bytes.now) in
             self.new.held ≡ from_least all (end_of all - all.hold) }
@@ -164,7 +165,8 @@ impl Replay {
     }
 
     /// Whether a frame that can be read starts at the position, or the newest frame ended there. It
-    /// takes the time for a binary search among the frames.
+    /// takes the time to find the frame: a binary search among marks, and the lengths of fewer than 64
+    /// frames.
     pub fn readable(&self, position: u64) -> bool
         ensures { IsTrue result ↔ IsReadable self.now position }
     {
@@ -187,7 +189,7 @@ impl Replay {
     }
 
     /// Whether a held frame starts at the position, or the newest frame ended there. It takes the
-    /// time for a binary search among the frames.
+    /// time to find the frame, as [`Replay::readable`] does.
     pub fn is_boundary(&self, position: u64) -> bool
         ensures { IsTrue result ↔ IsHeldBoundary self.now.held position }
     {
@@ -215,7 +217,7 @@ impl Replay {
 
     /// Writes as many bytes as fit of the frames from a readable boundary on, each after its length
     /// field, without the first `skip` of these bytes. Answers how many were written. It takes the
-    /// time to copy them and for a binary search among the frames.
+    /// time to copy them and to find the frame, as [`Replay::readable`] does.
     pub fn copy(&self, from: u64, skip: u64, buffer: &mut [u8]) -> usize
         requires boundary { CanReadFrom self.now from }
         requires within { skip ≤ length (framed_from (readable self.now) from) }
@@ -228,8 +230,8 @@ impl Replay {
     }
 
     /// The last readable boundary that the first `count` framed bytes from a readable boundary on
-    /// reach, and how many of them lie after it. It takes the time for a binary search among the
-    /// frames, and a constant for each frame between the two.
+    /// reach, and how many of them lie after it. It takes the time to find the two frames, as
+    /// [`Replay::readable`] does, and a constant for every 64 frames between them.
     pub fn place_after(&self, from: u64, count: u64) -> Place
         requires boundary { CanReadFrom self.now from }
         requires within { count ≤ length (framed_from (readable self.now) from) }

@@ -1,6 +1,7 @@
 //! Rings: how they grow, and what is read of them.
 
-ghost use Rattle.std.specs.Prelude.{◌≡◌, ◌+◌, ◌-◌, ◌<◌, ◌≤◌, ◌++◌, ◌∷◌, [], ◌^◌, ℕ, OnErr, OnOk, drop, length, max, min, slice_index, take};
+ghost use Rattle.std.specs.Prelude.{◌≡◌, ◌+◌, ◌-◌, ◌*◌, ◌<◌, ◌≤◌, ◌++◌, ◌∷◌, [], ◌^◌, ℕ, OnErr, OnOk, drop, length, max, min, slice_index, take};
+ghost use Rattle.byteorder.specs.Endian.{big_number};
 ghost use Rattle.rs_frame.specs.Framed.{framed};
 
 use byteorder::{BigEndian, ByteOrder};
@@ -8,12 +9,18 @@ use circular_buffer::HeapCircularBuffer;
 use rs_frame::Pieces;
 use rs_wire::OutOfMemory;
 
-/// The capacity of a ring that is to have room for so many items: a sixth more, so that a ring that
-/// grows moves each item some seven times in all, and some at least.
+/// The fewest bytes that a ring has room for beyond what is wanted, where it grows.
+const SOME_BYTES: usize = 4_096;
+
+/// A ring grows by this part of what is wanted: what it has room for beyond that is at most a
+/// sixteenth, and each item is moved some sixteen times while the ring grows, once in its life.
+const PART: usize = 16;
+
+/// The capacity of a ring that is to have room for so many items: a part more, and some at least.
 fn grown(wanted: usize, least: usize) -> usize
     ensures { wanted ≤ result }
 {
-    wanted.saturating_add((wanted / 6).max(least))
+    wanted.saturating_add((wanted / PART).max(least))
 }
 
 /// Moves the items to a block of another capacity, which has to hold them.
@@ -53,6 +60,31 @@ pub fn make_room<T: Copy + Drop>(
         let _moved = move_over(ring, grown(wanted, least));
     }
     Ok(())
+}
+
+/// Makes room for the frames to come, of so many bytes in sum, each after its length. Where there is
+/// room, and not far more, it is left as it is.
+pub fn make_room_framed(
+    ring: &mut HeapCircularBuffer<u8>,
+    frames: usize,
+    bytes: usize,
+) -> Result<(), OutOfMemory>
+    ensures items { ring.new.items ≡ ring.old.items }
+    ensures room { OnOk result
+        (length ring.new.items + (bytes + 3 * frames) ≤ ring.new.capacity) }
+    ensures err { OnErr result (ring.new ≡ ring.old) }
+{
+    let capacity = ring.capacity();
+    let free = capacity - ring.len();
+    // Half of what is free, and 3 bytes for each eighth of it, are less than all of it.
+    if bytes <= free / 2 && frames <= free / 8 && capacity / 4 <= ring.len() + SOME_BYTES {
+        return Ok(());
+    }
+    let framed = frames
+        .checked_mul(3)
+        .and_then(|lengths| lengths.checked_add(bytes))
+        .ok_or(OutOfMemory)?;
+    make_room(ring, framed, SOME_BYTES)
 }
 
 /// How many of the positions, none of which is below the one before, are at most `position`.
@@ -141,6 +173,28 @@ pub fn at(positions: &HeapCircularBuffer<u64>, index: usize) -> u64
     ensures { result ≡ slice_index positions.now.items index }
 {
     positions.get(index).copied().unwrap_or(0)
+}
+
+// The byte at the index.
+fn byte_at(bytes: &HeapCircularBuffer<u8>, index: usize) -> usize
+    requires { index < length bytes.now.items }
+    ensures value { result ≡ slice_index bytes.now.items index }
+    ensures bound { result < 256 }
+{
+    usize::from(bytes.get(index).copied().unwrap_or(0))
+}
+
+/// The 24-bit number at the index.
+pub fn number_at(bytes: &HeapCircularBuffer<u8>, index: usize) -> usize
+    requires within { index + 3 ≤ length bytes.now.items }
+    requires top { index + 3 < 2 ^ 64 }
+    ensures value { result ≡ big_number 3 (drop index bytes.now.items) }
+    ensures bound { result < 2 ^ 24 }
+{
+    let high = byte_at(bytes, index);
+    let middle = byte_at(bytes, index + 1);
+    let low = byte_at(bytes, index + 2);
+    high * 65_536 + middle * 256 + low
 }
 
 // Writes as many of both as fit to the beginning of the buffer, and answers how many.

@@ -3,24 +3,18 @@
 ghost use Rattle.std.specs.Prelude.{◌≡◌, ◌+◌, ◌-◌, ◌<◌, ◌^◌, ◌≤◌, ◌↔◌, ◌++◌, [], ◌∷◌, length, take, drop, min, IsTrue, OnOk, OnErr, IfOk, ℕ};
 ghost use Rattle.std.specs.List.{flat_map};
 ghost use Rattle.rs_frame.specs.Framed.{framed};
-ghost use Rattle.position.specs.Boundaries.{pos_by};
+ghost use Rattle.position.specs.Boundaries.{frames_from_by, pos_by};
 ghost use Rattle.replay_buffer.specs.Held.{HasSpare, spare_after, spare_for};
-ghost use Rattle.replay_buffer.specs.Stored.{IsStart, IsOldestUpTo, IsTrimmed, end_of, first_after, floor_of, frames_of, framed_from, held_from, nothing_stored};
+ghost use Rattle.replay_buffer.specs.Marked.{IsAt};
+ghost use Rattle.replay_buffer.specs.Stored.{IsStart, IsTrimmed, end_of, first_after, floor_of, frames_of, framed_from, held_from, nothing_stored};
 
-use crate::rings::{
-    at, copy_after, count_up_to, drop_front, make_room, push, put_framed, put_pieces,
-};
+use crate::marks::{Marks, Spot};
+use crate::rings::{copy_after, drop_front, make_room_framed, number_at, put_framed, put_pieces};
 use circular_buffer::HeapCircularBuffer;
 use rs_frame::Pieces;
 use rs_wire::OutOfMemory;
 use std::alloc::Global;
 use std::marker::Model;
-
-/// The fewest bytes that a ring has room for beyond what is wanted, where it grows.
-const SOME_BYTES: usize = 4_096;
-
-/// The same of positions.
-const SOME_ENDS: usize = 64;
 
 /// A place in the framed bytes: so many bytes after a boundary.
 #[derive(Debug, Clone, Copy)]
@@ -37,8 +31,8 @@ pub struct Place {
 pub struct Store {
     // The frames, each after its 24-bit length.
     bytes: HeapCircularBuffer<u8>,
-    // The position where each frame ends, the oldest first.
-    ends: HeapCircularBuffer<u64>,
+    // How many frames these are, and where some of them start.
+    marks: Marks,
     // The position where the oldest frame starts.
     floor: u64,
     // How many of the frames are held no longer, and the position where the others start.
@@ -70,7 +64,7 @@ impl Store {
     {
         Ok(Store {
             bytes: HeapCircularBuffer::with_capacity(alloc, 0)?,
-            ends: HeapCircularBuffer::with_capacity(alloc, 0)?,
+            marks: Marks::new(alloc)?,
             floor: 0,
             passed: 0,
             first: 0,
@@ -89,12 +83,8 @@ impl Store {
     {
         let frames = frames.max(self.spare_frames);
         let bytes = bytes.max(self.spare_bytes);
-        let framed = frames
-            .checked_mul(3)
-            .and_then(|lengths| lengths.checked_add(bytes))
-            .ok_or(OutOfMemory)?;
-        make_room(&mut self.ends, frames, SOME_ENDS)?;
-        make_room(&mut self.bytes, framed, SOME_BYTES)?;
+        self.marks.reserve(frames)?;
+        make_room_framed(&mut self.bytes, frames, bytes)?;
         self.spare_frames = frames;
         self.spare_bytes = bytes;
         Ok(())
@@ -137,8 +127,8 @@ impl Store {
         } }
     {
         put_framed(&mut self.bytes, frame);
+        self.marks.append(self.end);
         self.end += frame.len() as u64;
-        push(&mut self.ends, self.end);
         self.spare_frames -= 1;
         self.spare_bytes -= frame.len();
     }
@@ -148,6 +138,7 @@ impl Store {
         requires framed { bytes.now ≡ framed (drop 3 bytes.now) }
         requires spare { HasSpare self.old.spare (length (drop 3 bytes.now)) }
         requires shortest { 6 ≤ length (drop 3 bytes.now) }
+        requires longest { length (drop 3 bytes.now) < 2 ^ 24 }
         requires top { end_of self.old + length (drop 3 bytes.now) < 2 ^ 63 }
         ensures { self.new ≡ record self.old {
           held = self.old.held ++ drop 3 bytes.now ∷ [];
@@ -156,17 +147,29 @@ impl Store {
     {
         put_pieces(&mut self.bytes, bytes);
         let count = bytes.len() - 3;
+        self.marks.append(self.end);
         self.end += count as u64;
-        push(&mut self.ends, self.end);
         self.spare_frames -= 1;
         self.spare_bytes -= count;
     }
 
-    /// Whether a frame is held and the oldest such ends at or before the position.
-    pub fn is_oldest_past(&self, position: u64) -> bool
-        ensures { IsTrue result ↔ IsOldestUpTo self.now position }
+    /// How many frames are held no longer.
+    pub fn passed(&self) -> usize
+        ensures value { result ≡ length self.now.below }
+        ensures within { pos_by length self.now.below ≤ self.now.first }
     {
-        self.passed < self.ends.len() && at(&self.ends, self.passed) <= position
+        self.passed
+    }
+
+    // The position where the frame ends that starts at a place.
+    fn end_after(&self, spot: Spot) -> u64
+        requires at { IsAt (floor_of self.now) (frames_of self.now) spot }
+        requires some { spot.index < length (frames_of self.now) }
+        ensures { result ≡ floor_of self.now +
+            pos_by length (take (spot.index + 1) (frames_of self.now)) }
+    {
+        let before = (spot.position - self.floor) as usize + 3 * spot.index;
+        spot.position + number_at(&self.bytes, before) as u64
     }
 
     /// Holds the oldest frame no longer. It can still be read.
@@ -179,8 +182,30 @@ impl Store {
         } }
         ensures rises { self.old.first < self.new.first }
     {
-        self.first = at(&self.ends, self.passed);
+        let oldest = Spot {
+            index: self.passed,
+            position: self.first,
+        };
+        self.first = self.end_after(oldest);
         self.passed += 1;
+    }
+
+    /// Holds the frames no longer that lie before a place. They can still be read.
+    pub fn pass_to(&mut self, spot: Spot)
+        requires at { IsAt (floor_of self.old) (frames_of self.old) spot }
+        requires later { length self.old.below ≤ spot.index }
+        ensures passed { self.new ≡ record self.old {
+          first = spot.position;
+          below = self.old.below ++ take (spot.index - length self.old.below) self.old.held;
+          held = drop (spot.index - length self.old.below) self.old.held;
+        } }
+        ensures first { self.new.first ≡ self.old.first +
+            pos_by length (take (spot.index - length self.old.below) self.old.held) }
+        ensures rest { self.new.held ≡
+            frames_from_by length self.old.held (self.new.first - self.old.first) }
+    {
+        self.passed = spot.index;
+        self.first = spot.position;
     }
 
     /// Forgets the oldest frame, which is held no longer.
@@ -189,10 +214,10 @@ impl Store {
         ensures forgotten { self.new ≡ record self.old { below = drop 1 self.old.below } }
         ensures rises { floor_of self.old < floor_of self.new }
     {
-        let end = at(&self.ends, 0);
-        drop_front(&mut self.ends, 1);
-        drop_front(&mut self.bytes, 3 + (end - self.floor) as usize);
-        self.floor = end;
+        let count = number_at(&self.bytes, 0);
+        self.marks.drop_front(1);
+        drop_front(&mut self.bytes, 3 + count);
+        self.floor += count as u64;
         self.passed -= 1;
     }
 
@@ -202,38 +227,82 @@ impl Store {
     {
         let size = (self.first - self.floor) as usize + 3 * self.passed;
         drop_front(&mut self.bytes, size);
-        drop_front(&mut self.ends, self.passed);
+        self.marks.drop_front(self.passed);
         self.floor = self.first;
         self.passed = 0;
     }
 
-    // How many of the frames end at or before the position. Where a frame starts there, it is the
-    // next one.
-    fn count_up_to(&self, position: u64) -> usize
-        ensures bound { result ≤ length (frames_of self.now) }
-        ensures start { IsStart self.now position →
-            position ≡ floor_of self.now + pos_by length (take result (frames_of self.now)) }
+    // The last frame after a place that starts at or before the position, or the place.
+    fn walk(&self, from: Spot, position: u64) -> Spot
+        requires at { IsAt (floor_of self.now) (frames_of self.now) from }
+        requires low { from.position ≤ position }
+        ensures at { IsAt (floor_of self.now) (frames_of self.now) result }
+        ensures low { result.position ≤ position }
+        ensures next { (k : ℕ) → result.index < k → k ≤ length (frames_of self.now) →
+            position < floor_of self.now + pos_by length (take k (frames_of self.now)) }
     {
-        count_up_to(&self.ends, position)
-    }
-
-    // The position where the frame at the index starts, or where the newest one ended.
-    fn start_of(&self, index: usize) -> u64
-        requires { index ≤ length (frames_of self.now) }
-        ensures { result ≡ floor_of self.now + pos_by length (take index (frames_of self.now)) }
-    {
-        if index == 0 {
-            return self.floor;
+        let mut spot = from;
+        while spot.index < self.marks.frames() {
+            let end = self.end_after(spot);
+            if end > position {
+                break;
+            }
+            spot = Spot {
+                index: spot.index + 1,
+                position: end,
+            };
         }
-        at(&self.ends, index - 1)
+        spot
     }
 
-    /// Whether a frame starts at the position, or the newest one ended there. It takes the time for a
-    /// binary search among the frames.
+    // A frame that starts at or before the position, less than a mark's distance from it: one with a
+    // mark, or the oldest held one. From this one on few frames are passed at a time.
+    fn nearest(&self, position: u64) -> Spot
+        requires { floor_of self.now ≤ position }
+        ensures at { IsAt (floor_of self.now) (frames_of self.now) result }
+        ensures low { result.position ≤ position }
+    {
+        let marked = self.marks.before(self.floor, position);
+        if marked.position < self.first && self.first <= position {
+            return Spot {
+                index: self.passed,
+                position: self.first,
+            };
+        }
+        marked
+    }
+
+    /// The last frame that starts at or before the position, and the first one where none does; where
+    /// the newest one ended at or before it, the place after that one. It takes the time for a binary
+    /// search among the marks, and for a walk from one mark to the next.
+    pub fn find(&self, position: u64) -> Spot
+        ensures at { IsAt (floor_of self.now) (frames_of self.now) result }
+        ensures low { 0 < result.index → result.position ≤ position }
+        ensures next { (k : ℕ) → result.index < k → k ≤ length (frames_of self.now) →
+            position < floor_of self.now + pos_by length (take k (frames_of self.now)) }
+        ensures start { IsStart self.now position → result.position ≡ position }
+    {
+        if position >= self.end {
+            return Spot {
+                index: self.marks.frames(),
+                position: self.end,
+            };
+        }
+        if position <= self.floor {
+            return Spot {
+                index: 0,
+                position: self.floor,
+            };
+        }
+        self.walk(self.nearest(position), position)
+    }
+
+    /// Whether a frame starts at the position, or the newest one ended there. It takes the time of
+    /// [`Store::find`].
     pub fn is_start(&self, position: u64) -> bool
         ensures { IsTrue result ↔ IsStart self.now position }
     {
-        self.start_of(self.count_up_to(position)) == position
+        self.find(position).position == position
     }
 
     // How many framed bytes lie before a start of a frame.
@@ -243,7 +312,7 @@ impl Store {
             framed_from self.now from }
         ensures within { result ≤ length (flat_map framed (frames_of self.now)) }
     {
-        (from - self.floor) as usize + 3 * self.count_up_to(from)
+        (from - self.floor) as usize + 3 * self.find(from).index
     }
 
     /// How many bytes the frames from one on have, each after its length field.
@@ -292,19 +361,31 @@ impl Store {
         ensures last { (p : ℕ) → IsStart self.now p → result.position < p →
             count + length (framed_from self.now p) < length (framed_from self.now from) }
     {
-        let mut index = self.count_up_to(from);
-        let mut position = from;
+        let mut spot = self.find(from);
         let mut skip = count;
-        while index < self.ends.len() {
-            let end = at(&self.ends, index);
-            let framed = 3 + (end - position);
-            if skip < framed {
-                return Place { position, skip };
+        while let Some(next) = self.marks.after(spot.index) {
+            let framed = (next.position - spot.position) + 3 * (next.index - spot.index) as u64;
+            if framed > skip {
+                break;
             }
-            position = end;
             skip -= framed;
-            index += 1;
+            spot = next;
         }
-        Place { position, skip }
+        while spot.index < self.marks.frames() {
+            let end = self.end_after(spot);
+            let framed = 3 + (end - spot.position);
+            if skip < framed {
+                break;
+            }
+            skip -= framed;
+            spot = Spot {
+                index: spot.index + 1,
+                position: end,
+            };
+        }
+        Place {
+            position: spot.position,
+            skip,
+        }
     }
 }

@@ -1,42 +1,54 @@
-use Rattle.std.proofs.Common.{ℕ, ◌+◌, length, refl, ap, ◌∷◌, [], ◌∙◌, take, drop, arith}
+use Rattle.std.proofs.Common.{ℕ, ◌≡◌, ◌+◌, ◌-◌, length, refl, sym, ap, subst, ◌∷◌, [], ◌++◌, ◌∙◌, take, drop, arith}
 use Rattle.std.proofs.lemmas.List.{length-append, take-append-le, drop-append-le}
 use Rattle.position.specs.Boundaries.{pos_by}
 use Rattle.position.proofs.Boundaries.{pos-push}
 use Rattle.circular_buffer.specs.Buffer.{Buffer}
 use Rattle.rs_frame.specs.Framed.{framed}
+use Rattle.replay_buffer.specs.Marked.{IsMarked}
 use Rattle.replay_buffer.specs.Stored.{Stored, end_of}
 use Rattle.replay_buffer.specs.Storage.{all_of}
+use Rattle.replay_buffer.proofs.Known.{known}
 use Rattle.replay_buffer.proofs.Shown.{shows, same_stored}
-use Rattle.replay_buffer.proofs.Stored.{Stores-append, length-framed}
+use Rattle.replay_buffer.proofs.Stored.{Reads, Stores-append, length-framed}
 use Rattle.replay_buffer.proofs.store.Store.append.Goals as goal
+
+pub append-requires-clause-counts : goal.append-requires-clause-counts
+append-requires-clause-counts c = (known _ _ c.self.invariant c.self.view_is).counts
+
+all : (c : goal.After-self-3-1) → Reads c.append.new.self.frames c.put_framed.new.bytes.items (all_of c.self.inside ++ c.args.frame.now ∷ [])
+all c =
+    let r = c.self.inside in
+    let s = c.self.invariant in
+    let many : c.append.new.self.frames ≡ length (all_of r) + 1 = omega (arith, c.append.ensures.count, s.marked.count) in
+    Stores-append _ _ _ (all_of r) c.args.frame.now s.stored many (ap (λ (b : Buffer ℕ). b.items) c.put_framed.ensures) c.requires.shortest c.requires.longest
 
 pub invariant_of-self : goal.invariant_of-self
 invariant_of-self c =
     let r = c.self.inside in
     let s = c.self.invariant in
+    let frame = c.args.frame.now in
     let bytes = ap (λ (b : Buffer ℕ). b.items) c.put_framed.ensures in
-    let ends = ap (λ (b : Buffer ℕ). b.items) c.push.ensures in
-    let all = Stores-append _ _ _ _ _ _ _ _ s.stored bytes ends c.requires.shortest s.end in
-    let more = ap length all.same ∙ length-append (all_of r) (c.args.frame.now ∷ []) in
+    let reads = all c in
+    let more = ap length reads.same ∙ length-append (all_of r) (frame ∷ []) in
     let few = ap (λ (v : Stored). v.spare.frames) c.self.view_is in
     let some = ap (λ (v : Stored). v.spare.bytes) c.self.view_is in
     record {
-      stored = all.stored;
-      end = omega (arith, ap (pos_by length) all.same, s.end, pos-push length (all_of r) c.args.frame.now);
+      stored = reads.stored;
+      marked = subst (λ l. IsMarked r.floor l c.append.new.self) (sym reads.same) (c.append.ensures.marked r.floor (all_of r) frame s.marked s.end);
+      end = omega (arith, ap (pos_by length) reads.same, s.end, pos-push length (all_of r) frame);
       top = omega (arith, (shows r s).end, ap end_of c.self.view_is, c.requires.top);
       passed = omega (arith, more, s.passed);
-      first = omega (arith, s.first, ap (λ fs. pos_by length (take r.passed fs)) all.same, ap (pos_by length) (take-append-le r.passed (all_of r) (c.args.frame.now ∷ []) s.passed));
-      spare_of_bytes = omega (arith, s.spare_of_bytes, ap length bytes ∙ length-append r.bytes.items (framed c.args.frame.now), length-framed c.args.frame.now, ap (λ (b : Buffer ℕ). b.capacity) c.put_framed.ensures, few, some, c.requires.spare.0, c.requires.spare.1);
-      spare_of_frames = omega (arith, s.spare_of_frames, ap length ends ∙ length-append r.ends.items ((r.end + length c.args.frame.now) ∷ []), ap (λ (b : Buffer ℕ). b.capacity) c.push.ensures, few, c.requires.spare.0);
+      first = omega (arith, s.first, ap (λ fs. pos_by length (take r.passed fs)) reads.same, ap (pos_by length) (take-append-le r.passed (all_of r) (frame ∷ []) s.passed));
+      spare_of_bytes = omega (arith, s.spare_of_bytes, ap length bytes ∙ length-append r.bytes.items (framed frame), length-framed frame, ap (λ (b : Buffer ℕ). b.capacity) c.put_framed.ensures, few, some, c.requires.spare.0, c.requires.spare.1);
+      spare_of_frames = c.append.ensures.room (r.spare_frames - 1) (omega (arith, s.spare_of_frames, few, c.requires.spare.0));
     }
 
 pub returns : goal.returns
 returns c =
     let r = c.self.inside in
     let s = c.self.invariant in
-    let bytes = ap (λ (b : Buffer ℕ). b.items) c.put_framed.ensures in
-    let ends = ap (λ (b : Buffer ℕ). b.items) c.push.ensures in
-    let all = Stores-append _ _ _ _ _ _ _ _ s.stored bytes ends c.requires.shortest s.end in
-    let below = ap (take r.passed) all.same ∙ take-append-le r.passed (all_of r) (c.args.frame.now ∷ []) s.passed in
-    let held = ap (drop r.passed) all.same ∙ drop-append-le r.passed (all_of r) (c.args.frame.now ∷ []) s.passed in
+    let frame = c.args.frame.now in
+    let reads = all c in
+    let below = ap (take r.passed) reads.same ∙ take-append-le r.passed (all_of r) (frame ∷ []) s.passed in
+    let held = ap (drop r.passed) reads.same ∙ drop-append-le r.passed (all_of r) (frame ∷ []) s.passed in
     rw (← c.self.view_is) (same_stored _ _ refl below held refl)

@@ -13,7 +13,7 @@ overflow_add-before c =
     let k = known _ _ c.self.invariant c.self.view_is in
     let before = c.bytes_before-before.result in
     let all = flat_map framed (frames_of v) in
-    omega (arith, k.top, k.ends.few, k.ends.many, length-framed_all (frames_of v), c.bytes_before-before.ensures.within, c.requires.within, ap length c.bytes_before-before.ensures.rest, length-drop before all)
+    omega (arith, k.top, k.few, length-framed_all (frames_of v), c.bytes_before-before.ensures.within, c.requires.within, ap length c.bytes_before-before.ensures.rest, length-drop before all)
 
 pub returns-clause-written : goal.returns-clause-written
 returns-clause-written c =

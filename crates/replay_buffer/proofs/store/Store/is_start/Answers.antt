@@ -4,7 +4,8 @@ use Rattle.replay_buffer.proofs.store.Store.is_start.Goals as goal
 
 pub returns : goal.returns
 returns c =
-    let n = c.count_up_to.result in (
-      λ yes. let is : c.start_of.result ≡ c.args.position = grind (arith, nat_tests) in (omega (arith, c.start_of.ensures), (n, omega (arith, c.start_of.ensures))),
-      λ start. eq-eqb c.start_of.result c.args.position (omega (arith, c.start_of.ensures, c.count_up_to.ensures.start start)),
+    let s = c.find.result in
+    let at = c.find.ensures.at in (
+      λ yes. let is : s.position ≡ c.args.position = grind (arith, nat_tests) in (omega (arith, at.start, is), (s.index, omega (arith, at.start, is))),
+      λ start. eq-eqb s.position c.args.position (c.find.ensures.start start),
     )
