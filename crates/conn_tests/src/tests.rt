@@ -7,6 +7,7 @@ mod calls;
 mod ends;
 mod joins;
 mod locks;
+mod made;
 mod refusals;
 mod ringing;
 mod streams;

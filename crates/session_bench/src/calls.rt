@@ -79,7 +79,7 @@ fn call_often<R: Wait>(
 fn time_steps<R: Clock>(rt: &R, alloc: Global, call: &Call, times: u32) -> Result<Timed>
     requires { CanBeAsked call.now }
 {
-    let mut session = new_session(alloc, Side::Client)?;
+    let mut session = new_session(alloc, Side::Client, false)?;
     open_alone(&mut session);
     let start = now(rt);
     ask_often(&mut session, call, times);
@@ -93,7 +93,7 @@ fn time_steps<R: Clock>(rt: &R, alloc: Global, call: &Call, times: u32) -> Resul
 fn time_calls<R: Wait + Clock>(rt: &R, alloc: Global, call: &Call, times: u32) -> Result<Timed>
     requires { CanBeAsked call.now }
 {
-    let (connection, mut caller) = new_connection(alloc, Side::Client)?;
+    let (connection, mut caller) = new_connection(alloc, Side::Client, false)?;
     open_shared(rt, &connection, &mut caller);
     let start = now(rt);
     let caller = call_often(rt, &connection, caller, call, times);

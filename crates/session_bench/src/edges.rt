@@ -9,7 +9,9 @@ mod idle;
 mod items;
 mod pings;
 mod sockets;
+mod talks;
 
+use crate::edges::talks::{Talk, cross};
 use anyhow::Result;
 use std::alloc::Global;
 use std::io::Print;
@@ -64,8 +66,8 @@ where
         + 'static,
 {
     let length = if is_timed { TIMED } else { SHORT };
-    let item = items::cross(&rt, alloc, length.items)?;
-    let ping = pings::cross(&rt, alloc, length.pings)?;
+    let item = cross(&rt, alloc, Talk::Items, length.items)?;
+    let ping = cross(&rt, alloc, Talk::Pings, length.pings)?;
     let idle = idle::wait(rt, alloc, length.links, length.millis)?;
     if is_timed {
         println!(rt; "items {} nanos {item}", length.items)?;

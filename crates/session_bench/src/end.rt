@@ -2,7 +2,6 @@
 
 ghost use Rattle.std.specs.Prelude.{◌≡◌, ◌<◌, ◌^◌, IfOk, length};
 ghost use Rattle.rs_wire.specs.Calls.{CanBeAsked};
-ghost use Rattle.rs_wire.specs.Settings.{usual};
 ghost use Rattle.rs_wire.specs.declared.words.Side.TheVariants.{Client, Server};
 ghost use Rattle.conn_lock.specs.Callers.{all_parts};
 ghost use Rattle.session_model.specs.Legal.{CanBring};
@@ -81,12 +80,18 @@ fn pump_for(alloc: Global, max_in: u32, bytes: &[u8]) -> Result<Pump>
     }
 }
 
+// A clock that stands still.
+fn still(alloc: Global) -> Result<MemClock> {
+    let moments = vec![in alloc; 0u64; 1]?;
+    Ok(MemClock::new(moments))
+}
+
 // A session that is not begun, to whose connection these bytes came.
-fn unbegun(alloc: Global, side: Side, bytes: &[u8]) -> Result<Unlinked>
-    ensures { IfOk result (λ end. end.connection.settings ≡ usual side) }
+fn unbegun(alloc: Global, side: Side, resumes: bool, bytes: &[u8]) -> Result<Unlinked>
+    ensures { IfOk result (λ end. end.connection.settings.side ≡ side) }
 {
-    let clock = MemClock::new(vec![in alloc; 0u64; 1]?);
-    let (connection, caller) = new_connection(alloc, side)?;
+    let clock = still(alloc)?;
+    let (connection, caller) = new_connection(alloc, side, resumes)?;
     match pump_for(alloc, connection.max_in(), bytes) {
         Ok(pump) => Ok(Unlinked {
             connection,
@@ -100,16 +105,6 @@ fn unbegun(alloc: Global, side: Side, bytes: &[u8]) -> Result<Unlinked>
             Err(error)
         }
     }
-}
-
-// A server is opened by the frame of these bytes.
-fn opening(alloc: Global, setup: &[u8]) -> Result<Event>
-    requires few { length setup.now < 2 ^ 24 }
-    ensures fair { IfOk result (λ e. CanBring (usual Server) e) }
-    ensures no_draw { IfOk result (λ e. IsNoDrawEvent e) }
-{
-    let frame = decode(alloc, setup)?;
-    Ok(Event::opened_by(frame))
 }
 
 // The end, where it opened.
@@ -145,24 +140,25 @@ impl Unlinked {
 
     // Opens that of a server by the frame of these bytes.
     fn open_by<R: Wait>(&mut self, rt: &R, alloc: Global, setup: &[u8]) -> Result<()>
-        requires settings { self.old.connection.settings ≡ usual Server }
+        requires side { self.old.connection.settings.side ≡ Server }
         requires few { length setup.now < 2 ^ 24 }
     {
-        let event = opening(alloc, setup)?;
-        self.open(rt, event)
+        let frame = decode(alloc, setup)?;
+        self.open(rt, Event::opened_by(frame))
     }
 
-    /// A client, whose SETUP is due.
-    pub fn client<R: Wait>(rt: &R, alloc: Global) -> Result<Unlinked> {
-        let mut end = unbegun(alloc, Side::Client, &[])?;
+    /// A client, whose SETUP is due, and asks for resumption or not.
+    pub fn client<R: Wait>(rt: &R, alloc: Global, resumes: bool) -> Result<Unlinked> {
+        let mut end = unbegun(alloc, Side::Client, resumes, &[])?;
         let begun = end.ask_to_open(rt);
         opened(end, begun)
     }
 
-    /// A server, which the first frame of these bytes opens; the others come next.
-    pub fn server<R: Wait>(rt: &R, alloc: Global, bytes: &[u8]) -> Result<Unlinked> {
+    /// A server, which the first frame of these bytes opens; the others come next. It agrees to
+    /// resumption or not.
+    pub fn server<R: Wait>(rt: &R, alloc: Global, resumes: bool, bytes: &[u8]) -> Result<Unlinked> {
         let (setup, rest) = split_frame(bytes).context("no SETUP")?;
-        let mut end = unbegun(alloc, Side::Server, rest)?;
+        let mut end = unbegun(alloc, Side::Server, resumes, rest)?;
         let begun = end.open_by(rt, alloc, setup);
         opened(end, begun)
     }

@@ -22,8 +22,10 @@ const SMALL: &[u8] = b"an item of bytes";
 /// An item of 1 KiB.
 const LARGE: &[u8] = &[0x5a; 1_024];
 
-/// What crosses, its items, how many at once, and how many rounds are 300 items.
-const ROWS: [(Shape, &[u8], u32, u32); 8] = [
+/// What crosses: the shape, an item, how many cross at once, and how many rounds are 300 items.
+type Row = (Shape, &'static [u8], u32, u32);
+
+const ROWS: &[Row] = &[
     (Shape::Response, SMALL, 1, 300),
     (Shape::Response, SMALL, 100, 3),
     (Shape::Response, LARGE, 1, 300),
@@ -34,11 +36,21 @@ const ROWS: [(Shape, &[u8], u32, u32); 8] = [
     (Shape::Stream, LARGE, 15, 20),
 ];
 
+/// How many times 300 items cross.
+const SHORT: &[u32] = &[1, 2];
+
+/// The same where it is timed.
+const TIMED: &[u32] = &[50, 500];
+
+/// The sessions of each row: those that hold no frames, and those that do, for a resumption.
+const RESUMES: &[bool] = &[false, true];
+
 // Prints what crossed, and where it was timed how long an item took.
 fn tell(rt: &impl Print, run: Run, took: Took, is_timed: bool) -> io::Result<()> {
     let items = run.rounds.saturating_mul(run.batch);
+    let held = if run.resumes { " held" } else { "" };
     print!(rt;
-        "{:?} bytes {} batch {} items {items}",
+        "{:?} bytes {} batch {} items {items}{held}",
         run.shape,
         run.item.len(),
         run.batch
@@ -54,19 +66,36 @@ fn tell(rt: &impl Print, run: Run, took: Took, is_timed: bool) -> io::Result<()>
     println!(rt; "")
 }
 
-/// Times what crosses, or else lets a little cross.
+// Lets the items of a row cross, so many times 300, and tells of it.
+fn cross_row<R: Clock + Wait + Print>(
+    rt: &R,
+    alloc: Global,
+    row: Row,
+    times: u32,
+    resumes: bool,
+    is_timed: bool,
+) -> Result<()> {
+    let (shape, item, batch, rounds) = row;
+    let run = Run {
+        shape,
+        item,
+        batch,
+        rounds: rounds.saturating_mul(times),
+        resumes,
+    };
+    let took = cross(rt, alloc, run)?;
+    Ok(tell(rt, run, took, is_timed)?)
+}
+
+/// Times what crosses, or else lets a little cross. Each row is once without resumption and then once
+/// with it, so that a machine that changes its speed changes it for both.
 pub fn run<R: Clock + Wait + Print>(rt: &R, alloc: Global, is_timed: bool) -> Result<()> {
-    let lengths: [u32; 2] = if is_timed { [50, 500] } else { [1, 2] };
-    for length in lengths {
-        for (shape, item, batch, rounds) in ROWS {
-            let run = Run {
-                shape,
-                item,
-                batch,
-                rounds: rounds.saturating_mul(length),
-            };
-            let took = cross(rt, alloc, run)?;
-            tell(rt, run, took, is_timed)?;
+    let lengths = if is_timed { TIMED } else { SHORT };
+    for times in lengths {
+        for row in ROWS {
+            for resumes in RESUMES {
+                cross_row(rt, alloc, *row, *times, *resumes, is_timed)?;
+            }
         }
     }
     Ok(())

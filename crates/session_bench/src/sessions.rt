@@ -1,21 +1,36 @@
-//! New sessions and connections, with the defaults of their side.
+//! New sessions and connections, with the defaults of their side, or with those and resumption.
 
 ghost use Rattle.std.specs.Prelude.{◌≡◌, IfOk, []};
-ghost use Rattle.rs_wire.specs.Settings.{usual};
 ghost use Rattle.conn_lock.specs.Callers.{all_parts};
 
 use anyhow::Result;
 use conn::{Caller, Connection};
-use rs_wire::{Checked, Settings, Side, check};
+use rs_wire::{Blob, Checked, Settings, Side, check};
 use session_core::Session;
 use std::alloc::Global;
 use tape::{Blank, Tape};
 
-// The defaults of a side.
-fn defaults(alloc: Global, side: Side) -> Result<Checked>
-    ensures { IfOk result (λ s. s ≡ usual side) }
+/// The token by which a session is resumed.
+const TOKEN: &[u8] = b"tok1";
+
+// The token of a side: a client's, where it agrees to resumption. It stands in SETUP, and a server has
+// none of its own.
+fn token(side: Side, resumes: bool) -> &'static [u8] {
+    match side {
+        Side::Client if resumes => TOKEN,
+        _ => &[],
+    }
+}
+
+// The defaults of a side, which agrees to resumption or not.
+fn settings(alloc: Global, side: Side, resumes: bool) -> Result<Checked>
+    ensures { IfOk result (λ s. s.side ≡ side) }
 {
-    match check(Settings::usual(alloc, side)?) {
+    let token = Blob::from_slice(alloc, token(side, resumes))?;
+    let mut settings = Settings::usual(alloc, side)?;
+    settings.resume = resumes;
+    settings.token = token;
+    match check(settings) {
         Ok(settings) => Ok(settings),
         Err((settings, fault)) => {
             drop(settings);
@@ -25,23 +40,27 @@ fn defaults(alloc: Global, side: Side) -> Result<Checked>
 }
 
 /// A session at which nothing happened yet, with a tape that only counts what happens.
-pub fn new_session(alloc: Global, side: Side) -> Result<Session<Blank>>
-    ensures settings { IfOk result (λ s. s.settings ≡ usual side) }
+pub fn new_session(alloc: Global, side: Side, resumes: bool) -> Result<Session<Blank>>
+    ensures side { IfOk result (λ s. s.settings.side ≡ side) }
     ensures entries { IfOk result (λ s. s.entries ≡ []) }
 {
-    match Session::new(alloc, defaults(alloc, side)?, Blank::new()) {
+    match Session::new(alloc, settings(alloc, side, resumes)?, Blank::new()) {
         Ok(session) => Ok(session),
         Err((_, error)) => Err(error.into()),
     }
 }
 
 /// One that its callers share, and the first of them.
-pub fn new_connection(alloc: Global, side: Side) -> Result<(Connection<Blank>, Caller<Blank>)>
+pub fn new_connection(
+    alloc: Global,
+    side: Side,
+    resumes: bool,
+) -> Result<(Connection<Blank>, Caller<Blank>)>
     ensures of { IfOk result (λ r. r.1.of ≡ r.0) }
     ensures whole { IfOk result (λ r. r.1.parts ≡ all_parts) }
-    ensures settings { IfOk result (λ r. r.0.settings ≡ usual side) }
+    ensures side { IfOk result (λ r. r.0.settings.side ≡ side) }
 {
-    match Connection::new(alloc, new_session(alloc, side)?) {
+    match Connection::new(alloc, new_session(alloc, side, resumes)?) {
         Ok(made) => Ok(made),
         Err((session, error)) => {
             session.into_tape();

@@ -2,17 +2,12 @@
 
 use crate::asks::{item, request_stream, take_next};
 use crate::edges::SMALL;
-use crate::edges::sockets::{
-    TcpSide, client_over, next_request, outlast, server_over, two_sockets,
-};
+use crate::edges::sockets::{TcpSide, next_request, outlast};
 use crate::end::Said;
 use anyhow::{Result, bail, ensure};
 use rs_wire::Blob;
 use std::alloc::Global;
-use std::net::{Net, TcpListener, TcpStream};
 use std::sync::Wait;
-use std::thread::{Threads, join};
-use std::time::{Clock, Instant};
 
 /// How many items are sent before each turn: their frames, of 25 bytes and a length of 3 each, fit one
 /// draw of 16,384 bytes.
@@ -40,9 +35,9 @@ fn send_some<R: Wait>(
     Ok(batch)
 }
 
-// Sends all items of the stream that is asked for. The last ones go out while it waits for the client
-// to be gone.
-fn send_all<R: Wait>(rt: &R, alloc: Global, server: &mut TcpSide, items: u32) -> Result<()> {
+/// Sends so many items on the stream that is asked for. The last ones go out while it waits for the
+/// client to be gone.
+pub fn serve<R: Wait>(rt: &R, alloc: Global, server: &mut TcpSide, items: u32) -> Result<()> {
     let stream = next_request(rt, server)?;
     let mut sent = 0u32;
     for _ in 0..u64::MAX {
@@ -84,39 +79,14 @@ fn take_all<R: Wait>(rt: &R, client: &mut TcpSide, stream: u32) -> Result<u32> {
     Ok(taken)
 }
 
-fn ask<R: Wait>(rt: &R, alloc: Global, client: &mut TcpSide) -> Result<u32> {
+/// Asks for a stream, on which so many items come.
+pub fn ask<R: Wait>(rt: &R, alloc: Global, client: &mut TcpSide, items: u32) -> Result<()> {
     let content = Blob::from_slice(alloc, SMALL)?;
     let said = client.ask(rt, request_stream(content));
-    match said {
-        Some(Said::Started(stream)) => take_all(rt, client, stream),
-        _ => bail!("a request is {said:?}"),
-    }
-}
-
-/// So many items cross, and none is lost. How many nanoseconds each took.
-pub fn cross<R>(rt: &R, alloc: Global, items: u32) -> Result<u128>
-where
-    R: Net<Listener = TcpListener, Stream = TcpStream> + Threads + Wait + Clock + Sync,
-{
-    let (near, far) = two_sockets(rt)?;
-    let start = Instant::now(rt)?;
-    let (taken, served) = join(
-        rt,
-        move || {
-            let mut client = client_over(rt, alloc, near)?;
-            let taken = ask(rt, alloc, &mut client);
-            client.close();
-            taken
-        },
-        move || {
-            let mut server = server_over(rt, alloc, far)?;
-            let served = send_all(rt, alloc, &mut server, items);
-            server.close();
-            served
-        },
-    );
-    served?;
-    let taken = taken?;
+    let Some(Said::Started(stream)) = said else {
+        bail!("a request is {said:?}");
+    };
+    let taken = take_all(rt, client, stream)?;
     ensure!(taken == items, "{taken} of {items} items came");
-    Ok(start.elapsed(rt)?.as_nanos() / u128::from(items.max(1)))
+    Ok(())
 }

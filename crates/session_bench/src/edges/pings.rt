@@ -2,24 +2,19 @@
 
 use crate::asks::{request_response, respond, take_next};
 use crate::edges::SMALL;
-use crate::edges::sockets::{
-    TcpSide, client_over, next_request, outlast, server_over, two_sockets,
-};
+use crate::edges::sockets::{TcpSide, next_request, outlast};
 use crate::end::Said;
 use anyhow::{Result, bail, ensure};
 use rs_wire::Blob;
 use std::alloc::Global;
-use std::net::{Net, TcpListener, TcpStream};
 use std::sync::Wait;
-use std::thread::{Threads, join};
-use std::time::{Clock, Instant};
 
 /// How many turns a response may take.
 const MOST_TURNS: u32 = 10_000;
 
-// Answers so many requests. A response goes out while it waits for the next request, and the last one
-// while it waits for the client to be gone.
-fn serve<R: Wait>(rt: &R, alloc: Global, server: &mut TcpSide, pings: u32) -> Result<()> {
+/// Answers so many requests. A response goes out while it waits for the next request, and the last one
+/// while it waits for the client to be gone.
+pub fn serve<R: Wait>(rt: &R, alloc: Global, server: &mut TcpSide, pings: u32) -> Result<()> {
     for _ in 0..pings {
         let stream = next_request(rt, server)?;
         let content = Blob::from_slice(alloc, SMALL)?;
@@ -44,7 +39,8 @@ fn take_response<R: Wait>(rt: &R, client: &mut TcpSide, stream: u32) -> Result<(
     bail!("no response came")
 }
 
-fn ask<R: Wait>(rt: &R, alloc: Global, client: &mut TcpSide, pings: u32) -> Result<()> {
+/// Makes so many requests, each once the one before is answered.
+pub fn ask<R: Wait>(rt: &R, alloc: Global, client: &mut TcpSide, pings: u32) -> Result<()> {
     for _ in 0..pings {
         let content = Blob::from_slice(alloc, SMALL)?;
         let said = client.ask(rt, request_response(content));
@@ -54,31 +50,4 @@ fn ask<R: Wait>(rt: &R, alloc: Global, client: &mut TcpSide, pings: u32) -> Resu
         }
     }
     Ok(())
-}
-
-/// So many requests are answered, one after another. How many nanoseconds each took.
-pub fn cross<R>(rt: &R, alloc: Global, pings: u32) -> Result<u128>
-where
-    R: Net<Listener = TcpListener, Stream = TcpStream> + Threads + Wait + Clock + Sync,
-{
-    let (near, far) = two_sockets(rt)?;
-    let start = Instant::now(rt)?;
-    let (asked, served) = join(
-        rt,
-        move || {
-            let mut client = client_over(rt, alloc, near)?;
-            let asked = ask(rt, alloc, &mut client, pings);
-            client.close();
-            asked
-        },
-        move || {
-            let mut server = server_over(rt, alloc, far)?;
-            let served = serve(rt, alloc, &mut server, pings);
-            server.close();
-            served
-        },
-    );
-    asked?;
-    served?;
-    Ok(start.elapsed(rt)?.as_nanos() / u128::from(pings.max(1)))
 }

@@ -46,7 +46,7 @@ fn linked(unlinked: Result<Unlinked>, link: TcpEnd) -> Result<TcpSide> {
 /// A client over this socket, whose SETUP is due.
 pub fn client_over<R: Net + Wait>(rt: &R, alloc: Global, socket: TcpStream) -> Result<TcpSide> {
     let link = TcpEnd::new(rt, alloc, socket)?;
-    linked(Unlinked::client(rt, alloc), link)
+    linked(Unlinked::client(rt, alloc, false), link)
 }
 
 // The bytes that come up to the end of the first frame, and some after it.
@@ -69,7 +69,9 @@ fn first_bytes(alloc: Global, link: &mut TcpEnd) -> Result<Vec<u8>> {
 // The server that the SETUP opens which comes over the link.
 fn begun_over<R: Wait>(rt: &R, alloc: Global, link: &mut TcpEnd) -> Result<Unlinked> {
     let bytes = first_bytes(alloc, link)?;
-    Unlinked::server(rt, alloc, &bytes)
+    let begun = Unlinked::server(rt, alloc, false, &bytes);
+    drop(bytes);
+    begun
 }
 
 /// A server over this socket, once a SETUP has come.

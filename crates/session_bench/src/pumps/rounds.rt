@@ -31,6 +31,8 @@ pub struct Run {
     pub batch: u32,
     /// How many times so many cross.
     pub rounds: u32,
+    /// Whether both ends agree to resumption, and hold frames for it.
+    pub resumes: bool,
 }
 
 /// Nanoseconds of the calls and turns at each end.
@@ -65,9 +67,14 @@ fn receive<R: Wait>(rt: &R, end: &mut End<Wire>, other: &mut End<Wire>) -> Resul
 }
 
 // The server that the client's SETUP opens.
-fn serve<R: Wait>(rt: &R, alloc: Global, client: &mut End<Wire>) -> Result<End<Wire>> {
+fn serve<R: Wait>(
+    rt: &R,
+    alloc: Global,
+    client: &mut End<Wire>,
+    resumes: bool,
+) -> Result<End<Wire>> {
     turn(rt, client)?;
-    let unlinked = Unlinked::server(rt, alloc, client.link.given())?;
+    let unlinked = Unlinked::server(rt, alloc, resumes, client.link.given())?;
     client.link.forget();
     Ok(End {
         unlinked,
@@ -238,7 +245,7 @@ fn cross_from<R: Clock + Wait>(
     client: &mut End<Wire>,
     run: Run,
 ) -> Result<Took> {
-    let mut server = serve(rt, alloc, client)?;
+    let mut server = serve(rt, alloc, client, run.resumes)?;
     let took = cross_between(rt, alloc, client, &mut server, run);
     server.close();
     took
@@ -247,7 +254,7 @@ fn cross_from<R: Clock + Wait>(
 /// Items cross between two new ends.
 pub fn cross<R: Clock + Wait>(rt: &R, alloc: Global, run: Run) -> Result<Took> {
     let mut client = End {
-        unlinked: Unlinked::client(rt, alloc)?,
+        unlinked: Unlinked::client(rt, alloc, run.resumes)?,
         link: Wire::new(alloc),
     };
     let took = cross_from(rt, alloc, &mut client, run);
