@@ -8,6 +8,7 @@ ghost use Rattle.session_core.specs.Alone.{IsAlone};
 ghost use Rattle.session_core.specs.Seen.{IsCutEvent, IsNoDrawEvent, IsOrOutOfMemory, entries_after};
 
 use crate::hearing::comes_alone;
+use crate::quiet::let_tick_go;
 use crate::session::{FULL, Session};
 use crate::speak::make_room;
 use rs_wire::OutOfMemory;
@@ -35,10 +36,9 @@ impl<T: Tape> Session<T> {
         Ok(())
     }
 
-    /// Answers an event as [`Session::step`] does, and takes it: a message that comes whole, a
-    /// payload's or that of a request that needs no lease, goes to whoever takes it next, and isn't
-    /// copied. An event that leaves no entry is gone, too.
-    pub fn bring(&mut self, who: u32, event: Event) -> Answer
+    // Answers an event that is no tick, and takes it.
+    #[inline(never)]
+    fn bring_on(&mut self, who: u32, event: Event) -> Answer
         requires fair { CanBring self.old.settings event }
         requires no_draw { IsNoDrawEvent event }
         ensures answer { IsOrOutOfMemory result
@@ -61,5 +61,30 @@ impl<T: Tape> Session<T> {
             Ok(()) => Answer::Handled,
             Err(OutOfMemory) => Answer::OutOfMemory,
         }
+    }
+
+    /// Answers an event as [`Session::step`] does, and takes it: a message that comes whole, a
+    /// payload's or that of a request that needs no lease, goes to whoever takes it next, and isn't
+    /// copied. An event that leaves no entry is gone, too.
+    #[inline(always)]
+    pub fn bring(&mut self, who: u32, event: Event) -> Answer
+        requires fair { CanBring self.old.settings event }
+        requires no_draw { IsNoDrawEvent event }
+        ensures answer { IsOrOutOfMemory result
+            (answer_to self.old.settings self.old.entries event) }
+        ensures full { (result ≡ Answer.TapeFull) ↔ (2 ^ 63 ≤ length self.old.entries) }
+        ensures after { self.new ≡ record self.old {
+          entries = entries_after who event result self.old.entries;
+          spare = self.new.spare;
+        } }
+        ensures memory { IsCutEvent event → 0 < self.old.spare → result ≢ Answer.OutOfMemory }
+        ensures spare { self.old.spare ≤ self.new.spare + 1 }
+    {
+        if let Event::Tick { now } = &event {
+            let now = *now;
+            let_tick_go(event);
+            return self.tick(who, now);
+        }
+        self.bring_on(who, event)
     }
 }

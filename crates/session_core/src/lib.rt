@@ -94,6 +94,7 @@ mod session;
 mod sizes;
 mod speak;
 mod state;
+mod stepping;
 mod taking;
 mod ticking;
 mod timing;

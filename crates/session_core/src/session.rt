@@ -1,6 +1,6 @@
 //! One end of a session.
 
-ghost use Rattle.std.specs.Prelude.{◌≡◌, ◌≢◌, ◌+◌, ◌<◌, ◌≤◌, ◌^◌, ◌↔◌, [], ◌∷◌, IfErr, IfOk, IfSome, None, OnErr, OnOk, drop, is_some, length, max, take, ℕ};
+ghost use Rattle.std.specs.Prelude.{◌≡◌, ◌≢◌, ◌+◌, ◌<◌, ◌≤◌, ◌^◌, ◌↔◌, [], ◌∷◌, IfErr, IfOk, IfSome, None, OnOk, drop, is_some, length, max, take, ℕ};
 ghost use Rattle.std.specs.Option.{option_copied};
 ghost use Rattle.rs_wire.specs.Settings.{IsChecked};
 ghost use Rattle.rs_frame.specs.Framed.{framed_all};
@@ -10,15 +10,14 @@ ghost use Rattle.session_model.specs.Frames.{drawn, due, queued};
 ghost use Rattle.session_model.specs.Moments.{moment, times};
 ghost use Rattle.keepalive.specs.Times.{due_at};
 ghost use Rattle.session_model.specs.Answers.{answer_to};
-ghost use Rattle.session_model.specs.Legal.{CanBring, Fair, IsFair, LeavesEntry, Legal};
+ghost use Rattle.session_model.specs.Legal.{Fair, Legal};
 ghost use Rattle.session_core.specs.Due.{heeds_ticks};
 ghost use Rattle.session_core.specs.Queued.{IfDrawn, IsBrief, IsOfDraw, IsUntouched};
-ghost use Rattle.session_core.specs.Seen.{IsCutEvent, IsNoDrawEvent, IsOrOutOfMemory, counts_of, entries_after, told_by};
+ghost use Rattle.session_core.specs.Seen.{IsOrOutOfMemory, counts_of, entries_after, told_by};
 
-use crate::amounts::amounts_fit;
 use crate::counts::Counts;
 use crate::history::History;
-use crate::judge::{judge, judge_draw};
+use crate::judge::judge_draw;
 use crate::state::State;
 use crate::ticking::next_due;
 use keepalive::Due;
@@ -143,96 +142,6 @@ impl<T: Tape> Session<T> {
             }),
             Err(error) => Err((tape, error)),
         }
-    }
-
-    /// Answers an event, which is no draw, and notes it on the tape for the caller `who`. An
-    /// opening has a first frame exactly on a server, and frames can be spelled.
-    ///
-    /// `TapeFull` comes exactly where there are 2^63 entries. `OutOfMemory` may come in place of
-    /// any other answer, of `NotYet` and `OutBusy` too, but at a cut only where there is no spare.
-    /// These four leave all as it was.
-    pub fn step(&mut self, who: u32, event: &Event) -> Answer
-        requires fair { CanBring self.old.settings event.now }
-        requires no_draw { IsNoDrawEvent event.now }
-        ensures answer { IsOrOutOfMemory result
-            (answer_to self.old.settings self.old.entries event.now) }
-        ensures full { (result ≡ Answer.TapeFull) ↔ (2 ^ 63 ≤ length self.old.entries) }
-        ensures after { self.new ≡ record self.old {
-          entries = entries_after who event.now result self.old.entries;
-          spare = self.new.spare;
-        } }
-        ensures memory { IsCutEvent event.now → 0 < self.old.spare → result ≢ Answer.OutOfMemory }
-        ensures spare { self.old.spare ≤ self.new.spare + 1 }
-    {
-        if self.tape.count() >= FULL {
-            return Answer::TapeFull;
-        }
-        match event {
-            Event::Cut { conn } => self.cut(who, *conn),
-            Event::Tick { now } => match self.tick(who, event, *now) {
-                Some(answer) => answer,
-                None => self.answer(who, event),
-            },
-            Event::Asked(call) => match self.ask_shortly(who, call) {
-                Some(answer) => answer,
-                None => self.answer(who, event),
-            },
-            _ => self.answer(who, event),
-        }
-    }
-
-    /// Answers an event, which is no draw, by the way that serves for all.
-    pub(crate) fn answer(&mut self, who: u32, event: &Event) -> Answer
-        requires fair { CanBring self.old.settings event.now }
-        requires no_draw { IsNoDrawEvent event.now }
-        requires not_full { length self.old.entries < 2 ^ 63 }
-        ensures answer { IsOrOutOfMemory result
-            (answer_to self.old.settings self.old.entries event.now) }
-        ensures not_full { result ≢ Answer.TapeFull }
-        ensures after { self.new ≡ record self.old {
-          entries = entries_after who event.now result self.old.entries;
-          spare = self.new.spare;
-        } }
-        ensures spare { self.old.spare ≤ self.new.spare + 1 }
-    {
-        let Ok(answer) = judge(self.alloc, &self.settings, &self.state, event) else {
-            return Answer::OutOfMemory;
-        };
-        if !answer.leaves_entry() {
-            return answer;
-        }
-        // It does nothing: it says that the amounts of a call have their range.
-        amounts_fit(&self.settings, event);
-        match self.note(who, event, &answer) {
-            Ok(()) => answer,
-            Err(OutOfMemory) => Answer::OutOfMemory,
-        }
-    }
-
-    // Applies the event and its answer.
-    fn note(&mut self, who: u32, event: &Event, answer: &Answer) -> Result<(), OutOfMemory>
-        requires fair { IsFair self.old.settings event.now }
-        requires no_draw { IsNoDrawEvent event.now }
-        requires not_full { length self.old.entries < 2 ^ 63 }
-        requires leaves { LeavesEntry answer.now }
-        requires is { answer.now ≡ answer_to self.old.settings self.old.entries event.now }
-        ensures ok { OnOk result (self.new ≡ record self.old {
-          entries = entry_of who event.now answer.now ∷ self.old.entries;
-          spare = self.new.spare;
-        }) }
-        ensures err { OnErr result (self.new ≡ record self.old { spare = self.new.spare }) }
-        ensures spare { self.old.spare ≤ self.new.spare + 1 }
-    {
-        let mut prepared = self
-            .state
-            .prepare(self.alloc, &self.settings, event, answer)?;
-        if let Err(error) = self.tape.note(who, event, answer) {
-            self.state.forget(&prepared);
-            return Err(error);
-        }
-        self.history.note(who, event, answer);
-        self.state.act(&self.settings, event, answer, &mut prepared);
-        Ok(())
     }
 
     /// Makes spare for one more entry. After it a [`Session::draw`] and a cut take no memory.

@@ -1,6 +1,6 @@
 //! The answer to a tick (RSocket 1.0, "KEEPALIVE Frame").
 
-ghost use Rattle.std.specs.Prelude.{◌≡◌, ◌≢◌, ◌<◌, ◌≤◌, ◌==◌, ◌||◌, ℕ, [], ◌∷◌, IfSome, None, is_some, max, not};
+ghost use Rattle.std.specs.Prelude.{◌≡◌, ◌≢◌, ◌<◌, ◌≤◌, ◌==◌, ◌||◌, ℕ, [], ◌∷◌, IfSome, None, is_some, max, not, true};
 ghost use Rattle.rs_wire.specs.declared.settings.Settings.{Settings};
 ghost use Rattle.keepalive.specs.Times.{due_at};
 ghost use Rattle.session_model.specs.Answers.{asks_alive, find_full, to_due, to_tick};
@@ -52,6 +52,19 @@ pub fn to_tick(settings: &Checked, state: &State, now: u64) -> Answer
     }
     let now = later(state.timer.moment(), now);
     to_due(settings, state, state.timer.due(now))
+}
+
+/// Whether a tick takes its moment and does nothing else, since nothing is due at it.
+#[inline(always)]
+pub fn is_quiet(state: &State, now: u64) -> bool
+    ensures { result ≡ true →
+        (g : Settings) → to_tick g (facts_of state.now) now ≡ Answer.Quiet }
+{
+    if is_idle(state) {
+        return true;
+    }
+    let now = later(state.timer.moment(), now);
+    matches!(state.timer.due(now), Due::Nothing)
 }
 
 /// The first moment, in milliseconds, at which something is due as things stand. `None` where a

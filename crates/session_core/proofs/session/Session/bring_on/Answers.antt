@@ -3,7 +3,7 @@ use Rattle.session_model.specs.Answers.{Facts, facts}
 use Rattle.session_core.specs.Alone.{IsAlone}
 use Rattle.session_core.specs.Seen.{Seen}
 use Rattle.session_core.proofs.Soundness.{room_of}
-use Rattle.session_core.proofs.session.Session.bring.Goals as goal
+use Rattle.session_core.proofs.session.Session.bring_on.Goals as goal
 
 pub comes_alone-requires-clause-room : goal.comes_alone-requires-clause-room
 comes_alone-requires-clause-room g c =
