@@ -5,24 +5,26 @@ use Rattle.byteorder.specs.Endian.{big_number}
 use Rattle.circular_buffer.specs.Buffer.{Buffer}
 use Rattle.position.specs.Boundaries.{frames_from_by, pos_by}
 use Rattle.position.proofs.Boundaries.{pos-append}
-use Rattle.replay_buffer.specs.Marked.{HasRoom, IsMarked}
+use Rattle.replay_buffer.specs.Marked.{HasRoom, IsAt, IsMarked}
 use Rattle.replay_buffer.specs.Stored.{IsTrimmed, floor_of}
 use Rattle.replay_buffer.specs.Storage.{IsStored, all_of, stored_of}
 use Rattle.replay_buffer.specs.declared.marks.Marks.{Marks}
+use Rattle.replay_buffer.specs.declared.marks.Spot.{Spot}
 use Rattle.replay_buffer.specs.declared.store.Store.TheInside.{Inside}
 use Rattle.replay_buffer.proofs.Boundaries.{from-taken, pos_parts, rising, rising_more}
 use Rattle.replay_buffer.proofs.Shown.{same_stored, shows}
 use Rattle.replay_buffer.proofs.Stored.{Stores-drop, few_frames, length-framed_all, measured}
 
 -- the fields without the first frames, where `left` of those are left that are held no longer
-abbrev pub without_front : Inside → Buffer ℕ → Marks → ℕ → ℕ → Inside
-without_front r bytes marks floor left = record {
+abbrev pub without_front : Inside → Buffer ℕ → Marks → Spot → ℕ → ℕ → Inside
+without_front r bytes marks near floor left = record {
   bytes = bytes;
   marks = marks;
   floor = floor;
   passed = left;
   first = r.first;
   end = r.end;
+  near = near;
   spare_frames = r.spare_frames;
   spare_bytes = r.spare_bytes;
 }
@@ -33,11 +35,12 @@ pub record Dropped (r new : Inside) (k : ℕ) : Type 0 where
   pub same : stored_of new ≡ record (stored_of r) { below = take new.passed (all_of new) }
   pub below : take new.passed (all_of new) ≡ drop k (take r.passed (all_of r))
 
-pub dropped : (r : Inside) (bytes : Buffer ℕ) (marks : Marks) (k size floor left : ℕ) → IsStored r → left + k ≡ r.passed
+pub dropped : (r : Inside) (bytes : Buffer ℕ) (marks : Marks) (near : Spot) (k size floor left : ℕ) → IsStored r → left + k ≡ r.passed
     → size ≡ pos_by length (take k (all_of r)) + 3 * k → floor ≡ r.floor + pos_by length (take k (all_of r))
     → bytes ≡ record r.bytes { items = drop size r.bytes.items } → marks.frames ≡ r.marks.frames - k
-    → IsMarked (r.floor + pos_by length (take k (all_of r))) (drop k (all_of r)) marks → HasRoom marks r.spare_frames → Dropped r (without_front r bytes marks floor left) k
-dropped r bytes marks k size floor left s parts size_is floor_is bytes_are less marked room =
+    → IsMarked (r.floor + pos_by length (take k (all_of r))) (drop k (all_of r)) marks → HasRoom marks r.spare_frames → IsAt floor (drop k (all_of r)) near
+    → Dropped r (without_front r bytes marks near floor left) k
+dropped r bytes marks near k size floor left s parts size_is floor_is bytes_are less marked room here =
     let fs = all_of r in
     let le : k ≤ length fs = omega (arith, s.passed, parts) in
     let rest = ap (λ (b : Buffer ℕ). b.items) bytes_are in
@@ -53,6 +56,7 @@ dropped r bytes marks k size floor left s parts size_is floor_is bytes_are less 
         top = s.top;
         passed = omega (arith, s.passed, ap length now.same, length-drop k fs, parts);
         first = omega (arith, s.first, first, ap (λ l. pos_by length (take left l)) now.same, floor_is);
+        near = subst (λ l. IsAt floor l near) (sym now.same) here;
         spare_of_bytes = omega (arith, s.spare_of_bytes, ap length rest, length-drop size r.bytes.items, ap (λ (b : Buffer ℕ). b.capacity) bytes_are);
         spare_of_frames = room;
       };
@@ -62,10 +66,10 @@ dropped r bytes marks k size floor left s parts size_is floor_is bytes_are less 
     }
 
 -- what is left where all frames are forgotten that are held no longer
-pub freed : (r : Inside) (bytes : Buffer ℕ) (marks : Marks) → IsStored r → Dropped r (without_front r bytes marks r.first 0) r.passed
-    → IsTrimmed (stored_of r) (stored_of (without_front r bytes marks r.first 0)) r.first
+pub freed : (r : Inside) (bytes : Buffer ℕ) (marks : Marks) (near : Spot) → IsStored r → Dropped r (without_front r bytes marks near r.first 0) r.passed
+    → IsTrimmed (stored_of r) (stored_of (without_front r bytes marks near r.first 0)) r.first
 unfolding pos_by
-freed r bytes marks s d =
+freed r bytes marks near s d =
     let fs = all_of r in
     let w = shows r s in
     let from : pos_by length (take r.passed fs) ≡ r.first - floor_of (stored_of r) = omega (arith, s.first) in
@@ -126,15 +130,17 @@ pub record Popped (r new : Inside) : Type 0 where
   pub same : stored_of new ≡ record (stored_of r) { below = drop 1 (stored_of r).below }
   pub rises : floor_of (stored_of r) < floor_of (stored_of new)
 
-pub popped : (r : Inside) (bytes : Buffer ℕ) (marks : Marks) (count : ℕ) → IsStored r → 0 < length (stored_of r).below → count ≡ big_number 3 (drop 0 r.bytes.items)
+pub popped : (r : Inside) (bytes : Buffer ℕ) (marks : Marks) (near : Spot) (count : ℕ) → IsStored r → 0 < length (stored_of r).below → count ≡ big_number 3 (drop 0 r.bytes.items)
     → bytes ≡ record r.bytes { items = drop (3 + count) r.bytes.items } → marks.frames ≡ r.marks.frames - 1
     → IsMarked (r.floor + pos_by length (take 1 (all_of r))) (drop 1 (all_of r)) marks → HasRoom marks r.spare_frames
-    → Popped r (without_front r bytes marks (r.floor + count) (r.passed - 1))
-popped r bytes marks count s some is bytes_are less marked room =
+    → (r.floor + count ≡ r.floor + pos_by length (take 1 (all_of r)) → IsAt (r.floor + count) (drop 1 (all_of r)) near)
+    → Popped r (without_front r bytes marks near (r.floor + count) (r.passed - 1))
+popped r bytes marks near count s some is bytes_are less marked room here =
     let fs = all_of r in
     let few : 0 < r.passed = omega (arith, some, length-take r.passed fs) in
     let at = first_of r s (omega (arith, few, s.passed)) count is in
-    let d = dropped r bytes marks 1 (3 + count) (r.floor + count) (r.passed - 1) s (omega (arith, few)) (omega (arith, at.size)) (omega (arith, at.size)) bytes_are less marked room in
+    let d = dropped r bytes marks near 1 (3 + count) (r.floor + count) (r.passed - 1) s (omega (arith, few)) (omega (arith, at.size)) (omega (arith, at.size)) bytes_are less marked room
+    (here (omega (arith, at.size))) in
     record {
       stored = d.stored;
       same = d.same ∙ ap (λ (l : List (List ℕ)). record (stored_of r) { below = l }) d.below;

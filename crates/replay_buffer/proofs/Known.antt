@@ -30,6 +30,7 @@ pub record Known (r : Inside) (v : Stored) : Type 0 where
   pub passed : r.passed ≤ length (frames_of v)
   pub first : v.first ≡ floor_of v + pos_by length (take r.passed (frames_of v))
   pub whole : floor_of v + pos_by length (frames_of v) ≡ r.end
+  pub near : IsAt (floor_of v) (frames_of v) r.near
 
 pub known : (r : Inside) (v : Stored) → IsStored r → stored_of r ≡ v → Known r v
 known r v s is =
@@ -55,6 +56,7 @@ known r v s is =
       passed = omega (arith, s.passed, ap length frames);
       first = ap (λ (u : Stored). u.first) (sym is) ∙ s.first ∙ (λ i. sym floor i + pos_by length (take r.passed (sym frames i)));
       whole = omega (arith, s.end, floor, ap (pos_by length) frames);
+      near = rw (frames, floor) s.near;
     }
 
 -- where a frame is held, one is left after those that are held no longer

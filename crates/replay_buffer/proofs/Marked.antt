@@ -1,9 +1,10 @@
 -- Marks, and how they change.
-use Rattle.std.proofs.Common.{◌≡◌, ℕ, ◌+◌, ◌-◌, ◌*◌, ◌<◌, ◌≤◌, List, length, take, drop, get_or, ap, ◌∙◌, arith}
-use Rattle.std.proofs.lemmas.List.{get_or-drop, length-drop}
+use Rattle.std.proofs.Common.{◌≡◌, ℕ, ◌+◌, ◌-◌, ◌*◌, ◌<◌, ◌≤◌, List, [], ◌∷◌, ◌++◌, length, take, drop, get_or, ap, ◌∙◌, arith}
+use Rattle.std.proofs.lemmas.List.{get_or-drop, length-append, length-drop, take-append-le}
 use Rattle.position.specs.Boundaries.{pos_by}
 use Rattle.replay_buffer.specs.Marked.{IsAt, IsMarked}
 use Rattle.replay_buffer.specs.declared.marks.Marks.{Marks}
+use Rattle.replay_buffer.specs.declared.marks.Spot.{Spot}
 use Rattle.replay_buffer.specs.declared.marks.TheConstants.{EVERY}
 use Rattle.replay_buffer.proofs.Boundaries.{pos_parts, rising}
 
@@ -17,6 +18,23 @@ marks_rise at fs m s i j le lt =
 pub first_at : (at : ℕ) (fs : List (List ℕ)) → IsAt at fs (record { index = 0; position = at })
 unfolding pos_by
 first_at at fs = record { within = omega arith; start = omega arith }
+
+-- a place stays one where a frame comes to the others
+pub at-push : (at : ℕ) (fs : List (List ℕ)) (f : List ℕ) (s : Spot) → IsAt at fs s → IsAt at (fs ++ f ∷ []) s
+at-push at fs f s here = record {
+  within = omega (arith, here.within, length-append fs (f ∷ []));
+  start = omega (arith, here.start, ap (pos_by length) (take-append-le s.index fs (f ∷ []) here.within));
+}
+
+-- and so does one where the first frames are gone, if it lies behind these
+pub at-drop : (at : ℕ) (fs : List (List ℕ)) (s new : Spot) (k floor : ℕ) → IsAt at fs s → k ≤ s.index → floor ≡ at + pos_by length (take k fs)
+    → new.index ≡ s.index - k → new.position ≡ s.position → IsAt floor (drop k fs) new
+at-drop at fs s new k floor here le is less same =
+    let whole : s.index ≡ k + new.index = omega (arith, less, le) in
+    record {
+      within = omega (arith, here.within, length-drop k fs, less);
+      start = omega (arith, same, here.start, is, ap (λ n. pos_by length (take n fs)) whole, pos_parts fs k new.index);
+    }
 
 -- the first frames are gone, and so many marks
 pub marked-drop : (at : ℕ) (fs : List (List ℕ)) (m new : Marks) (k n : ℕ) → IsMarked at fs m → k ≤ length fs → n ≤ length m.starts.items → new.frames ≡ m.frames - k

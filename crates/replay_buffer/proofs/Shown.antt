@@ -31,16 +31,17 @@ shows r s =
 
 -- nothing is stored
 pub none : (bytes : Buffer ℕ) (marks : Marks) → bytes.items ≡ [] → marks ≡ record { starts = buffer [] 0; lead = 0; frames = 0 }
-    → IsStored (record { bytes = bytes; marks = marks; floor = 0; passed = 0; first = 0; end = 0; spare_frames = 0; spare_bytes = 0 })
+    → IsStored (record { bytes = bytes; marks = marks; floor = 0; passed = 0; first = 0; end = 0; near = record { index = 0; position = 0 }; spare_frames = 0; spare_bytes = 0 })
 unfolding pos_by
 none bytes marks b m =
-    subst (λ (n : Marks). IsStored (record { bytes = bytes; marks = n; floor = 0; passed = 0; first = 0; end = 0; spare_frames = 0; spare_bytes = 0 })) (sym m) (record {
+    subst (λ (n : Marks). IsStored (record { bytes = bytes; marks = n; floor = 0; passed = 0; first = 0; end = 0; near = record { index = 0; position = 0 }; spare_frames = 0; spare_bytes = 0 })) (sym m) (record {
       stored = record { bytes_are = b; longer = tt; shorter = tt };
       marked = record { count = refl; starts = λ i lt. absurd (omega arith); reach = omega arith; tight = omega arith };
       end = omega arith;
       top = omega arith;
       passed = omega arith;
       first = omega arith;
+      near = record { within = omega arith; start = omega arith };
       spare_of_bytes = omega (arith, ap length b);
       spare_of_frames = omega arith;
     })

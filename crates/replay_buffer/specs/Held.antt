@@ -95,10 +95,6 @@ from_acked h position = without_first h (acked_by length h.frames (position - h.
 abbrev pub without_oldest : Held → Held
 without_oldest h = record h { first = h.first + pos_by length (take 1 h.frames); frames = drop 1 h.frames }
 
--- a frame is held, and the oldest one ends at or before the position
-abbrev pub OldestEndsBy : Held → ℕ → Type 0
-OldestEndsBy h position = (0 < length h.frames) × (h.first + pos_by length (take 1 h.frames) ≤ position)
-
 -- a frame of `n` bytes may be kept
 abbrev pub HasSpare : Spare → ℕ → Type 0
 HasSpare s n = (0 < s.frames) × (n ≤ s.bytes)

@@ -4,7 +4,7 @@ use Rattle.std.specs.List.{AllByRecursion, flat_map}
 use Rattle.byteorder.specs.Endian.{big_number}
 use Rattle.rs_frame.specs.Framed.{framed}
 use Rattle.position.specs.Boundaries.{pos_by}
-use Rattle.replay_buffer.specs.Marked.{HasRoom, IsMarked}
+use Rattle.replay_buffer.specs.Marked.{HasRoom, IsAt, IsMarked}
 use Rattle.replay_buffer.specs.Stored.{Stored}
 use Rattle.replay_buffer.specs.declared.store.Store.TheInside.{Inside}
 
@@ -38,5 +38,6 @@ pub record IsStored (r : Inside) : Type 0 where
   pub top : r.end < 2 ^ 63
   pub passed : r.passed ≤ length (all_of r)
   pub first : r.first ≡ r.floor + pos_by length (take r.passed (all_of r))
+  pub near : IsAt r.floor (all_of r) r.near
   pub spare_of_bytes : length r.bytes.items + (r.spare_bytes + 3 * r.spare_frames) ≤ r.bytes.capacity
   pub spare_of_frames : HasRoom r.marks r.spare_frames

@@ -1,5 +1,5 @@
 -- The frames that can be read: those that are held no longer, and those that are held.
-use Rattle.std.specs.Prelude.{◌≡◌, ℕ, ◌+◌, ◌-◌, ◌<◌, ◌≤◌, List, [], ◌++◌, length, take}
+use Rattle.std.specs.Prelude.{◌≡◌, ℕ, ◌+◌, ◌-◌, ◌≤◌, List, [], ◌++◌, length, take}
 use Rattle.std.specs.List.{flat_map}
 use Rattle.rs_frame.specs.Framed.{framed}
 use Rattle.position.specs.Boundaries.{pos_by, IsBoundaryBy, frames_from_by}
@@ -30,10 +30,6 @@ end_of s = s.first + pos_by length s.held
 -- the position where the oldest held one ends
 abbrev pub first_after : Stored → ℕ
 first_after s = s.first + pos_by length (take 1 s.held)
-
--- a frame is held, and the oldest such ends at or before the position
-abbrev pub IsOldestUpTo : Stored → ℕ → Type 0
-IsOldestUpTo s position = (0 < length s.held) × (first_after s ≤ position)
 
 -- one of the frames starts at the position, or the newest one ended there
 abbrev pub IsStart : Stored → ℕ → Type 0

@@ -13,8 +13,9 @@
 //! starts at `first` of the crate `position` (the peer may still need it, and no more than `hold`
 //! bytes are held), and [`Replay::copy`] gives the readable frames as they go onto a stream, each
 //! after its length ([`held_of_made`]). No frame is forgotten sooner or later. The frames lie in a
-//! ring of bytes, and the positions where some of them start in another. A ring grows by a
-//! sixteenth, and where a quarter of it would do, the rest is given back. Only [`Replay::reserve`]
+//! ring of bytes, and the positions where some of them start in another. A small ring doubles, a
+//! larger one grows by a sixteenth, and one that has come to a quarter of `hold` gets room for all
+//! of it; where a quarter of its room would do, the rest is given back. Only [`Replay::reserve`]
 //! takes memory.
 //!
 //! It leaves out which frames are resumable, how they are spelled, and whether a peer's position
@@ -29,5 +30,5 @@ mod rings;
 mod store;
 
 pub use laws::held_of_made;
+pub use marks::Place;
 pub use replay::Replay;
-pub use store::Place;

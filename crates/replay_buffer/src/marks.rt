@@ -27,6 +27,48 @@ pub struct Spot {
     pub position: u64,
 }
 
+impl Spot {
+    /// The same place once the first `count` frames are gone, so that the first one left starts at
+    /// `floor`; that one, where the place lay before it.
+    pub fn without_front(self, count: usize, floor: u64) -> Spot
+        ensures { (at : ℕ) (frames : List (List ℕ)) → IsAt at frames self →
+            count ≤ length frames → floor ≡ at + pos_by length (take count frames) →
+            IsAt floor (drop count frames) result }
+    {
+        if self.index < count {
+            return Spot {
+                index: 0,
+                position: floor,
+            };
+        }
+        Spot {
+            index: self.index - count,
+            position: self.position,
+        }
+    }
+
+    /// The later of two places, or this one where the other lies beyond the position.
+    pub fn or_later(self, other: Spot, position: u64) -> Spot
+        ensures at { (at : ℕ) (frames : List (List ℕ)) → IsAt at frames self →
+            IsAt at frames other → IsAt at frames result }
+        ensures low { self.position ≤ position → result.position ≤ position }
+    {
+        if self.position < other.position && other.position <= position {
+            return other;
+        }
+        self
+    }
+}
+
+/// A place in the framed bytes: so many bytes after a boundary.
+#[derive(Debug, Clone, Copy)]
+pub struct Place {
+    /// The boundary.
+    pub position: u64,
+    /// How many bytes after it.
+    pub skip: u64,
+}
+
 /// How many frames there are, and where every [`EVERY`]-th of them starts.
 #[derive(Debug, Drop)]
 pub struct Marks {
@@ -79,7 +121,7 @@ impl Marks {
         if self.suits(spare) {
             return Ok(());
         }
-        make_room(&mut self.starts, 1 + spare / EVERY, SOME_MARKS)
+        make_room(&mut self.starts, 1 + spare / EVERY, SOME_MARKS, 0)
     }
 
     /// Appends a frame that starts at the position.

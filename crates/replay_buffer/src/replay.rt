@@ -8,8 +8,9 @@ ghost use Rattle.rs_frame.specs.Framed.{framed};
 ghost use Rattle.position.specs.Boundaries.{pos, pos_by};
 ghost use Rattle.replay_buffer.specs.Held.{CanReadFrom, HasSpare, IsHeldBoundary, IsHeldOf, IsReadable, end_of, floor_of, framed_from, from_acked, from_boundary, from_least, lesser, new_buffer, readable, spare_after, spare_for, with_newest};
 
+use crate::marks::Place;
 use crate::passing::{forget_unpinned, pass_beyond, pass_up_to};
-use crate::store::{Place, Store};
+use crate::store::Store;
 use rs_frame::Pieces;
 use rs_wire::OutOfMemory;
 use std::alloc::Global;
@@ -61,7 +62,7 @@ impl Replay {
             (self.new ≡ record self.old { spare = spare_for self.old.spare frames bytes }) }
         ensures err { OnErr result (self.new ≡ self.old) }
     {
-        self.store.reserve(frames, bytes)
+        self.store.reserve(frames, bytes, self.hold)
     }
 
     /// Appends a frame, without its length field, and forgets the oldest whole frames while more
@@ -142,6 +143,7 @@ impl Replay {
         ensures pin { self.new.pin ≡ Some position }
         ensures spare { self.new.spare ≡ self.old.spare }
     {
+        self.store.remember(position);
         self.pin = Some(position);
         forget_unpinned(&mut self.store, self.pin);
     }

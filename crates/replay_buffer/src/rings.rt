@@ -12,15 +12,20 @@ use rs_wire::OutOfMemory;
 /// The fewest bytes that a ring has room for beyond what is wanted, where it grows.
 const SOME_BYTES: usize = 4_096;
 
-/// A ring grows by this part of what is wanted: what it has room for beyond that is at most a
+/// A large ring grows by this part of what is wanted: what it has room for beyond that is at most a
 /// sixteenth, and each item is moved some sixteen times while the ring grows, once in its life.
 const PART: usize = 16;
 
-/// The capacity of a ring that is to have room for so many items: a part more, and some at least.
+/// A small ring doubles, up to steps of so many times the fewest items.
+const STEPS: usize = 8;
+
+/// The capacity of a ring that is to have room for so many items: as many more as a small ring has,
+/// and a part of a large one, but some at least.
 fn grown(wanted: usize, least: usize) -> usize
     ensures { wanted ≤ result }
 {
-    wanted.saturating_add((wanted / PART).max(least))
+    let doubled = wanted.min(least.saturating_mul(STEPS));
+    wanted.saturating_add((wanted / PART).max(doubled).max(least))
 }
 
 /// Moves the items to a block of another capacity, which has to hold them.
@@ -40,11 +45,33 @@ fn move_over<T: Copy + Drop>(
     Ok(())
 }
 
-/// Makes room for `count` items more. What a ring has room for beyond four times that is given back.
+// Gives the ring a capacity of `wanted` items or more, which has to hold the items. A ring that has come
+// to a quarter of what it is likely to come to gets room for that at once, so that it is moved no more:
+// memory that nothing was written to yet is not used.
+fn grow<T: Copy + Drop>(
+    ring: &mut HeapCircularBuffer<T>,
+    wanted: usize,
+    least: usize,
+    likely: usize,
+) -> Result<(), OutOfMemory>
+    requires { length ring.old.items ≤ wanted }
+    ensures items { ring.new.items ≡ ring.old.items }
+    ensures room { OnOk result (wanted ≤ ring.new.capacity) }
+    ensures err { OnErr result (ring.new ≡ ring.old) }
+{
+    if likely / 4 <= wanted && wanted <= likely && move_over(ring, likely).is_ok() {
+        return Ok(());
+    }
+    move_over(ring, grown(wanted, least))
+}
+
+/// Makes room for `count` items more, in a ring that is likely to come to `likely` items. What a ring
+/// has room for beyond four times what is wanted is given back.
 pub fn make_room<T: Copy + Drop>(
     ring: &mut HeapCircularBuffer<T>,
     count: usize,
     least: usize,
+    likely: usize,
 ) -> Result<(), OutOfMemory>
     ensures items { ring.new.items ≡ ring.old.items }
     ensures room { OnOk result (length ring.new.items + count ≤ ring.new.capacity) }
@@ -53,7 +80,7 @@ pub fn make_room<T: Copy + Drop>(
     let wanted = ring.len().checked_add(count).ok_or(OutOfMemory)?;
     let capacity = ring.capacity();
     if wanted > capacity {
-        return move_over(ring, grown(wanted, least));
+        return grow(ring, wanted, least, likely);
     }
     if wanted.saturating_add(least) < capacity / 4 && grown(wanted, least) < capacity / 4 {
         // Where there is no memory for the smaller block, the larger one stays.
@@ -62,12 +89,13 @@ pub fn make_room<T: Copy + Drop>(
     Ok(())
 }
 
-/// Makes room for the frames to come, of so many bytes in sum, each after its length. Where there is
-/// room, and not far more, it is left as it is.
+/// Makes room for the frames to come, of so many bytes in sum, each after its length, in a ring whose
+/// frames are likely to come to `hold` bytes. Where there is room, and not far more, it is left as it is.
 pub fn make_room_framed(
     ring: &mut HeapCircularBuffer<u8>,
     frames: usize,
     bytes: usize,
+    hold: u64,
 ) -> Result<(), OutOfMemory>
     ensures items { ring.new.items ≡ ring.old.items }
     ensures room { OnOk result
@@ -84,7 +112,9 @@ pub fn make_room_framed(
         .checked_mul(3)
         .and_then(|lengths| lengths.checked_add(bytes))
         .ok_or(OutOfMemory)?;
-    make_room(ring, framed, SOME_BYTES)
+    // An eighth more than their bytes is enough for the lengths of frames of 24 bytes.
+    let likely = hold.saturating_add(hold / 8) as usize;
+    make_room(ring, framed, SOME_BYTES, likely)
 }
 
 /// How many of the positions, none of which is below the one before, are at most `position`.

@@ -8,22 +8,13 @@ ghost use Rattle.replay_buffer.specs.Held.{HasSpare, spare_after, spare_for};
 ghost use Rattle.replay_buffer.specs.Marked.{IsAt};
 ghost use Rattle.replay_buffer.specs.Stored.{IsStart, IsTrimmed, end_of, first_after, floor_of, frames_of, framed_from, held_from, nothing_stored};
 
-use crate::marks::{Marks, Spot};
+use crate::marks::{Marks, Place, Spot};
 use crate::rings::{copy_after, drop_front, make_room_framed, number_at, put_framed, put_pieces};
 use circular_buffer::HeapCircularBuffer;
 use rs_frame::Pieces;
 use rs_wire::OutOfMemory;
 use std::alloc::Global;
 use std::marker::Model;
-
-/// A place in the framed bytes: so many bytes after a boundary.
-#[derive(Debug, Clone, Copy)]
-pub struct Place {
-    /// The boundary.
-    pub position: u64,
-    /// How many bytes after it.
-    pub skip: u64,
-}
 
 /// The frames that can be read, in the order in which they were made. The first of them are held no
 /// longer. Contracts see both lists, the position where the second one starts, and what was reserved.
@@ -40,6 +31,8 @@ pub struct Store {
     first: u64,
     // The position where the newest frame ended, stored or not.
     end: u64,
+    // Where one of the frames starts, or the newest one ended, that is likely to be looked for next.
+    near: Spot,
     // How many frames may be kept before more has to be reserved, and their bytes in sum.
     spare_frames: usize,
     spare_bytes: usize,
@@ -69,14 +62,18 @@ impl Store {
             passed: 0,
             first: 0,
             end: 0,
+            near: Spot {
+                index: 0,
+                position: 0,
+            },
             spare_frames: 0,
             spare_bytes: 0,
         })
     }
 
     /// Reserves memory for `frames` more frames, of `bytes` bytes in sum. What was reserved and not
-    /// used before counts.
-    pub fn reserve(&mut self, frames: usize, bytes: usize) -> Result<(), OutOfMemory>
+    /// used before counts. All frames are likely to come to `hold` bytes.
+    pub fn reserve(&mut self, frames: usize, bytes: usize, hold: u64) -> Result<(), OutOfMemory>
         ensures ok { OnOk result
             (self.new ≡ record self.old { spare = spare_for self.old.spare frames bytes }) }
         ensures err { OnErr result (self.new ≡ self.old) }
@@ -84,7 +81,7 @@ impl Store {
         let frames = frames.max(self.spare_frames);
         let bytes = bytes.max(self.spare_bytes);
         self.marks.reserve(frames)?;
-        make_room_framed(&mut self.bytes, frames, bytes)?;
+        make_room_framed(&mut self.bytes, frames, bytes, hold)?;
         self.spare_frames = frames;
         self.spare_bytes = bytes;
         Ok(())
@@ -219,6 +216,7 @@ impl Store {
         drop_front(&mut self.bytes, 3 + count);
         self.floor += count as u64;
         self.passed -= 1;
+        self.near = self.near.without_front(1, self.floor);
     }
 
     /// Forgets the frames that are held no longer.
@@ -228,6 +226,7 @@ impl Store {
         let size = (self.first - self.floor) as usize + 3 * self.passed;
         drop_front(&mut self.bytes, size);
         self.marks.drop_front(self.passed);
+        self.near = self.near.without_front(self.passed, self.first);
         self.floor = self.first;
         self.passed = 0;
     }
@@ -256,20 +255,23 @@ impl Store {
     }
 
     // A frame that starts at or before the position, less than a mark's distance from it: one with a
-    // mark, or the oldest held one. From this one on few frames are passed at a time.
+    // mark, the oldest held one, from which on few are passed at a time, or the one that is likely.
     fn nearest(&self, position: u64) -> Spot
         requires { floor_of self.now ≤ position }
         ensures at { IsAt (floor_of self.now) (frames_of self.now) result }
         ensures low { result.position ≤ position }
     {
-        let marked = self.marks.before(self.floor, position);
-        if marked.position < self.first && self.first <= position {
-            return Spot {
-                index: self.passed,
-                position: self.first,
-            };
+        if self.near.position == position {
+            return self.near;
         }
-        marked
+        let oldest = Spot {
+            index: self.passed,
+            position: self.first,
+        };
+        self.marks
+            .before(self.floor, position)
+            .or_later(oldest, position)
+            .or_later(self.near, position)
     }
 
     /// The last frame that starts at or before the position, and the first one where none does; where
@@ -297,8 +299,14 @@ impl Store {
         self.walk(self.nearest(position), position)
     }
 
-    /// Whether a frame starts at the position, or the newest one ended there. It takes the time of
-    /// [`Store::find`].
+    /// From now on [`Store::find`] begins at the place that it finds here, where that is nearer.
+    pub fn remember(&mut self, position: u64)
+        ensures { self.new ≡ self.old }
+    {
+        self.near = self.find(position);
+    }
+
+    /// Whether a frame starts at the position, or the newest one ended there: [`Store::find`] tells.
     pub fn is_start(&self, position: u64) -> bool
         ensures { IsTrue result ↔ IsStart self.now position }
     {

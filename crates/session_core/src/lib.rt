@@ -49,8 +49,9 @@
 //! An event is decided on, the frames that it makes are made, they are put in line, and only then
 //! the state changes; the events that come most have short ways of their own.
 //!
-//! - What there is: `session`, the calls; `state`, what is kept of the entries, how it is prepared
-//!   for an event and changed by it; `history`, the entries, which contracts alone see.
+//! - What there is: `session`, the calls; `stepping`, the stages one after the other; `state`, what
+//!   is kept of the entries, how it is prepared for an event and changed by it; `history`, the
+//!   entries, which contracts alone see.
 //! - Decide, on the answer: `judge` of any event, `asked` of a call, `came` of a frame, `resuming`
 //!   of RESUME and RESUME_OK, `ticking` of a tick, and when the next is due.
 //! - Make: `outgoing`, the frames of an event; `notices`, those of the connection; `turned_away`,

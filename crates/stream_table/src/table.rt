@@ -1,7 +1,8 @@
 //! The table of the open streams.
 
-ghost use Rattle.std.specs.Prelude.{◌≡◌, ◌<◌, ◌≤◌, ◌^◌, ◌+◌, IfOk, IfErr, IfSome, IsOk, OnOk, OnErr, IsSome, IsTrue, Some, None, is_some, false, length, if◌then◌else◌, nat_eq, ℕ};
+ghost use Rattle.std.specs.Prelude.{◌≡◌, ◌<◌, ◌≤◌, ◌^◌, ◌+◌, IfOk, IfErr, IfSome, IsOk, OnOk, OnErr, IsSome, IsTrue, Some, None, is_some, false, length, if◌then◌else◌, nat_eq, slice_get, ℕ};
 ghost use Rattle.indexmap.specs.IndexMap.{get, spare};
+ghost use Rattle.stream_model.specs.declared.stream.Stream.{Stream as Kept};
 ghost use Rattle.stream_model.specs.Streams.{one_if};
 ghost use Rattle.stream_model.specs.Kept.{is_done, unless_done, FitsCredit};
 ghost use Rattle.stream_model.specs.Known.{is_own_parity};
@@ -28,16 +29,47 @@ fn put(streams: &mut IndexMap<u32, Stream>, id: u32, stream: Stream)
     let _ = streams.insert(id, stream);
 }
 
-// A stream that is there stands so from now on.
-fn change(streams: &mut IndexMap<u32, Stream>, id: u32, stream: Stream)
+// What is kept of the stream of an id. Where it is the one at `near`, it is found without its hash.
+#[inline(always)]
+fn look_up(streams: &IndexMap<u32, Stream>, near: usize, id: u32) -> Option<Stream>
+    ensures { result ≡ get nat_eq streams.now id }
+{
+    if let Some((other, stream)) = streams.get_index(near) {
+        if *other == id {
+            return Some(*stream);
+        }
+    }
+    streams.get(&id).copied()
+}
+
+// The index of a stream that is there. Where it is `near`, it is found without the id's hash.
+fn index_of(streams: &IndexMap<u32, Stream>, near: usize, id: u32) -> usize
+    requires { IsSome (get nat_eq streams.now id) }
+    ensures entry { (kept : Kept) × (slice_get streams.now.entries result ≡ Some (id, kept)) }
+{
+    if let Some((other, _)) = streams.get_index(near) {
+        if *other == id {
+            return near;
+        }
+    }
+    match streams.get_full(&id) {
+        Some((index, _, _)) => index,
+        None => near,
+    }
+}
+
+// A stream that is there stands so from now on. Its index, which is looked for at `near` first.
+fn change(streams: &mut IndexMap<u32, Stream>, near: usize, id: u32, stream: Stream) -> usize
     requires { IsSome (get nat_eq streams.old id) }
     ensures kept { SetsAt streams.old.entries streams.new.entries id (Some stream) }
     ensures live { length streams.new.entries ≡ length streams.old.entries }
     ensures room { spare streams.new ≡ spare streams.old }
 {
-    if let Some(place) = streams.get_mut(&id) {
+    let index = index_of(streams, near, id);
+    if let Some(place) = streams.get_index_mut(index) {
         *place = stream;
     }
+    index
 }
 
 /// The streams of an end that are open, by id, and the highest id of each end (RSocket 1.0, "Stream
@@ -79,6 +111,8 @@ fn change(streams: &mut IndexMap<u32, Stream>, id: u32, stream: Stream)
 pub struct Table {
     // The streams that are not over.
     streams: IndexMap<u32, Stream>,
+    // The index of the stream that changed last, which is likely to be looked up next.
+    near: usize,
     // The highest ids that were used.
     ids: Ids,
     limits: Limits,
@@ -111,6 +145,7 @@ impl Table {
     {
         Ok(Table {
             streams: IndexMap::with_capacity(alloc, 1)?,
+            near: 0,
             limits: Limits {
                 side,
                 max_streams,
@@ -142,7 +177,7 @@ impl Table {
         ensures not_over { IfSome result (λ f. is_done f ≡ false) }
         ensures credit { IfSome result FitsCredit }
     {
-        self.streams.get(&id).copied()
+        look_up(&self.streams, self.near, id)
     }
 
     /// The highest id that was used of those of an end, 0 for none: the client's ids are odd, the
@@ -270,7 +305,7 @@ impl Table {
         if is_over(&stream) {
             self.streams.swap_remove(&id);
         } else {
-            change(&mut self.streams, id, stream);
+            self.near = change(&mut self.streams, self.near, id, stream);
         }
     }
 

@@ -4,10 +4,11 @@ use Rattle.position.specs.Boundaries.{pos_by}
 use Rattle.position.proofs.Boundaries.{pos-push}
 use Rattle.circular_buffer.specs.Buffer.{Buffer}
 use Rattle.rs_frame.specs.Framed.{framed}
-use Rattle.replay_buffer.specs.Marked.{IsMarked}
+use Rattle.replay_buffer.specs.Marked.{IsAt, IsMarked}
 use Rattle.replay_buffer.specs.Stored.{Stored, end_of}
 use Rattle.replay_buffer.specs.Storage.{all_of}
 use Rattle.replay_buffer.proofs.Known.{known}
+use Rattle.replay_buffer.proofs.Marked.{at-push}
 use Rattle.replay_buffer.proofs.Shown.{shows, same_stored}
 use Rattle.replay_buffer.proofs.Stored.{Reads, Stores-append, length-framed}
 use Rattle.replay_buffer.proofs.store.Store.append.Goals as goal
@@ -39,6 +40,7 @@ invariant_of-self c =
       top = omega (arith, (shows r s).end, ap end_of c.self.view_is, c.requires.top);
       passed = omega (arith, more, s.passed);
       first = omega (arith, s.first, ap (λ fs. pos_by length (take r.passed fs)) reads.same, ap (pos_by length) (take-append-le r.passed (all_of r) (frame ∷ []) s.passed));
+      near = subst (λ l. IsAt r.floor l r.near) (sym reads.same) (at-push r.floor (all_of r) frame r.near s.near);
       spare_of_bytes = omega (arith, s.spare_of_bytes, ap length bytes ∙ length-append r.bytes.items (framed frame), length-framed frame, ap (λ (b : Buffer ℕ). b.capacity) c.put_framed.ensures, few, some, c.requires.spare.0, c.requires.spare.1);
       spare_of_frames = c.append.ensures.room (r.spare_frames - 1) (omega (arith, s.spare_of_frames, few, c.requires.spare.0));
     }
