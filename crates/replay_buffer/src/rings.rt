@@ -112,8 +112,8 @@ pub fn make_room_framed(
         .checked_mul(3)
         .and_then(|lengths| lengths.checked_add(bytes))
         .ok_or(OutOfMemory)?;
-    // An eighth more than their bytes is enough for the lengths of frames of 24 bytes.
-    let likely = hold.saturating_add(hold / 8) as usize;
+    // A seventh more than their bytes is enough for the lengths of frames of 21 bytes.
+    let likely = hold.saturating_add(hold / 7) as usize;
     make_room(ring, framed, SOME_BYTES, likely)
 }
 
