@@ -96,16 +96,34 @@ fn take_all(rt: &impl Print, alloc: Global, server: &mut End, bytes: &[u8]) -> R
     Ok(())
 }
 
+// The whole session, between two ends at which nothing happened yet.
+fn run_between(rt: &impl Print, alloc: Global, client: &mut End, server: &mut End) -> Result<()>
+    requires { client.old.session.settings.side ≡ Client }
+{
+    let crossed = begin(rt, alloc, client)?;
+    receive(rt, alloc, "server", server, &crossed)?;
+    disconnect(rt, "client", client)?;
+    disconnect(rt, "server", server)?;
+    let resume = ask_to_resume(rt, alloc, client)?;
+    let accepted = agree(rt, alloc, server, &resume)?;
+    let again = go_on(rt, alloc, client, &accepted)?;
+    take_all(rt, alloc, server, &again)
+}
+
+// The same, of a client and a new server.
+fn run_with(rt: &impl Print, alloc: Global, client: &mut End) -> Result<()>
+    requires { client.old.session.settings.side ≡ Client }
+{
+    let mut server = new_end(alloc, Side::Server)?;
+    let ran = run_between(rt, alloc, client, &mut server);
+    drop(server);
+    ran
+}
+
 /// The whole example.
 pub fn run(rt: &impl Print, alloc: Global) -> Result<()> {
     let mut client = new_end(alloc, Side::Client)?;
-    let mut server = new_end(alloc, Side::Server)?;
-    let crossed = begin(rt, alloc, &mut client)?;
-    receive(rt, alloc, "server", &mut server, &crossed)?;
-    disconnect(rt, "client", &mut client)?;
-    disconnect(rt, "server", &mut server)?;
-    let resume = ask_to_resume(rt, alloc, &mut client)?;
-    let accepted = agree(rt, alloc, &mut server, &resume)?;
-    let again = go_on(rt, alloc, &mut client, &accepted)?;
-    take_all(rt, alloc, &mut server, &again)
+    let ran = run_with(rt, alloc, &mut client);
+    drop(client);
+    ran
 }

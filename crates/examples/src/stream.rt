@@ -80,9 +80,20 @@ fn run_between(rt: &impl Print, alloc: Global, client: &mut End, server: &mut En
     take_rest(rt, alloc, client, &last)
 }
 
+// The same, of a client and a new server.
+fn run_with(rt: &impl Print, alloc: Global, client: &mut End) -> Result<()>
+    requires { client.old.session.settings.side ≡ Client }
+{
+    let mut server = server(alloc)?;
+    let ran = run_between(rt, alloc, client, &mut server);
+    drop(server);
+    ran
+}
+
 /// The whole example.
 pub fn run(rt: &impl Print, alloc: Global) -> Result<()> {
     let mut client = client(alloc)?;
-    let mut server = server(alloc)?;
-    run_between(rt, alloc, &mut client, &mut server)
+    let ran = run_with(rt, alloc, &mut client);
+    drop(client);
+    ran
 }
