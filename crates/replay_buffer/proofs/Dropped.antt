@@ -25,6 +25,7 @@ without_front r bytes marks near floor left = record {
   first = r.first;
   end = r.end;
   near = near;
+  block = r.block;
   spare_frames = r.spare_frames;
   spare_bytes = r.spare_bytes;
 }

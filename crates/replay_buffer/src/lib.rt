@@ -14,14 +14,16 @@
 //! bytes are held), and [`Replay::copy`] gives the readable frames as they go onto a stream, each
 //! after its length ([`held_of_made`]). No frame is forgotten sooner or later. The frames lie in a
 //! ring of bytes, and the positions where some of them start in another. A small ring doubles, a
-//! larger one grows by a sixteenth, and one that has come to a quarter of `hold` gets room for all
-//! of it; where a quarter of its room would do, the rest is given back. Only [`Replay::reserve`]
-//! takes memory.
+//! larger one grows by a twenty-fifth, and one that has come to a quarter of `hold` gets room for all
+//! of it: memory that nothing was written to is not used. Where more of that is written to than the
+//! frames take, since the oldest are let go, it is moved once to room that fits; where a quarter of
+//! its room would do, the rest is given back. Only [`Replay::reserve`] takes memory.
 //!
 //! It leaves out which frames are resumable, how they are spelled, and whether a peer's position
 //! may be believed.
 #![tactic(auto)]
 
+mod block;
 mod laws;
 mod marks;
 mod passing;

@@ -5,7 +5,7 @@ ghost use Rattle.position.specs.Boundaries.{pos_by};
 ghost use Rattle.circular_buffer.specs.Buffer.{buffer};
 ghost use Rattle.replay_buffer.specs.Marked.{Counts, HasRoom, IsAt, IsMarked};
 
-use crate::rings::{at, count_up_to, drop_front, make_room, push};
+use crate::rings::{Growth, at, count_up_to, drop_front, make_room, push};
 use circular_buffer::HeapCircularBuffer;
 use rs_wire::OutOfMemory;
 use std::alloc::Global;
@@ -121,7 +121,12 @@ impl Marks {
         if self.suits(spare) {
             return Ok(());
         }
-        make_room(&mut self.starts, 1 + spare / EVERY, SOME_MARKS, 0)
+        make_room(
+            &mut self.starts,
+            1 + spare / EVERY,
+            SOME_MARKS,
+            Growth::Step,
+        )
     }
 
     /// Appends a frame that starts at the position.

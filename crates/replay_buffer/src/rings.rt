@@ -13,11 +13,23 @@ use rs_wire::OutOfMemory;
 const SOME_BYTES: usize = 4_096;
 
 /// A large ring grows by this part of what is wanted: what it has room for beyond that is at most a
-/// sixteenth, and each item is moved some sixteen times while the ring grows, once in its life.
-const PART: usize = 16;
+/// twenty-fifth, and each item is moved some 25 times while the ring grows, once in its life.
+const PART: usize = 25;
 
 /// A small ring doubles, up to steps of so many times the fewest items.
 const STEPS: usize = 8;
+
+/// How a ring gets another room.
+#[derive(Debug, Clone, Copy)]
+pub enum Growth {
+    /// Where there is no room, it grows by a step.
+    Step,
+    /// It grows by a step too, but to room for so many items at once, where a quarter of them or more
+    /// is wanted: so it is moved no more, and memory that nothing was written to yet is not used.
+    Leap(usize),
+    /// Where a step from what is wanted comes to less room than there is, the rest is given back.
+    Fit,
+}
 
 /// The capacity of a ring that is to have room for so many items: as many more as a small ring has,
 /// and a part of a large one, but some at least.
@@ -45,33 +57,33 @@ fn move_over<T: Copy + Drop>(
     Ok(())
 }
 
-// Gives the ring a capacity of `wanted` items or more, which has to hold the items. A ring that has come
-// to a quarter of what it is likely to come to gets room for that at once, so that it is moved no more:
-// memory that nothing was written to yet is not used.
+// Gives the ring a capacity of `wanted` items or more, which has to hold the items.
 fn grow<T: Copy + Drop>(
     ring: &mut HeapCircularBuffer<T>,
     wanted: usize,
     least: usize,
-    likely: usize,
+    growth: Growth,
 ) -> Result<(), OutOfMemory>
     requires { length ring.old.items ≤ wanted }
     ensures items { ring.new.items ≡ ring.old.items }
     ensures room { OnOk result (wanted ≤ ring.new.capacity) }
     ensures err { OnErr result (ring.new ≡ ring.old) }
 {
-    if likely / 4 <= wanted && wanted <= likely && move_over(ring, likely).is_ok() {
-        return Ok(());
+    if let Growth::Leap(likely) = growth {
+        if likely / 4 <= wanted && wanted <= likely && move_over(ring, likely).is_ok() {
+            return Ok(());
+        }
     }
     move_over(ring, grown(wanted, least))
 }
 
-/// Makes room for `count` items more, in a ring that is likely to come to `likely` items. What a ring
-/// has room for beyond four times what is wanted is given back.
+/// Makes room for `count` items more. What a ring has room for beyond four times what is wanted is
+/// given back.
 pub fn make_room<T: Copy + Drop>(
     ring: &mut HeapCircularBuffer<T>,
     count: usize,
     least: usize,
-    likely: usize,
+    growth: Growth,
 ) -> Result<(), OutOfMemory>
     ensures items { ring.new.items ≡ ring.old.items }
     ensures room { OnOk result (length ring.new.items + count ≤ ring.new.capacity) }
@@ -80,22 +92,26 @@ pub fn make_room<T: Copy + Drop>(
     let wanted = ring.len().checked_add(count).ok_or(OutOfMemory)?;
     let capacity = ring.capacity();
     if wanted > capacity {
-        return grow(ring, wanted, least, likely);
+        return grow(ring, wanted, least, growth);
     }
-    if wanted.saturating_add(least) < capacity / 4 && grown(wanted, least) < capacity / 4 {
+    let enough = match growth {
+        Growth::Fit => capacity,
+        Growth::Step | Growth::Leap(_) => capacity / 4,
+    };
+    if wanted.saturating_add(least) < enough && grown(wanted, least) < enough {
         // Where there is no memory for the smaller block, the larger one stays.
         let _moved = move_over(ring, grown(wanted, least));
     }
     Ok(())
 }
 
-/// Makes room for the frames to come, of so many bytes in sum, each after its length, in a ring whose
-/// frames are likely to come to `hold` bytes. Where there is room, and not far more, it is left as it is.
+/// Makes room for the frames to come, of so many bytes in sum, each after its length. Where there is
+/// room, and not far more, the ring is left as it is, but for [`Growth::Fit`].
 pub fn make_room_framed(
     ring: &mut HeapCircularBuffer<u8>,
     frames: usize,
     bytes: usize,
-    hold: u64,
+    growth: Growth,
 ) -> Result<(), OutOfMemory>
     ensures items { ring.new.items ≡ ring.old.items }
     ensures room { OnOk result
@@ -104,17 +120,16 @@ pub fn make_room_framed(
 {
     let capacity = ring.capacity();
     let free = capacity - ring.len();
+    let suits = bytes <= free / 2 && frames <= free / 8 && capacity / 4 <= ring.len() + SOME_BYTES;
     // Half of what is free, and 3 bytes for each eighth of it, are less than all of it.
-    if bytes <= free / 2 && frames <= free / 8 && capacity / 4 <= ring.len() + SOME_BYTES {
+    if suits && !matches!(growth, Growth::Fit) {
         return Ok(());
     }
     let framed = frames
         .checked_mul(3)
         .and_then(|lengths| lengths.checked_add(bytes))
         .ok_or(OutOfMemory)?;
-    // A seventh more than their bytes is enough for the lengths of frames of 21 bytes.
-    let likely = hold.saturating_add(hold / 7) as usize;
-    make_room(ring, framed, SOME_BYTES, likely)
+    make_room(ring, framed, SOME_BYTES, growth)
 }
 
 /// How many of the positions, none of which is below the one before, are at most `position`.

@@ -8,6 +8,7 @@ ghost use Rattle.replay_buffer.specs.Held.{HasSpare, spare_after, spare_for};
 ghost use Rattle.replay_buffer.specs.Marked.{IsAt};
 ghost use Rattle.replay_buffer.specs.Stored.{IsStart, IsTrimmed, end_of, first_after, floor_of, frames_of, framed_from, held_from, nothing_stored};
 
+use crate::block::Block;
 use crate::marks::{Marks, Place, Spot};
 use crate::rings::{copy_after, drop_front, make_room_framed, number_at, put_framed, put_pieces};
 use circular_buffer::HeapCircularBuffer;
@@ -33,6 +34,8 @@ pub struct Store {
     end: u64,
     // Where one of the frames starts, or the newest one ended, that is likely to be looked for next.
     near: Spot,
+    // How the bytes are to grow.
+    block: Block,
     // How many frames may be kept before more has to be reserved, and their bytes in sum.
     spare_frames: usize,
     spare_bytes: usize,
@@ -48,6 +51,12 @@ impl Model for Store {
     ghost view = { stored_of };
 
     ghost invariant = { IsStored };
+}
+
+// What frames of so many bytes are likely to take with their lengths: a seventh more is enough where
+// they have 21 bytes each.
+fn framed_of(hold: u64) -> usize {
+    hold.saturating_add(hold / 7) as usize
 }
 
 impl Store {
@@ -66,6 +75,7 @@ impl Store {
                 index: 0,
                 position: 0,
             },
+            block: Block::Stepped,
             spare_frames: 0,
             spare_bytes: 0,
         })
@@ -81,7 +91,14 @@ impl Store {
         let frames = frames.max(self.spare_frames);
         let bytes = bytes.max(self.spare_bytes);
         self.marks.reserve(frames)?;
-        make_room_framed(&mut self.bytes, frames, bytes, hold)?;
+        let capacity = self.bytes.capacity();
+        let likely = framed_of(hold);
+        let growth = self.block.growth(self.floor, self.end, capacity, likely);
+        make_room_framed(&mut self.bytes, frames, bytes, growth)?;
+        let resized = self.bytes.capacity();
+        if resized != capacity {
+            self.block = self.block.resized(capacity, resized, likely, self.floor);
+        }
         self.spare_frames = frames;
         self.spare_bytes = bytes;
         Ok(())
