@@ -18,15 +18,22 @@ pub enum Block {
     Fitted,
 }
 
+// What frames of so many bytes are likely to take with their lengths: a seventh more is enough where
+// they have 21 bytes each.
+fn framed_of(hold: u64) -> usize {
+    hold.saturating_add(hold / 7) as usize
+}
+
 impl Block {
     /// How the block is to grow. `floor` and `end` are the positions where the oldest frame in it starts
-    /// and where the newest one ended, `capacity` its bytes, `likely` what all frames are likely to take.
+    /// and where the newest one ended, `capacity` its bytes, and `hold` what all frames are likely to come
+    /// to.
     ///
     /// A block that leapt is written to up to its end, and from its beginning again. It is to fit before
     /// more of it has been written to than a fifth beyond what lies in it.
-    pub fn growth(self, floor: u64, end: u64, capacity: usize, likely: usize) -> Growth {
+    pub fn growth(self, floor: u64, end: u64, capacity: usize, hold: u64) -> Growth {
         match self {
-            Block::Stepped => Growth::Leap(likely),
+            Block::Stepped => Growth::Leap(framed_of(hold)),
             Block::Fitted => Growth::Step,
             Block::Leapt { since } => {
                 let stored = end.saturating_sub(floor);
@@ -40,14 +47,17 @@ impl Block {
 
     /// The block once its bytes changed from `before` to `after`. One of which three quarters were given
     /// back begins anew.
-    pub fn resized(self, before: usize, after: usize, likely: usize, floor: u64) -> Block {
+    pub fn resized(self, before: usize, after: usize, hold: u64, floor: u64) -> Block {
+        if after == before {
+            return self;
+        }
         if after < before / 4 {
             return Block::Stepped;
         }
         if after < before {
             return Block::Fitted;
         }
-        if after == likely {
+        if after == framed_of(hold) {
             return Block::Leapt { since: floor };
         }
         self

@@ -28,6 +28,14 @@ pub struct Spot {
 }
 
 impl Spot {
+    /// The frame of this index, which starts at the position.
+    #[inline(always)]
+    pub fn new(index: usize, position: u64) -> Spot
+        ensures { result ≡ record { index = index; position = position } }
+    {
+        Spot { index, position }
+    }
+
     /// The same place once the first `count` frames are gone, so that the first one left starts at
     /// `floor`; that one, where the place lay before it.
     pub fn without_front(self, count: usize, floor: u64) -> Spot

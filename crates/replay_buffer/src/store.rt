@@ -53,12 +53,6 @@ impl Model for Store {
     ghost invariant = { IsStored };
 }
 
-// What frames of so many bytes are likely to take with their lengths: a seventh more is enough where
-// they have 21 bytes each.
-fn framed_of(hold: u64) -> usize {
-    hold.saturating_add(hold / 7) as usize
-}
-
 impl Store {
     /// Nothing is stored: the first frame will start at position 0.
     pub fn new(alloc: Global) -> Result<Store, OutOfMemory>
@@ -71,10 +65,7 @@ impl Store {
             passed: 0,
             first: 0,
             end: 0,
-            near: Spot {
-                index: 0,
-                position: 0,
-            },
+            near: Spot::new(0, 0),
             block: Block::Stepped,
             spare_frames: 0,
             spare_bytes: 0,
@@ -92,13 +83,10 @@ impl Store {
         let bytes = bytes.max(self.spare_bytes);
         self.marks.reserve(frames)?;
         let capacity = self.bytes.capacity();
-        let likely = framed_of(hold);
-        let growth = self.block.growth(self.floor, self.end, capacity, likely);
+        let growth = self.block.growth(self.floor, self.end, capacity, hold);
         make_room_framed(&mut self.bytes, frames, bytes, growth)?;
-        let resized = self.bytes.capacity();
-        if resized != capacity {
-            self.block = self.block.resized(capacity, resized, likely, self.floor);
-        }
+        let now = self.bytes.capacity();
+        self.block = self.block.resized(capacity, now, hold, self.floor);
         self.spare_frames = frames;
         self.spare_bytes = bytes;
         Ok(())
@@ -196,10 +184,7 @@ impl Store {
         } }
         ensures rises { self.old.first < self.new.first }
     {
-        let oldest = Spot {
-            index: self.passed,
-            position: self.first,
-        };
+        let oldest = Spot::new(self.passed, self.first);
         self.first = self.end_after(oldest);
         self.passed += 1;
     }
@@ -281,10 +266,7 @@ impl Store {
         if self.near.position == position {
             return self.near;
         }
-        let oldest = Spot {
-            index: self.passed,
-            position: self.first,
-        };
+        let oldest = Spot::new(self.passed, self.first);
         self.marks
             .before(self.floor, position)
             .or_later(oldest, position)

@@ -9,6 +9,8 @@ mod fragments;
 #[cfg(test)]
 mod handling;
 #[cfg(test)]
+mod joining;
+#[cfg(test)]
 mod leases;
 #[cfg(test)]
 mod links;

@@ -1,7 +1,7 @@
-use Rattle.std.proofs.Common.{◌+◌, length, take, refl, ap, arith}
+use Rattle.std.proofs.Common.{◌≡◌, ◌+◌, length, take, refl, subst, ap, arith}
 use Rattle.position.specs.Boundaries.{pos_by}
 use Rattle.replay_buffer.specs.Storage.{all_of}
-use Rattle.replay_buffer.specs.Stored.{frames_of}
+use Rattle.replay_buffer.specs.Stored.{floor_of, frames_of}
 use Rattle.replay_buffer.proofs.Boundaries.{rising_more}
 use Rattle.replay_buffer.proofs.Known.{known, some_held}
 use Rattle.replay_buffer.proofs.Shown.{same_stored, next}
@@ -17,7 +17,8 @@ returns-clause-passed c =
     let r = c.self.inside in
     let k = known _ _ c.self.invariant c.self.view_is in
     let n = next (all_of r) r.passed in
-    rw (← c.self.view_is) (same_stored _ _ (omega (arith, c.end_after-self-inside.ensures, k.floor, ap (λ l. pos_by length (take (r.passed + 1) l)) k.frames, n.sum, c.self.invariant.first)) n.taken n.left refl)
+    let end = subst (λ s. c.end_after-self-inside.result ≡ floor_of c.args.self.now + pos_by length (take (s.index + 1) (frames_of c.args.self.now))) c.new-oldest.ensures c.end_after-self-inside.ensures in
+    rw (← c.self.view_is) (same_stored _ _ (omega (arith, end, k.floor, ap (λ l. pos_by length (take (r.passed + 1) l)) k.frames, n.sum, c.self.invariant.first)) n.taken n.left refl)
 
 pub returns-clause-rises : goal.returns-clause-rises
 returns-clause-rises c =
@@ -25,4 +26,5 @@ returns-clause-rises c =
     let r = c.self.inside in
     let k = known _ _ c.self.invariant c.self.view_is in
     let up = rising_more (frames_of v) r.passed k.longer (some_held r v c.self.view_is k c.requires) in
-    omega (arith, c.end_after-self-inside.ensures, k.first, up, (next (frames_of v) r.passed).same)
+    let end = subst (λ s. c.end_after-self-inside.result ≡ floor_of v + pos_by length (take (s.index + 1) (frames_of v))) c.new-oldest.ensures c.end_after-self-inside.ensures in
+    omega (arith, end, k.first, up, (next (frames_of v) r.passed).same)
