@@ -4,18 +4,22 @@
 //! The first word says what: `lock`, `conn`, `pump` or `edge`. With a word after it, as `times`, what is
 //! printed are nanoseconds; with none it is what a short run leaves, which is always the same. With
 //! no word at all there is a short run of each.
+//!
+//! `held` with the number of a row lets a replay buffer hold what the row says, until the input ends.
 #![tactic(auto)]
 
 mod asks;
 mod calls;
 mod edges;
 mod end;
+mod held;
 mod locks;
 mod pumps;
 mod sessions;
 mod times;
 
 use anyhow::{Context, Result};
+use outside::StdSource;
 use std::alloc::Global;
 use std::env;
 use std::io::Print;
@@ -81,8 +85,14 @@ fn main(rt: HostRuntime) -> Result<ExitCode> {
         for bench in ALL {
             bench.run(rt, alloc, false)?;
         }
+        held::run(&rt, alloc)?;
         return Ok(ExitCode::SUCCESS);
     };
+    if name.as_str() == "held" {
+        let number = words.next().context("the number of a row is missing")?;
+        held::hold(&rt, alloc, &number, &mut StdSource::new(rt.stdin()))?;
+        return Ok(ExitCode::SUCCESS);
+    }
     let Some(bench) = Bench::named(&name) else {
         eprintln!(rt; "session_bench: cannot time {name:?}, only lock, conn, pump and edge")?;
         return Ok(ExitCode::from(USAGE));

@@ -1,0 +1,100 @@
+//! Lets a replay buffer hold frames, and waits, so that the memory that it takes can be looked at from
+//! outside.
+//!
+//! It prints what it holds once it has made so many bytes, of which all but the newest were
+//! acknowledged, and ends when its input does.
+
+use anyhow::{Context, Result, bail};
+use outside::{Read, Source, StdSource};
+use replay_buffer::Replay;
+use rs_wire::OutOfMemory;
+use std::alloc::Global;
+use std::io::Print;
+
+/// A frame, or the beginning of one.
+const FRAME: &[u8] = &[0x5a; 1_000];
+
+/// How many bytes may be held, in the rows that are looked at.
+const HOLD: u64 = 134_217_728;
+
+/// No row makes more bytes.
+const MOST: u64 = 1_000_000_000_000;
+
+/// How many bytes may be held, and how many are, of frames of so many bytes, once so many were made:
+/// older ones are acknowledged.
+type Row = (u64, u64, usize, u64);
+
+/// The first is what the others are compared with.
+const ROWS: &[Row] = &[
+    (HOLD, 1_000, 1_000, 1_000_000),
+    (HOLD, 40_000_000, 1_000, 1_500_000_000),
+    (HOLD, 40_000_000, 22, 600_000_000),
+    (HOLD, 120_000_000, 22, 800_000_000),
+    (HOLD, HOLD, 1_000, 3_000_000_000),
+    (HOLD, HOLD, 22, 800_000_000),
+    (HOLD, 40_000_000, 6, 200_000_000),
+];
+
+/// What a short run holds.
+const FEW: Row = (4_096, 2_000, 100, 100_000);
+
+// Keeps a frame, and acknowledges what is held beyond so many bytes. A frame that can't be kept is
+// passed over.
+fn keep_one(replay: &mut Replay, frame: &[u8], held: u64) -> Result<(), OutOfMemory> {
+    if frame.len() < 6 || frame.len() > FRAME.len() || replay.end() > MOST {
+        return Ok(());
+    }
+    replay.reserve(1, frame.len())?;
+    replay.keep(frame);
+    let acknowledged = replay.end().saturating_sub(held);
+    if replay.first() < acknowledged {
+        replay.release(acknowledged);
+    }
+    Ok(())
+}
+
+// Makes the frames of a row.
+fn make(alloc: Global, row: Row) -> Result<Replay, OutOfMemory> {
+    let (hold, held, length, made) = row;
+    let mut replay = Replay::new(alloc, hold)?;
+    let frame = &FRAME[..length.min(FRAME.len())];
+    for _ in 0..made {
+        if replay.end() >= made {
+            break;
+        }
+        keep_one(&mut replay, frame, held)?;
+    }
+    Ok(replay)
+}
+
+// Tells what is held.
+fn tell(rt: &impl Print, row: Row, replay: &Replay) -> Result<()> {
+    let (hold, _, length, _) = row;
+    let end = replay.end();
+    let held = end.saturating_sub(replay.first());
+    println!(rt; "held {held} of {hold} bytes {length} made {end}")?;
+    Ok(())
+}
+
+/// A short run.
+pub fn run(rt: &impl Print, alloc: Global) -> Result<()> {
+    let replay = make(alloc, FEW)?;
+    let told = tell(rt, FEW, &replay);
+    drop(replay);
+    told
+}
+
+/// Lets what the row of this number says be held until the input ends.
+pub fn hold(rt: &impl Print, alloc: Global, number: &str, input: &mut StdSource) -> Result<()> {
+    let number = number.parse::<usize>().context("the row is no number")?;
+    let Some(row) = ROWS.get(number) else {
+        bail!("there is no such row");
+    };
+    let replay = make(alloc, *row)?;
+    let told = tell(rt, *row, &replay);
+    let mut buffer = [0; 1];
+    // Whatever comes, it is over.
+    let _over: Read = input.read(&mut buffer);
+    drop(replay);
+    told
+}
