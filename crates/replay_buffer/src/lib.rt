@@ -13,11 +13,11 @@
 //! starts at `first` of the crate `position` (the peer may still need it, and no more than `hold`
 //! bytes are held), and [`Replay::copy`] gives the readable frames as they go onto a stream, each
 //! after its length ([`held_of_made`]). No frame is forgotten sooner or later. The frames lie in a
-//! ring of bytes, and the positions where some of them start in another. A small ring doubles, a
-//! larger one grows by a twenty-fifth, and one that has come to a quarter of `hold` gets room for all
-//! of it: memory that nothing was written to is not used. Where more of that is written to than the
-//! frames take, since the oldest are let go, it is moved once to room that fits; where a quarter of
-//! its room would do, the rest is given back. Only [`Replay::reserve`] takes memory.
+//! ring of bytes, and the positions where some of them start in another. Where there is no room the
+//! ring of bytes leaps to several times what is wanted: memory that nothing was written to is not
+//! used. Where more of it is written to than the frames take, since the oldest are let go, they are
+//! moved to room that fits the most that lay there; where a quarter of what was written to would do,
+//! the rest is given back at once. Only [`Replay::reserve`] takes memory.
 //!
 //! It leaves out which frames are resumable, how they are spelled, and whether a peer's position
 //! may be believed.

@@ -109,13 +109,14 @@ impl Marks {
     }
 
     // Whether there is room for the marks of so many frames more, and not far more.
+    #[inline(always)]
     fn suits(&self, spare: usize) -> bool
         requires { Counts self.now }
         ensures { result ≡ true → HasRoom self.now spare }
     {
         let capacity = self.starts.capacity();
         let marked = self.starts.len();
-        spare / EVERY < capacity - marked && capacity / 4 <= marked + SOME_MARKS
+        spare / EVERY < capacity - marked && capacity / 2 <= marked + SOME_MARKS
     }
 
     /// Reserves memory for the marks of `spare` frames more.
@@ -133,7 +134,7 @@ impl Marks {
             &mut self.starts,
             1 + spare / EVERY,
             SOME_MARKS,
-            Growth::Step,
+            Growth::Fit(0),
         )
     }
 

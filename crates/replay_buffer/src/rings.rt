@@ -1,6 +1,6 @@
 //! Rings: how they grow, and what is read of them.
 
-ghost use Rattle.std.specs.Prelude.{◌≡◌, ◌+◌, ◌-◌, ◌*◌, ◌<◌, ◌≤◌, ◌++◌, ◌∷◌, [], ◌^◌, ℕ, OnErr, OnOk, drop, length, max, min, slice_index, take};
+ghost use Rattle.std.specs.Prelude.{◌≡◌, ◌+◌, ◌-◌, ◌*◌, ◌<◌, ◌≤◌, ◌++◌, ◌∷◌, [], ◌^◌, ℕ, OnErr, OnOk, drop, length, min, slice_index, take, true};
 ghost use Rattle.byteorder.specs.Endian.{big_number};
 ghost use Rattle.rs_frame.specs.Framed.{framed};
 
@@ -12,23 +12,30 @@ use rs_wire::OutOfMemory;
 /// The fewest bytes that a ring has room for beyond what is wanted, where it grows.
 const SOME_BYTES: usize = 4_096;
 
-/// A large ring grows by this part of what is wanted: what it has room for beyond that is at most a
-/// twenty-fifth, and each item is moved some 25 times while the ring grows, once in its life.
-const PART: usize = 25;
+/// A large ring that grows by a step grows by this part of what is wanted: what it has room for
+/// beyond that is at most a sixty-fourth.
+const PART: usize = 64;
 
 /// A small ring doubles, up to steps of so many times the fewest items.
 const STEPS: usize = 8;
 
+/// A ring that leaps gets room for so many times the items that are wanted: so each item is moved
+/// a third of a time on average while the ring grows.
+const LEAP: usize = 4;
+
+/// The fewest items that a ring leaps to. Allocators take a block of so many bytes from the system by
+/// itself, where it takes no memory before it is written to, and give it back there.
+const BLOCK: usize = 131_072;
+
 /// How a ring gets another room.
 #[derive(Debug, Clone, Copy)]
 pub enum Growth {
-    /// Where there is no room, it grows by a step.
-    Step,
-    /// It grows by a step too, but to room for so many items at once, where a quarter of them or more
-    /// is wanted: so it is moved no more, and memory that nothing was written to yet is not used.
+    /// Where there is no room, it gets several times what is wanted, or room for so many items, which
+    /// are all that is likely to be wanted. Memory that nothing was written to is not used.
     Leap(usize),
-    /// Where a step from what is wanted comes to less room than there is, the rest is given back.
-    Fit,
+    /// Where there is no room, it grows by a step; where a step from so many items, or from what is
+    /// wanted, comes to less room than there is, the rest is given back.
+    Fit(usize),
 }
 
 /// The capacity of a ring that is to have room for so many items: as many more as a small ring has,
@@ -38,6 +45,18 @@ fn grown(wanted: usize, least: usize) -> usize
 {
     let doubled = wanted.min(least.saturating_mul(STEPS));
     wanted.saturating_add((wanted / PART).max(doubled).max(least))
+}
+
+/// The capacity of a ring that leaps: several times what is wanted. It leaps to what is likely where
+/// that is at most twice as far.
+fn leapt(wanted: usize, likely: usize) -> usize
+    ensures { wanted ≤ result }
+{
+    let several = wanted.saturating_mul(LEAP).max(BLOCK);
+    if wanted <= likely && likely / 2 <= several {
+        return likely;
+    }
+    several
 }
 
 /// Moves the items to a block of another capacity, which has to hold them.
@@ -70,15 +89,14 @@ fn grow<T: Copy + Drop>(
     ensures err { OnErr result (ring.new ≡ ring.old) }
 {
     if let Growth::Leap(likely) = growth {
-        if likely / 4 <= wanted && wanted <= likely && move_over(ring, likely).is_ok() {
+        if wanted > least && move_over(ring, leapt(wanted, likely)).is_ok() {
             return Ok(());
         }
     }
     move_over(ring, grown(wanted, least))
 }
 
-/// Makes room for `count` items more. What a ring has room for beyond four times what is wanted is
-/// given back.
+/// Makes room for `count` items more.
 pub fn make_room<T: Copy + Drop>(
     ring: &mut HeapCircularBuffer<T>,
     count: usize,
@@ -94,19 +112,29 @@ pub fn make_room<T: Copy + Drop>(
     if wanted > capacity {
         return grow(ring, wanted, least, growth);
     }
-    let enough = match growth {
-        Growth::Fit => capacity,
-        Growth::Step | Growth::Leap(_) => capacity / 4,
-    };
-    if wanted.saturating_add(least) < enough && grown(wanted, least) < enough {
-        // Where there is no memory for the smaller block, the larger one stays.
-        let _moved = move_over(ring, grown(wanted, least));
+    if let Growth::Fit(most) = growth {
+        let less = grown(wanted.max(most), least);
+        if less < capacity {
+            // Where there is no memory for the smaller block, the larger one stays.
+            let _moved = move_over(ring, less);
+        }
     }
     Ok(())
 }
 
-/// Makes room for the frames to come, of so many bytes in sum, each after its length. Where there is
-/// room, and not far more, the ring is left as it is, but for [`Growth::Fit`].
+/// Whether there is plenty of room for the frames to come, of so many bytes in sum, each after its
+/// length.
+#[inline(always)]
+pub fn has_room(ring: &HeapCircularBuffer<u8>, frames: usize, bytes: usize) -> bool
+    ensures { result ≡ true →
+        length ring.now.items + (bytes + 3 * frames) ≤ ring.now.capacity }
+{
+    let free = ring.capacity() - ring.len();
+    // Half of what is free, and 3 bytes for each eighth of it, are less than all of it.
+    bytes <= free / 2 && frames <= free / 8
+}
+
+/// Makes room for the frames to come, of so many bytes in sum, each after its length.
 pub fn make_room_framed(
     ring: &mut HeapCircularBuffer<u8>,
     frames: usize,
@@ -118,13 +146,6 @@ pub fn make_room_framed(
         (length ring.new.items + (bytes + 3 * frames) ≤ ring.new.capacity) }
     ensures err { OnErr result (ring.new ≡ ring.old) }
 {
-    let capacity = ring.capacity();
-    let free = capacity - ring.len();
-    let suits = bytes <= free / 2 && frames <= free / 8 && capacity / 4 <= ring.len() + SOME_BYTES;
-    // Half of what is free, and 3 bytes for each eighth of it, are less than all of it.
-    if suits && !matches!(growth, Growth::Fit) {
-        return Ok(());
-    }
     let framed = frames
         .checked_mul(3)
         .and_then(|lengths| lengths.checked_add(bytes))

@@ -8,9 +8,9 @@ ghost use Rattle.replay_buffer.specs.Held.{HasSpare, spare_after, spare_for};
 ghost use Rattle.replay_buffer.specs.Marked.{IsAt};
 ghost use Rattle.replay_buffer.specs.Stored.{IsStart, IsTrimmed, end_of, first_after, floor_of, frames_of, framed_from, held_from, nothing_stored};
 
-use crate::block::Block;
+use crate::block::{Block, Span};
 use crate::marks::{Marks, Place, Spot};
-use crate::rings::{copy_after, drop_front, make_room_framed, number_at, put_framed, put_pieces};
+use crate::rings::{copy_after, drop_front, number_at, put_framed, put_pieces};
 use circular_buffer::HeapCircularBuffer;
 use rs_frame::Pieces;
 use rs_wire::OutOfMemory;
@@ -34,7 +34,7 @@ pub struct Store {
     end: u64,
     // Where one of the frames starts, or the newest one ended, that is likely to be looked for next.
     near: Spot,
-    // How the bytes are to grow.
+    // When the bytes are moved.
     block: Block,
     // How many frames may be kept before more has to be reserved, and their bytes in sum.
     spare_frames: usize,
@@ -66,7 +66,7 @@ impl Store {
             first: 0,
             end: 0,
             near: Spot::new(0, 0),
-            block: Block::Stepped,
+            block: Block::new(),
             spare_frames: 0,
             spare_bytes: 0,
         })
@@ -82,11 +82,12 @@ impl Store {
         let frames = frames.max(self.spare_frames);
         let bytes = bytes.max(self.spare_bytes);
         self.marks.reserve(frames)?;
-        let capacity = self.bytes.capacity();
-        let growth = self.block.growth(self.floor, self.end, capacity, hold);
-        make_room_framed(&mut self.bytes, frames, bytes, growth)?;
-        let now = self.bytes.capacity();
-        self.block = self.block.resized(capacity, now, hold, self.floor);
+        let span = Span {
+            floor: self.floor,
+            end: self.end,
+            hold,
+        };
+        self.block.make_room(&mut self.bytes, frames, bytes, span)?;
         self.spare_frames = frames;
         self.spare_bytes = bytes;
         Ok(())
@@ -205,6 +206,7 @@ impl Store {
     {
         self.passed = spot.index;
         self.first = spot.position;
+        self.block.look_soon();
     }
 
     /// Forgets the oldest frame, which is held no longer.

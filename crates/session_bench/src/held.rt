@@ -14,29 +14,41 @@ use std::io::Print;
 /// A frame, or the beginning of one.
 const FRAME: &[u8] = &[0x5a; 1_000];
 
-/// How many bytes may be held, in the rows that are looked at.
-const HOLD: u64 = 134_217_728;
+/// How many bytes may be held, in the rows of much.
+const MUCH: u64 = 134_217_728;
+
+/// How many bytes may be held where nothing else is set, in the other rows.
+const USUAL: u64 = 1_048_576;
 
 /// No row makes more bytes.
 const MOST: u64 = 1_000_000_000_000;
 
-/// How many bytes may be held, and how many are, of frames of so many bytes, once so many were made:
-/// older ones are acknowledged.
-type Row = (u64, u64, usize, u64);
+/// How many bytes may be held; how many are held while the first half is made, and how many from then
+/// on, of frames of so many bytes; and how many bytes are made. Older ones are acknowledged.
+type Row = (u64, u64, u64, usize, u64);
 
 /// The first is what the others are compared with.
 const ROWS: &[Row] = &[
-    (HOLD, 1_000, 1_000, 1_000_000),
-    (HOLD, 40_000_000, 1_000, 1_500_000_000),
-    (HOLD, 40_000_000, 22, 600_000_000),
-    (HOLD, 120_000_000, 22, 800_000_000),
-    (HOLD, HOLD, 1_000, 3_000_000_000),
-    (HOLD, HOLD, 22, 800_000_000),
-    (HOLD, 40_000_000, 6, 200_000_000),
+    (MUCH, 1_000, 1_000, 1_000, 1_000_000),
+    (MUCH, 40_000_000, 40_000_000, 1_000, 1_500_000_000),
+    (MUCH, 40_000_000, 40_000_000, 22, 600_000_000),
+    (MUCH, 120_000_000, 120_000_000, 22, 800_000_000),
+    (MUCH, MUCH, MUCH, 1_000, 3_000_000_000),
+    (MUCH, MUCH, MUCH, 22, 800_000_000),
+    (MUCH, 40_000_000, 40_000_000, 6, 200_000_000),
+    (MUCH, 40_000_000, 15_000_000, 22, 800_000_000),
+    (USUAL, 10_000, 10_000, 22, 10_000_000),
+    (USUAL, 50_000, 50_000, 22, 10_000_000),
+    (USUAL, 100_000, 100_000, 22, 10_000_000),
+    (USUAL, 200_000, 200_000, 22, 10_000_000),
+    (USUAL, 400_000, 400_000, 22, 10_000_000),
+    (USUAL, 800_000, 800_000, 22, 10_000_000),
+    (USUAL, USUAL, USUAL, 22, 10_000_000),
+    (USUAL, 800_000, 300_000, 22, 20_000_000),
 ];
 
 /// What a short run holds.
-const FEW: Row = (4_096, 2_000, 100, 100_000);
+const FEW: Row = (4_096, 2_000, 2_000, 100, 100_000);
 
 // Keeps a frame, and acknowledges what is held beyond so many bytes. A frame that can't be kept is
 // passed over.
@@ -55,24 +67,26 @@ fn keep_one(replay: &mut Replay, frame: &[u8], held: u64) -> Result<(), OutOfMem
 
 // Makes the frames of a row.
 fn make(alloc: Global, row: Row) -> Result<Replay, OutOfMemory> {
-    let (hold, held, length, made) = row;
+    let (hold, before, held, length, made) = row;
     let mut replay = Replay::new(alloc, hold)?;
     let frame = &FRAME[..length.min(FRAME.len())];
     for _ in 0..made {
-        if replay.end() >= made {
+        let end = replay.end();
+        if end >= made {
             break;
         }
+        let held = if end < made / 2 { before } else { held };
         keep_one(&mut replay, frame, held)?;
     }
     Ok(replay)
 }
 
-// Tells what is held.
+// Tells what is held, and what was before.
 fn tell(rt: &impl Print, row: Row, replay: &Replay) -> Result<()> {
-    let (hold, _, length, _) = row;
+    let (hold, before, _, length, _) = row;
     let end = replay.end();
     let held = end.saturating_sub(replay.first());
-    println!(rt; "held {held} of {hold} bytes {length} made {end}")?;
+    println!(rt; "held {held} of {hold} bytes {length} made {end} before {before}")?;
     Ok(())
 }
 
