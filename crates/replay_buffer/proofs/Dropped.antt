@@ -2,9 +2,9 @@
 use Rattle.std.proofs.Common.{◌≡◌, ℕ, ◌+◌, ◌-◌, ◌*◌, ◌<◌, ◌≤◌, ◌^◌, List, length, take, drop, refl, sym, ap, subst, ◌∙◌, arith}
 use Rattle.std.proofs.lemmas.List.{drop-drop, drop-take, length-drop, length-take, take-append-drop, take_all}
 use Rattle.byteorder.specs.Endian.{big_number}
-use Rattle.circular_buffer.specs.Buffer.{Buffer}
 use Rattle.position.specs.Boundaries.{frames_from_by, pos_by}
 use Rattle.position.proofs.Boundaries.{pos-append}
+use Rattle.replay_buffer.specs.Blocks.{Bytes}
 use Rattle.replay_buffer.specs.Marked.{HasRoom, IsAt, IsMarked}
 use Rattle.replay_buffer.specs.Stored.{IsTrimmed, floor_of}
 use Rattle.replay_buffer.specs.Storage.{IsStored, all_of, stored_of}
@@ -16,7 +16,7 @@ use Rattle.replay_buffer.proofs.Shown.{same_stored, shows}
 use Rattle.replay_buffer.proofs.Stored.{Stores-drop, few_frames, length-framed_all, measured}
 
 -- the fields without the first frames, where `left` of those are left that are held no longer
-abbrev pub without_front : Inside → Buffer ℕ → Marks → Spot → ℕ → ℕ → Inside
+abbrev pub without_front : Inside → Bytes → Marks → Spot → ℕ → ℕ → Inside
 without_front r bytes marks near floor left = record {
   bytes = bytes;
   marks = marks;
@@ -25,7 +25,6 @@ without_front r bytes marks near floor left = record {
   first = r.first;
   end = r.end;
   near = near;
-  block = r.block;
   spare_frames = r.spare_frames;
   spare_bytes = r.spare_bytes;
 }
@@ -36,7 +35,7 @@ pub record Dropped (r new : Inside) (k : ℕ) : Type 0 where
   pub same : stored_of new ≡ record (stored_of r) { below = take new.passed (all_of new) }
   pub below : take new.passed (all_of new) ≡ drop k (take r.passed (all_of r))
 
-pub dropped : (r : Inside) (bytes : Buffer ℕ) (marks : Marks) (near : Spot) (k size floor left : ℕ) → IsStored r → left + k ≡ r.passed
+pub dropped : (r : Inside) (bytes : Bytes) (marks : Marks) (near : Spot) (k size floor left : ℕ) → IsStored r → left + k ≡ r.passed
     → size ≡ pos_by length (take k (all_of r)) + 3 * k → floor ≡ r.floor + pos_by length (take k (all_of r))
     → bytes ≡ record r.bytes { items = drop size r.bytes.items } → marks.frames ≡ r.marks.frames - k
     → IsMarked (r.floor + pos_by length (take k (all_of r))) (drop k (all_of r)) marks → HasRoom marks r.spare_frames → IsAt floor (drop k (all_of r)) near
@@ -44,7 +43,7 @@ pub dropped : (r : Inside) (bytes : Buffer ℕ) (marks : Marks) (near : Spot) (k
 dropped r bytes marks near k size floor left s parts size_is floor_is bytes_are less marked room here =
     let fs = all_of r in
     let le : k ≤ length fs = omega (arith, s.passed, parts) in
-    let rest = ap (λ (b : Buffer ℕ). b.items) bytes_are in
+    let rest = ap (λ (b : Bytes). b.items) bytes_are in
     let now = Stores-drop marks.frames size r.bytes.items bytes.items fs k s.stored le (omega (arith, less, s.marked.count)) size_is rest in
     let sum = ap (pos_by length) (sym (take-append-drop k fs)) ∙ pos-append length (take k fs) (drop k fs) in
     let whole : k + left ≡ r.passed = omega (arith, parts) in
@@ -58,7 +57,7 @@ dropped r bytes marks near k size floor left s parts size_is floor_is bytes_are 
         passed = omega (arith, s.passed, ap length now.same, length-drop k fs, parts);
         first = omega (arith, s.first, first, ap (λ l. pos_by length (take left l)) now.same, floor_is);
         near = subst (λ l. IsAt floor l near) (sym now.same) here;
-        spare_of_bytes = omega (arith, s.spare_of_bytes, ap length rest, length-drop size r.bytes.items, ap (λ (b : Buffer ℕ). b.capacity) bytes_are);
+        spare_of_bytes = omega (arith, s.spare_of_bytes, ap (λ (b : Bytes). b.free) bytes_are);
         spare_of_frames = room;
       };
       frames = now.same;
@@ -67,7 +66,7 @@ dropped r bytes marks near k size floor left s parts size_is floor_is bytes_are 
     }
 
 -- what is left where all frames are forgotten that are held no longer
-pub freed : (r : Inside) (bytes : Buffer ℕ) (marks : Marks) (near : Spot) → IsStored r → Dropped r (without_front r bytes marks near r.first 0) r.passed
+pub freed : (r : Inside) (bytes : Bytes) (marks : Marks) (near : Spot) → IsStored r → Dropped r (without_front r bytes marks near r.first 0) r.passed
     → IsTrimmed (stored_of r) (stored_of (without_front r bytes marks near r.first 0)) r.first
 unfolding pos_by
 freed r bytes marks near s d =
@@ -131,7 +130,7 @@ pub record Popped (r new : Inside) : Type 0 where
   pub same : stored_of new ≡ record (stored_of r) { below = drop 1 (stored_of r).below }
   pub rises : floor_of (stored_of r) < floor_of (stored_of new)
 
-pub popped : (r : Inside) (bytes : Buffer ℕ) (marks : Marks) (near : Spot) (count : ℕ) → IsStored r → 0 < length (stored_of r).below → count ≡ big_number 3 (drop 0 r.bytes.items)
+pub popped : (r : Inside) (bytes : Bytes) (marks : Marks) (near : Spot) (count : ℕ) → IsStored r → 0 < length (stored_of r).below → count ≡ big_number 3 (drop 0 r.bytes.items)
     → bytes ≡ record r.bytes { items = drop (3 + count) r.bytes.items } → marks.frames ≡ r.marks.frames - 1
     → IsMarked (r.floor + pos_by length (take 1 (all_of r))) (drop 1 (all_of r)) marks → HasRoom marks r.spare_frames
     → (r.floor + count ≡ r.floor + pos_by length (take 1 (all_of r)) → IsAt (r.floor + count) (drop 1 (all_of r)) near)

@@ -5,7 +5,7 @@ pub mod Marked
 pub mod Forgotten
 pub mod HeldOf
 pub mod Shown
-pub mod Copied
+pub mod InBlocks
 pub mod Dropped
 pub mod Found
 pub mod Known

@@ -1,6 +1,7 @@
 -- What the fields show.
 use Rattle.std.proofs.Common.{◌≡◌, ℕ, ◌+◌, suc, List, [], ◌++◌, length, take, drop, refl, sym, ap, subst, ◌∙◌, arith}
-use Rattle.circular_buffer.specs.Buffer.{Buffer, buffer}
+use Rattle.circular_buffer.specs.Buffer.{buffer}
+use Rattle.replay_buffer.specs.Blocks.{Bytes}
 use Rattle.std.proofs.lemmas.List.{take-append-drop, drop-drop}
 use Rattle.std.proofs.Math.Seq.{take-add}
 use Rattle.std.proofs.Math.Numerals.{add-one}
@@ -8,7 +9,6 @@ use Rattle.position.specs.Boundaries.{pos_by}
 use Rattle.position.proofs.Boundaries.{pos-append}
 use Rattle.replay_buffer.specs.Stored.{Stored, end_of, floor_of, frames_of}
 use Rattle.replay_buffer.specs.Storage.{IsStored, all_of, stored_of}
-use Rattle.replay_buffer.specs.declared.block.Block.{Block}
 use Rattle.replay_buffer.specs.declared.marks.Marks.{Marks}
 use Rattle.replay_buffer.specs.declared.store.Store.TheInside.{Inside}
 
@@ -31,11 +31,11 @@ shows r s =
     }
 
 -- nothing is stored
-pub none : (bytes : Buffer ℕ) (marks : Marks) (block : Block) → bytes.items ≡ [] → marks ≡ record { starts = buffer [] 0; lead = 0; frames = 0 }
-    → IsStored (record { bytes = bytes; marks = marks; floor = 0; passed = 0; first = 0; end = 0; near = record { index = 0; position = 0 }; block = block; spare_frames = 0; spare_bytes = 0 })
+pub none : (bytes : Bytes) (marks : Marks) → bytes.items ≡ [] → marks ≡ record { starts = buffer [] 0; lead = 0; frames = 0 }
+    → IsStored (record { bytes = bytes; marks = marks; floor = 0; passed = 0; first = 0; end = 0; near = record { index = 0; position = 0 }; spare_frames = 0; spare_bytes = 0 })
 unfolding pos_by
-none bytes marks block b m =
-    subst (λ (n : Marks). IsStored (record { bytes = bytes; marks = n; floor = 0; passed = 0; first = 0; end = 0; near = record { index = 0; position = 0 }; block = block; spare_frames = 0; spare_bytes = 0 })) (sym m) (record {
+none bytes marks b m =
+    subst (λ (n : Marks). IsStored (record { bytes = bytes; marks = n; floor = 0; passed = 0; first = 0; end = 0; near = record { index = 0; position = 0 }; spare_frames = 0; spare_bytes = 0 })) (sym m) (record {
       stored = record { bytes_are = b; longer = tt; shorter = tt };
       marked = record { count = refl; starts = λ i lt. absurd (omega arith); reach = omega arith; tight = omega arith };
       end = omega arith;

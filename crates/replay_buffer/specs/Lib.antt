@@ -1,5 +1,6 @@
 pub mod Held
 pub mod Stored
 pub mod Marked
+pub mod Blocks
 pub mod Storage
 pub mod Pinned

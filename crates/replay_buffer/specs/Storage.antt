@@ -39,5 +39,5 @@ pub record IsStored (r : Inside) : Type 0 where
   pub passed : r.passed ≤ length (all_of r)
   pub first : r.first ≡ r.floor + pos_by length (take r.passed (all_of r))
   pub near : IsAt r.floor (all_of r) r.near
-  pub spare_of_bytes : length r.bytes.items + (r.spare_bytes + 3 * r.spare_frames) ≤ r.bytes.capacity
+  pub spare_of_bytes : r.spare_bytes + 3 * r.spare_frames ≤ r.bytes.free
   pub spare_of_frames : HasRoom r.marks r.spare_frames

@@ -12,18 +12,17 @@
 //! The promise to the layer above: where the frames kept are those made, what is held of them
 //! starts at `first` of the crate `position` (the peer may still need it, and no more than `hold`
 //! bytes are held), and [`Replay::copy`] gives the readable frames as they go onto a stream, each
-//! after its length ([`held_of_made`]). No frame is forgotten sooner or later. The frames lie in a
-//! ring of bytes, and the positions where some of them start in another. Where there is no room the
-//! ring of bytes leaps to several times what is wanted: memory that nothing was written to is not
-//! used. Where more of it is written to than the frames take, since the oldest are let go, they are
-//! moved to room that fits the most that lay there; where a quarter of what was written to would do,
-//! the rest is given back at once. Only [`Replay::reserve`] takes memory.
+//! after its length ([`held_of_made`]). No frame is forgotten sooner or later. The frames lie one after
+//! the other in blocks of 16 KiB, and the positions where some of them start in a ring. They are never
+//! moved: a block is made where room for it is reserved, and given back once all of its frames are
+//! forgotten. Only [`Replay::new`], which makes the first block, and [`Replay::reserve`] take memory.
 //!
 //! It leaves out which frames are resumable, how they are spelled, and whether a peer's position
 //! may be believed.
 #![tactic(auto)]
 
 mod block;
+mod blocks;
 mod laws;
 mod marks;
 mod passing;

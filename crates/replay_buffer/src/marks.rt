@@ -5,7 +5,7 @@ ghost use Rattle.position.specs.Boundaries.{pos_by};
 ghost use Rattle.circular_buffer.specs.Buffer.{buffer};
 ghost use Rattle.replay_buffer.specs.Marked.{Counts, HasRoom, IsAt, IsMarked};
 
-use crate::rings::{Growth, at, count_up_to, drop_front, make_room, push};
+use crate::rings::{at, count_up_to, drop_front, make_room, push};
 use circular_buffer::HeapCircularBuffer;
 use rs_wire::OutOfMemory;
 use std::alloc::Global;
@@ -14,7 +14,7 @@ use std::alloc::Global;
 /// mark fewer than so many lengths are read, in less time than the frames take to be copied.
 pub const EVERY: usize = 64;
 
-/// The fewest marks that there is room for beyond what is wanted, where their ring grows.
+/// So few marks don't pay for looking whether their ring has far more room.
 const SOME_MARKS: usize = 64;
 
 /// The index of a frame, and the position where it starts; or how many frames there are, and the
@@ -116,7 +116,7 @@ impl Marks {
     {
         let capacity = self.starts.capacity();
         let marked = self.starts.len();
-        spare / EVERY < capacity - marked && capacity / 2 <= marked + SOME_MARKS
+        spare / EVERY < capacity - marked && capacity / 4 <= marked + SOME_MARKS
     }
 
     /// Reserves memory for the marks of `spare` frames more.
@@ -130,12 +130,7 @@ impl Marks {
         if self.suits(spare) {
             return Ok(());
         }
-        make_room(
-            &mut self.starts,
-            1 + spare / EVERY,
-            SOME_MARKS,
-            Growth::Fit(0),
-        )
+        make_room(&mut self.starts, 1 + spare / EVERY)
     }
 
     /// Appends a frame that starts at the position.

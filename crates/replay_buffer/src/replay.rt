@@ -62,7 +62,7 @@ impl Replay {
             (self.new ≡ record self.old { spare = spare_for self.old.spare frames bytes }) }
         ensures err { OnErr result (self.new ≡ self.old) }
     {
-        self.store.reserve(frames, bytes, self.hold)
+        self.store.reserve(frames, bytes)
     }
 
     /// Appends a frame, without its length field, and forgets the oldest whole frames while more

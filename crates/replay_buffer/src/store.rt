@@ -1,6 +1,6 @@
 //! The frames that can be read: those that are held, and those before them.
 
-ghost use Rattle.std.specs.Prelude.{◌≡◌, ◌+◌, ◌-◌, ◌<◌, ◌^◌, ◌≤◌, ◌↔◌, ◌++◌, [], ◌∷◌, length, take, drop, min, IsTrue, OnOk, OnErr, IfOk, ℕ};
+ghost use Rattle.std.specs.Prelude.{◌≡◌, ◌+◌, ◌-◌, ◌*◌, ◌<◌, ◌^◌, ◌≤◌, ◌↔◌, ◌++◌, [], ◌∷◌, length, take, drop, min, IsTrue, OnOk, OnErr, IfOk, ℕ};
 ghost use Rattle.std.specs.List.{flat_map};
 ghost use Rattle.rs_frame.specs.Framed.{framed};
 ghost use Rattle.position.specs.Boundaries.{frames_from_by, pos_by};
@@ -8,10 +8,8 @@ ghost use Rattle.replay_buffer.specs.Held.{HasSpare, spare_after, spare_for};
 ghost use Rattle.replay_buffer.specs.Marked.{IsAt};
 ghost use Rattle.replay_buffer.specs.Stored.{IsStart, IsTrimmed, end_of, first_after, floor_of, frames_of, framed_from, held_from, nothing_stored};
 
-use crate::block::{Block, Span};
+use crate::blocks::Blocks;
 use crate::marks::{Marks, Place, Spot};
-use crate::rings::{copy_after, drop_front, number_at, put_framed, put_pieces};
-use circular_buffer::HeapCircularBuffer;
 use rs_frame::Pieces;
 use rs_wire::OutOfMemory;
 use std::alloc::Global;
@@ -22,7 +20,7 @@ use std::marker::Model;
 #[derive(Debug, Drop)]
 pub struct Store {
     // The frames, each after its 24-bit length.
-    bytes: HeapCircularBuffer<u8>,
+    bytes: Blocks,
     // How many frames these are, and where some of them start.
     marks: Marks,
     // The position where the oldest frame starts.
@@ -34,8 +32,6 @@ pub struct Store {
     end: u64,
     // Where one of the frames starts, or the newest one ended, that is likely to be looked for next.
     near: Spot,
-    // When the bytes are moved.
-    block: Block,
     // How many frames may be kept before more has to be reserved, and their bytes in sum.
     spare_frames: usize,
     spare_bytes: usize,
@@ -53,28 +49,37 @@ impl Model for Store {
     ghost invariant = { IsStored };
 }
 
+// How many bytes so many frames of so many bytes in sum have, each after its length.
+fn framed_len(frames: usize, bytes: usize) -> Result<usize, OutOfMemory>
+    ensures { IfOk result (λ n. n ≡ bytes + 3 * frames) }
+{
+    frames
+        .checked_mul(3)
+        .and_then(|lengths| lengths.checked_add(bytes))
+        .ok_or(OutOfMemory)
+}
+
 impl Store {
     /// Nothing is stored: the first frame will start at position 0.
     pub fn new(alloc: Global) -> Result<Store, OutOfMemory>
         ensures { IfOk result (λ store. store ≡ nothing_stored) }
     {
         Ok(Store {
-            bytes: HeapCircularBuffer::with_capacity(alloc, 0)?,
+            bytes: Blocks::new(alloc)?,
             marks: Marks::new(alloc)?,
             floor: 0,
             passed: 0,
             first: 0,
             end: 0,
             near: Spot::new(0, 0),
-            block: Block::new(),
             spare_frames: 0,
             spare_bytes: 0,
         })
     }
 
     /// Reserves memory for `frames` more frames, of `bytes` bytes in sum. What was reserved and not
-    /// used before counts. All frames are likely to come to `hold` bytes.
-    pub fn reserve(&mut self, frames: usize, bytes: usize, hold: u64) -> Result<(), OutOfMemory>
+    /// used before counts.
+    pub fn reserve(&mut self, frames: usize, bytes: usize) -> Result<(), OutOfMemory>
         ensures ok { OnOk result
             (self.new ≡ record self.old { spare = spare_for self.old.spare frames bytes }) }
         ensures err { OnErr result (self.new ≡ self.old) }
@@ -82,12 +87,7 @@ impl Store {
         let frames = frames.max(self.spare_frames);
         let bytes = bytes.max(self.spare_bytes);
         self.marks.reserve(frames)?;
-        let span = Span {
-            floor: self.floor,
-            end: self.end,
-            hold,
-        };
-        self.block.make_room(&mut self.bytes, frames, bytes, span)?;
+        self.bytes.reserve(framed_len(frames, bytes)?)?;
         self.spare_frames = frames;
         self.spare_bytes = bytes;
         Ok(())
@@ -129,7 +129,7 @@ impl Store {
           spare = spare_after self.old.spare (length frame.now);
         } }
     {
-        put_framed(&mut self.bytes, frame);
+        self.bytes.put_framed(frame);
         self.marks.append(self.end);
         self.end += frame.len() as u64;
         self.spare_frames -= 1;
@@ -148,7 +148,7 @@ impl Store {
           spare = spare_after self.old.spare (length (drop 3 bytes.now));
         } }
     {
-        put_pieces(&mut self.bytes, bytes);
+        self.bytes.put_pieces(bytes);
         let count = bytes.len() - 3;
         self.marks.append(self.end);
         self.end += count as u64;
@@ -172,7 +172,7 @@ impl Store {
             pos_by length (take (spot.index + 1) (frames_of self.now)) }
     {
         let before = (spot.position - self.floor) as usize + 3 * spot.index;
-        spot.position + number_at(&self.bytes, before) as u64
+        spot.position + self.bytes.number_at(before) as u64
     }
 
     /// Holds the oldest frame no longer. It can still be read.
@@ -206,7 +206,6 @@ impl Store {
     {
         self.passed = spot.index;
         self.first = spot.position;
-        self.block.look_soon();
     }
 
     /// Forgets the oldest frame, which is held no longer.
@@ -215,9 +214,9 @@ impl Store {
         ensures forgotten { self.new ≡ record self.old { below = drop 1 self.old.below } }
         ensures rises { floor_of self.old < floor_of self.new }
     {
-        let count = number_at(&self.bytes, 0);
+        let count = self.bytes.number_at(0);
         self.marks.drop_front(1);
-        drop_front(&mut self.bytes, 3 + count);
+        self.bytes.drop_front(3 + count);
         self.floor += count as u64;
         self.passed -= 1;
         self.near = self.near.without_front(1, self.floor);
@@ -228,7 +227,7 @@ impl Store {
         ensures { IsTrimmed self.old self.new self.old.first }
     {
         let size = (self.first - self.floor) as usize + 3 * self.passed;
-        drop_front(&mut self.bytes, size);
+        self.bytes.drop_front(size);
         self.marks.drop_front(self.passed);
         self.near = self.near.without_front(self.passed, self.first);
         self.floor = self.first;
@@ -353,7 +352,7 @@ impl Store {
             buffer.new ≡ take result (drop skip framed) ++ drop result buffer.old }
     {
         let before = self.bytes_before(from);
-        copy_after(&self.bytes, before + skip as usize, buffer)
+        self.bytes.copy_after(before + skip as usize, buffer)
     }
 
     /// The last start of a frame that the first `count` framed bytes from one on reach, and how many

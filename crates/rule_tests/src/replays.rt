@@ -117,7 +117,7 @@ fn keeps_and_reads(rt: &impl Abort, replay: &mut Replay, number: u32) {
 }
 
 #[test]
-fn reads_round_the_end_of_a_ring(rt: HostRuntime) {
+fn reads_across_blocks(rt: HostRuntime) {
     let mut replay = Replay::new(rt.alloc(), 24).expect(&rt, "there is memory");
     for number in 0..2000u32 {
         keeps_and_reads(&rt, &mut replay, number);

@@ -23,32 +23,48 @@ const USUAL: u64 = 1_048_576;
 /// No row makes more bytes.
 const MOST: u64 = 1_000_000_000_000;
 
-/// How many bytes may be held; how many are held while the first half is made, and how many from then
-/// on, of frames of so many bytes; and how many bytes are made. Older ones are acknowledged.
-type Row = (u64, u64, u64, usize, u64);
+/// How many bytes may be held, how many are held at the end, and how many in turn with that, of frames
+/// of so many bytes; how many bytes are made, and in how many stretches: in the last one and in every
+/// second one before it as many are held as at the end. Older ones are acknowledged.
+type Row = (u64, u64, u64, usize, u64, u64);
 
 /// The first is what the others are compared with.
 const ROWS: &[Row] = &[
-    (MUCH, 1_000, 1_000, 1_000, 1_000_000),
-    (MUCH, 40_000_000, 40_000_000, 1_000, 1_500_000_000),
-    (MUCH, 40_000_000, 40_000_000, 22, 600_000_000),
-    (MUCH, 120_000_000, 120_000_000, 22, 800_000_000),
-    (MUCH, MUCH, MUCH, 1_000, 3_000_000_000),
-    (MUCH, MUCH, MUCH, 22, 800_000_000),
-    (MUCH, 40_000_000, 40_000_000, 6, 200_000_000),
-    (MUCH, 40_000_000, 15_000_000, 22, 800_000_000),
-    (USUAL, 10_000, 10_000, 22, 10_000_000),
-    (USUAL, 50_000, 50_000, 22, 10_000_000),
-    (USUAL, 100_000, 100_000, 22, 10_000_000),
-    (USUAL, 200_000, 200_000, 22, 10_000_000),
-    (USUAL, 400_000, 400_000, 22, 10_000_000),
-    (USUAL, 800_000, 800_000, 22, 10_000_000),
-    (USUAL, USUAL, USUAL, 22, 10_000_000),
-    (USUAL, 800_000, 300_000, 22, 20_000_000),
+    (MUCH, 1_000, 1_000, 1_000, 1_000_000, 1),
+    (MUCH, 40_000_000, 40_000_000, 1_000, 1_500_000_000, 1),
+    (MUCH, 40_000_000, 40_000_000, 22, 600_000_000, 1),
+    (MUCH, 120_000_000, 120_000_000, 22, 800_000_000, 1),
+    (MUCH, MUCH, MUCH, 1_000, 3_000_000_000, 1),
+    (MUCH, MUCH, MUCH, 22, 800_000_000, 1),
+    (MUCH, 40_000_000, 40_000_000, 16, 400_000_000, 1),
+    (MUCH, 40_000_000, 40_000_000, 6, 200_000_000, 1),
+    (USUAL, 10_000, 10_000, 22, 10_000_000, 1),
+    (USUAL, 50_000, 50_000, 22, 10_000_000, 1),
+    (USUAL, 100_000, 100_000, 22, 10_000_000, 1),
+    (USUAL, 200_000, 200_000, 22, 10_000_000, 1),
+    (USUAL, 400_000, 400_000, 22, 10_000_000, 1),
+    (USUAL, 800_000, 800_000, 22, 10_000_000, 1),
+    (USUAL, USUAL, USUAL, 22, 10_000_000, 1),
+    (USUAL, 250_000, 50_000, 22, 20_000_000, 21),
+    (MUCH, 40_000_000, 1_000_000, 1_000, 2_000_000_000, 21),
+    (USUAL, 300_000, 800_000, 22, 20_000_000, 2),
+    (MUCH, 15_000_000, 40_000_000, 22, 800_000_000, 2),
 ];
 
 /// What a short run holds.
-const FEW: Row = (4_096, 2_000, 2_000, 100, 100_000);
+const FEW: Row = (4_096, 2_000, 2_000, 100, 100_000, 1);
+
+// How many bytes of a row are held once so many were made.
+fn held_at(row: Row, end: u64) -> u64 {
+    let (_, last, other, _, made, stretches) = row;
+    let newest = stretches.max(1) - 1;
+    let stretch = end / (made / stretches.max(1)).max(1);
+    if stretch.min(newest) % 2 == newest % 2 {
+        last
+    } else {
+        other
+    }
+}
 
 // Keeps a frame, and acknowledges what is held beyond so many bytes. A frame that can't be kept is
 // passed over.
@@ -67,7 +83,7 @@ fn keep_one(replay: &mut Replay, frame: &[u8], held: u64) -> Result<(), OutOfMem
 
 // Makes the frames of a row.
 fn make(alloc: Global, row: Row) -> Result<Replay, OutOfMemory> {
-    let (hold, before, held, length, made) = row;
+    let (hold, _, _, length, made, _) = row;
     let mut replay = Replay::new(alloc, hold)?;
     let frame = &FRAME[..length.min(FRAME.len())];
     for _ in 0..made {
@@ -75,18 +91,19 @@ fn make(alloc: Global, row: Row) -> Result<Replay, OutOfMemory> {
         if end >= made {
             break;
         }
-        let held = if end < made / 2 { before } else { held };
-        keep_one(&mut replay, frame, held)?;
+        keep_one(&mut replay, frame, held_at(row, end))?;
     }
     Ok(replay)
 }
 
-// Tells what is held, and what was before.
+// Tells what is held, and what was in turn with that.
 fn tell(rt: &impl Print, row: Row, replay: &Replay) -> Result<()> {
-    let (hold, before, _, length, _) = row;
+    let (hold, _, other, length, _, stretches) = row;
     let end = replay.end();
     let held = end.saturating_sub(replay.first());
-    println!(rt; "held {held} of {hold} bytes {length} made {end} before {before}")?;
+    println!(rt;
+        "held {held} of {hold} bytes {length} made {end} other {other} stretches {stretches}"
+    )?;
     Ok(())
 }
 

@@ -1,34 +1,33 @@
-use Rattle.std.proofs.Common.{ℕ, ◌≡◌, ◌+◌, ◌-◌, length, refl, sym, ap, subst, ◌∷◌, [], ◌++◌, ◌∙◌, take, drop, arith}
+use Rattle.std.proofs.Common.{◌≡◌, ◌+◌, ◌-◌, length, refl, sym, ap, subst, ◌∷◌, [], ◌++◌, ◌∙◌, take, drop, arith}
 use Rattle.std.proofs.lemmas.List.{length-append, take-append-le, drop-append-le}
 use Rattle.position.specs.Boundaries.{pos_by}
 use Rattle.position.proofs.Boundaries.{pos-push}
-use Rattle.circular_buffer.specs.Buffer.{Buffer}
-use Rattle.rs_frame.specs.Framed.{framed}
+use Rattle.replay_buffer.specs.Blocks.{Bytes}
 use Rattle.replay_buffer.specs.Marked.{IsAt, IsMarked}
 use Rattle.replay_buffer.specs.Stored.{Stored, end_of}
 use Rattle.replay_buffer.specs.Storage.{all_of}
 use Rattle.replay_buffer.proofs.Known.{known}
 use Rattle.replay_buffer.proofs.Marked.{at-push}
 use Rattle.replay_buffer.proofs.Shown.{shows, same_stored}
-use Rattle.replay_buffer.proofs.Stored.{Reads, Stores-append, length-framed}
+use Rattle.replay_buffer.proofs.Stored.{Reads, Stores-append}
 use Rattle.replay_buffer.proofs.store.Store.append.Goals as goal
 
 pub append-requires-clause-counts : goal.append-requires-clause-counts
 append-requires-clause-counts c = (known _ _ c.self.invariant c.self.view_is).counts
 
-all : (c : goal.After-self-3-1) → Reads c.append.new.self.frames c.put_framed.new.bytes.items (all_of c.self.inside ++ c.args.frame.now ∷ [])
+all : (c : goal.After-self-3-1) → Reads c.append.new.self.frames c.put_framed.new.self.items (all_of c.self.inside ++ c.args.frame.now ∷ [])
 all c =
     let r = c.self.inside in
     let s = c.self.invariant in
     let many : c.append.new.self.frames ≡ length (all_of r) + 1 = omega (arith, c.append.ensures.count, s.marked.count) in
-    Stores-append _ _ _ (all_of r) c.args.frame.now s.stored many (ap (λ (b : Buffer ℕ). b.items) c.put_framed.ensures) c.requires.shortest c.requires.longest
+    Stores-append _ _ _ (all_of r) c.args.frame.now s.stored many (ap (λ (b : Bytes). b.items) c.put_framed.ensures) c.requires.shortest c.requires.longest
 
 pub invariant_of-self : goal.invariant_of-self
 invariant_of-self c =
     let r = c.self.inside in
     let s = c.self.invariant in
     let frame = c.args.frame.now in
-    let bytes = ap (λ (b : Buffer ℕ). b.items) c.put_framed.ensures in
+    let bytes = ap (λ (b : Bytes). b.items) c.put_framed.ensures in
     let reads = all c in
     let more = ap length reads.same ∙ length-append (all_of r) (frame ∷ []) in
     let few = ap (λ (v : Stored). v.spare.frames) c.self.view_is in
@@ -41,7 +40,7 @@ invariant_of-self c =
       passed = omega (arith, more, s.passed);
       first = omega (arith, s.first, ap (λ fs. pos_by length (take r.passed fs)) reads.same, ap (pos_by length) (take-append-le r.passed (all_of r) (frame ∷ []) s.passed));
       near = subst (λ l. IsAt r.floor l r.near) (sym reads.same) (at-push r.floor (all_of r) frame r.near s.near);
-      spare_of_bytes = omega (arith, s.spare_of_bytes, ap length bytes ∙ length-append r.bytes.items (framed frame), length-framed frame, ap (λ (b : Buffer ℕ). b.capacity) c.put_framed.ensures, few, some, c.requires.spare.0, c.requires.spare.1);
+      spare_of_bytes = omega (arith, s.spare_of_bytes, ap (λ (b : Bytes). b.free) c.put_framed.ensures, few, some, c.requires.spare.0, c.requires.spare.1);
       spare_of_frames = c.append.ensures.room (r.spare_frames - 1) (omega (arith, s.spare_of_frames, few, c.requires.spare.0));
     }
 

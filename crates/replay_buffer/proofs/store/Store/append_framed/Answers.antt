@@ -2,7 +2,7 @@ use Rattle.std.proofs.Common.{ℕ, List, ◌≡◌, ◌+◌, ◌-◌, length, re
 use Rattle.std.proofs.lemmas.List.{length-append, length-drop, take-append-le, drop-append-le}
 use Rattle.position.specs.Boundaries.{pos_by}
 use Rattle.position.proofs.Boundaries.{pos-push}
-use Rattle.circular_buffer.specs.Buffer.{Buffer}
+use Rattle.replay_buffer.specs.Blocks.{Bytes}
 use Rattle.replay_buffer.specs.Marked.{IsAt, IsMarked}
 use Rattle.replay_buffer.specs.Stored.{Stored, end_of}
 use Rattle.replay_buffer.specs.Storage.{all_of}
@@ -25,11 +25,11 @@ append-requires-clause-counts c = (known _ _ c.self.invariant c.self.view_is).co
 size : (bytes : List ℕ) (n : ℕ) → n ≡ length bytes → n - 3 ≡ length (drop 3 bytes)
 size bytes n is = ap (λ k. k - 3) is ∙ sym (length-drop 3 bytes)
 
-all : (c : goal.After-self-3-1) → Reads c.append.new.self.frames c.put_pieces.new.bytes.items (all_of c.self.inside ++ drop 3 c.args.bytes.now ∷ [])
+all : (c : goal.After-self-3-1) → Reads c.append.new.self.frames c.put_pieces.new.self.items (all_of c.self.inside ++ drop 3 c.args.bytes.now ∷ [])
 all c =
     let r = c.self.inside in
     let s = c.self.invariant in
-    let bytes = ap (λ (b : Buffer ℕ). b.items) c.put_pieces.ensures ∙ ap (λ l. r.bytes.items ++ l) c.requires.framed in
+    let bytes = ap (λ (b : Bytes). b.items) c.put_pieces.ensures ∙ ap (λ l. r.bytes.items ++ l) c.requires.framed in
     let many : c.append.new.self.frames ≡ length (all_of r) + 1 = omega (arith, c.append.ensures.count, s.marked.count) in
     Stores-append _ _ _ (all_of r) (drop 3 c.args.bytes.now) s.stored many bytes c.requires.shortest c.requires.longest
 
@@ -51,7 +51,7 @@ invariant_of-self c =
       passed = omega (arith, more, s.passed);
       first = omega (arith, s.first, ap (λ fs. pos_by length (take r.passed fs)) reads.same, ap (pos_by length) (take-append-le r.passed (all_of r) (frame ∷ []) s.passed));
       near = subst (λ l. IsAt r.floor l r.near) (sym reads.same) (at-push r.floor (all_of r) frame r.near s.near);
-      spare_of_bytes = omega (arith, count, s.spare_of_bytes, ap (λ (b : Buffer ℕ). length b.items) c.put_pieces.ensures, length-append r.bytes.items c.args.bytes.now, ap (λ (b : Buffer ℕ). b.capacity) c.put_pieces.ensures, few, some, c.requires.spare.0, c.requires.spare.1);
+      spare_of_bytes = omega (arith, count, s.spare_of_bytes, ap (λ (b : Bytes). b.free) c.put_pieces.ensures, few, some, c.requires.spare.0, c.requires.spare.1);
       spare_of_frames = c.append.ensures.room (r.spare_frames - 1) (omega (arith, s.spare_of_frames, few, c.requires.spare.0));
     }
 

@@ -9,12 +9,12 @@ use Rattle.replay_buffer.proofs.store.Store.forget_oldest.Goals as goal
 pub drop_front-requires-clause-counts : goal.drop_front-requires-clause-counts
 drop_front-requires-clause-counts c = (known _ _ c.self.invariant c.self.view_is).counts
 
-gone : (c : goal.After-self-3-1) → Popped c.self.inside (without_front c.self.inside c.drop_front-2.new.ring c.drop_front.new.self c.without_front-self-inside.result (c.self.inside.floor + c.number_at-count.result) (c.self.inside.passed - 1))
+gone : (c : goal.After-self-3-1) → Popped c.self.inside (without_front c.self.inside c.drop_front-2.new.self c.drop_front.new.self c.without_front-self-inside.result (c.self.inside.floor + c.number_at-count.result) (c.self.inside.passed - 1))
 gone c =
     let r = c.self.inside in
     let s = c.self.invariant in
     let some : 0 < length (stored_of r).below = omega (arith, ap (λ (v : Stored). length v.below) c.self.view_is, c.requires) in
-    popped r c.drop_front-2.new.ring c.drop_front.new.self c.without_front-self-inside.result c.number_at-count.result s some c.number_at-count.ensures.value c.drop_front-2.ensures c.drop_front.ensures.count
+    popped r c.drop_front-2.new.self c.drop_front.new.self c.without_front-self-inside.result c.number_at-count.result s some c.number_at-count.ensures.value c.drop_front-2.ensures c.drop_front.ensures.count
     (c.drop_front.ensures.marked r.floor (all_of r) s.marked) (c.drop_front.ensures.room r.spare_frames s.spare_of_frames)
     (c.without_front-self-inside.ensures r.floor (all_of r) s.near (omega (arith, some, length-take r.passed (all_of r))))
 
