@@ -38,7 +38,7 @@ stays h g low p is start le at =
 
 pub can_read : (b : Buffer) (p : ℕ) → pos_by length b.below ≤ b.held.first → IsHeldBoundary b.held p → IsReadable b p
 can_read b p within at =
-    (starts_held (record { first = b.held.first; below = b.below; held = b.held.frames; spare = b.spare }) b.held.hold p within at).1
+    (starts_held (record { first = b.held.first; base = 0; below = b.below; held = b.held.frames; spare = b.spare }) b.held.hold p within at).1
 
 first_is : (h : Held) → IsHeldBoundary h h.first
 first_is h = let none : 0 ≡ h.first - h.first = omega arith in (omega arith, subst (IsBoundaryBy length h.frames) none (boundary_zero length h.frames))

@@ -31,7 +31,7 @@ held_acked v n position within few low last =
     omega (arith, last (length v.below + j) (omega arith) (omega (arith, length-append v.below v.held, le)), beyond v j, within, low))
 
 -- what is left once frames are passed up to a place
-pub passed_acked : (v new : Stored) (s : Spot) (position hold : ℕ) → pos_by length v.below ≤ v.first → IsAt (floor_of v) (frames_of v) s → (0 < s.index → s.position ≤ position)
+pub passed_acked : (v new : Stored) (s : Spot) (position hold : ℕ) → pos_by length v.below ≤ v.first → IsAt (floor_of v) v.base (frames_of v) s → (0 < s.index → s.position ≤ position)
     → IsLast (floor_of v) (frames_of v) s.index position → length v.below < s.index → new.first ≡ s.position
     → new.first ≡ v.first + pos_by length (take (s.index - length v.below) v.held) → new.held ≡ frames_from_by length v.held (new.first - v.first)
     → held_in hold new ≡ from_acked (held_in hold v) position

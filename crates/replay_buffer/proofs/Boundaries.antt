@@ -42,16 +42,22 @@ from-taken (f ∷ fs) (suc k) all le =
 pub record At (fs : List (List ℕ)) (i : ℕ) : Type 0 where
   pub frame : List ℕ
   pub rest : drop i fs ≡ frame ∷ drop (suc i) fs
+  pub taken : take (i + 1) fs ≡ take i fs ++ frame ∷ []
   pub sum : pos_by length (take (i + 1) fs) ≡ pos_by length (take i fs) + length frame
 
 pub at_index : (fs : List (List ℕ)) (i : ℕ) → i < length fs → At fs i
 unfolding pos_by
 at_index [] i lt = absurd (omega arith)
-at_index (f ∷ fs) zero lt = record { frame = f; rest = refl; sum = omega arith }
+at_index (f ∷ fs) zero lt = record { frame = f; rest = refl; taken = refl; sum = omega arith }
 at_index (f ∷ fs) (suc i) lt =
     let a = at_index fs i (omega arith) in
     let more : suc i + 1 ≡ suc (i + 1) = omega arith in
-    record { frame = a.frame; rest = a.rest; sum = omega (arith, a.sum, ap (λ k. pos_by length (take k (f ∷ fs))) more) }
+    record {
+      frame = a.frame;
+      rest = a.rest;
+      taken = ap (λ k. take k (f ∷ fs)) more ∙ ap (λ l. f ∷ l) a.taken;
+      sum = omega (arith, a.sum, ap (λ k. pos_by length (take k (f ∷ fs))) more);
+    }
 
 -- the sum of some first frames and of those after them
 pub pos_parts : (fs : List (List ℕ)) (k j : ℕ) → pos_by length (take (k + j) fs) ≡ pos_by length (take k fs) + pos_by length (take j (drop k fs))

@@ -174,6 +174,18 @@ went_on b new s full some items capacity last spare gone =
       λ i. record { items = drop (gone i) (same i); free = free i },
     )
 
+-- bytes were appended, and then more
+pub put_two : (a b c : Bytes) (xs ys more : List ℕ) → b ≡ record { items = a.items ++ xs; free = a.free - length xs } → c ≡ record { items = b.items ++ ys; free = b.free - length ys }
+    → xs ++ ys ≡ more → c ≡ record { items = a.items ++ more; free = a.free - length more }
+put_two a b c xs ys more p q is =
+    let items : c.items ≡ a.items ++ more = ap (λ (x : Bytes). x.items) q ∙ ap (λ (x : Bytes). x.items ++ ys) p ∙ append_assoc a.items xs ys ∙ ap (λ l. a.items ++ l) is in
+    let free : c.free ≡ a.free - length more = omega (arith, ap length is, length-append xs ys, ap (λ (x : Bytes). x.free) p, ap (λ (x : Bytes). x.free) q) in
+    λ i. record { items = items i; free = free i }
+
+pub put_three : (a b c d : Bytes) (xs ys zs more : List ℕ) → b ≡ record { items = a.items ++ xs; free = a.free - length xs } → c ≡ record { items = b.items ++ ys; free = b.free - length ys }
+    → d ≡ record { items = c.items ++ zs; free = c.free - length zs } → xs ++ (ys ++ zs) ≡ more → d ≡ record { items = a.items ++ more; free = a.free - length more }
+put_three a b c d xs ys zs more p q r is = put_two a c d (xs ++ ys) zs more (put_two a b c xs ys (xs ++ ys) p q refl) r (append_assoc xs ys zs ∙ is)
+
 -- ---- blocks of which bytes are dropped
 
 -- the oldest blocks were let go, all of whose bytes are dropped

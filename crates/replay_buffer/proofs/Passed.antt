@@ -21,6 +21,7 @@ passed_to-same v n first is =
     record {
       frames = append_assoc v.below (take n v.held) (drop n v.held) ∙ ap (λ l. v.below ++ l) cut;
       floor = omega (arith, is, pos-append length v.below (take n v.held));
+      base = refl;
       end = omega (arith, is, sum, ap (pos_by length) cut);
       spare = refl;
     }
@@ -41,7 +42,7 @@ pub record Passes (left : Held → Held) (old now : Stored) : Type 0 where
   pub all : IsPassed old now
 
 pub not_yet : (left : Held → Held) (v : Stored) → Passes left v v
-not_yet left v = record { same = λ hold. refl; all = record { frames = refl; floor = refl; end = refl; spare = refl } }
+not_yet left v = record { same = λ hold. refl; all = record { frames = refl; floor = refl; base = refl; end = refl; spare = refl } }
 
 pub passes : (left : Held → Held) (old now new : Stored) → Passes left old now → new ≡ passed_one now
     → ((hold : ℕ) → left (held_in hold (passed_one now)) ≡ left (held_in hold now)) → Passes left old new
@@ -52,6 +53,7 @@ passes left old now new p is step =
       all = record {
         frames = one.frames ∙ p.all.frames;
         floor = one.floor ∙ p.all.floor;
+        base = one.base ∙ p.all.base;
         end = one.end ∙ p.all.end;
         spare = one.spare ∙ p.all.spare;
       };
@@ -59,12 +61,12 @@ passes left old now new p is step =
 
 -- what a loop that forgets frames keeps
 pub record Forgets (old now : Stored) (low : ℕ) : Type 0 where
-  pub same : now ≡ record old { below = now.below }
+  pub same : now ≡ record old { base = now.base; below = now.below }
   pub start : IsStart now low
   pub frames : frames_from_by length (frames_of now) (low - floor_of now) ≡ frames_from_by length (frames_of old) (low - floor_of old)
 
 pub forgets : (old now new : Stored) (low : ℕ) → Forgets old now low → floor_of now < low → low ≤ now.first → pos_by length now.below ≤ now.first
-    → new ≡ record now { below = drop 1 now.below } → Forgets old new low
+    → new ≡ record now { base = new.base; below = drop 1 now.below } → Forgets old new low
 unfolding pos_by
 forgets old now new low f less within sum is = go now.below refl
   where
@@ -82,7 +84,7 @@ forgets old now new low f less within sum is = go now.below refl
         ] in
         let left : low - floor_of now - length b ≡ low - floor_of new = omega (arith, floor) in
         record {
-          same = is ∙ ap (λ (v : Stored). record v { below = drop 1 now.below }) f.same ∙ ap (λ (l : List (List ℕ)). record old { below = l }) (sym (ap (λ (v : Stored). v.below) is));
+          same = is ∙ ap (λ (v : Stored). record v { base = new.base; below = drop 1 now.below }) f.same ∙ ap (λ (l : List (List ℕ)). record old { base = new.base; below = l }) (sym (ap (λ (v : Stored). v.below) is));
           start = (omega (arith, rest.0, floor), rw later (subst (IsBoundaryBy length fs) left rest.1));
           frames = rw (later, ← left) (sym (from-in length b fs (low - floor_of now) (omega (arith, less))) ∙ ap (λ l. frames_from_by length l (low - floor_of now)) (sym all) ∙ f.frames);
         }

@@ -8,18 +8,20 @@ use Rattle.rs_frame.specs.Framed.{framed}
 use Rattle.position.specs.Boundaries.{pos_by, frames_from_by}
 use Rattle.position.proofs.Boundaries.{boundary-le, from-in}
 use Rattle.position.proofs.Growing.{from_after}
+use Rattle.replay_buffer.specs.Marked.{IsAt}
+use Rattle.replay_buffer.specs.declared.marks.Spot.{Spot}
 use Rattle.replay_buffer.specs.Stored.{Stored, IsStart, floor_of, framed_from, frames_of, held_from}
 use Rattle.replay_buffer.proofs.Boundaries.{from-taken, pos_parts, rising}
+use Rattle.replay_buffer.proofs.Found.{framed_here}
 use Rattle.replay_buffer.proofs.Stored.{framed_all-drop, length-framed_all}
 
 -- where a walk over the frames has come to
-pub record Walks (v : Stored) (from count index position skip : ℕ) : Type 0 where
-  pub bound : index ≤ length (frames_of v)
-  pub at : position ≡ floor_of v + pos_by length (take index (frames_of v))
-  pub later : from ≤ position
+pub record Walks (v : Stored) (from count : ℕ) (s : Spot) (skip : ℕ) : Type 0 where
+  pub at : IsAt (floor_of v) v.base (frames_of v) s
+  pub later : from ≤ s.position
   pub less : skip ≤ count
-  pub rest : drop (count - skip) (framed_from v from) ≡ framed_from v position
-  pub inside : skip ≤ length (framed_from v position)
+  pub rest : drop (count - skip) (framed_from v from) ≡ framed_from v s.position
+  pub inside : skip ≤ length (framed_from v s.position)
 
 -- the framed bytes from a start are those of the frames up to another one, and those from there on
 pub framed_next : (v : Stored) (i j p q n : ℕ) → AllByRecursion (λ f. 6 ≤ length f) (frames_of v) → i ≤ j → j ≤ length (frames_of v)
@@ -30,10 +32,8 @@ framed_next v i j p q n longer up le at to is =
     let gs = drop i fs in
     let m = j - i in
     let whole : i + (j - i) ≡ j = omega (arith, up) in
-    let low : p - floor_of v ≡ pos_by length (take i fs) = omega (arith, at) in
-    let high : q - floor_of v ≡ pos_by length (take j fs) = omega (arith, to) in
-    let here : framed_from v p ≡ flat_map framed gs = ap (flat_map framed) (ap (frames_from_by length fs) low ∙ from-taken fs i longer (omega arith)) in
-    let there : framed_from v q ≡ flat_map framed (drop j fs) = ap (flat_map framed) (ap (frames_from_by length fs) high ∙ from-taken fs j longer le) in
+    let here = framed_here v i p longer (omega arith) at in
+    let there = framed_here v j q longer le to in
     let parts = ap (λ k. pos_by length (take k fs)) (sym whole) ∙ pos_parts fs i (j - i) in
     let size : n ≡ pos_by length (take (j - i) gs) + 3 * (j - i) = omega (arith, is, at, to, parts) in
     let few : j - i ≤ length gs = omega (arith, le, length-drop i fs) in
@@ -44,19 +44,18 @@ framed_next v i j p q n longer up le at to is =
     let inside = rising gs (j - i) (length gs) few in
     (rest, omega (arith, ap length rest, length-drop n (framed_from v p), ap length here, length-framed_all gs, size, all, inside, few))
 
-pub walks : (v : Stored) (from count index position skip j end n : ℕ) → AllByRecursion (λ f. 6 ≤ length f) (frames_of v) → Walks v from count index position skip → index ≤ j
-    → j ≤ length (frames_of v) → end ≡ floor_of v + pos_by length (take j (frames_of v)) → n ≡ (end - position) + 3 * (j - index) → n ≤ skip → position ≤ end
-    → Walks v from count j end (skip - n)
-walks v from count index position skip j end n longer w up lt to is fits le =
-    let next = framed_next v index j position end n longer up lt w.at to is in
+pub walks : (v : Stored) (from count : ℕ) (s next : Spot) (skip n : ℕ) → AllByRecursion (λ f. 6 ≤ length f) (frames_of v) → Walks v from count s skip → s.index ≤ next.index
+    → IsAt (floor_of v) v.base (frames_of v) next → n ≡ (next.position - s.position) + 3 * (next.index - s.index) → n ≤ skip → s.position ≤ next.position
+    → Walks v from count next (skip - n)
+walks v from count s next skip n longer w up to is fits le =
+    let step = framed_next v s.index next.index s.position next.position n longer up to.within w.at.start to.start is in
     let left : (count - skip) + n ≡ count - (skip - n) = omega (arith, w.less) in
     record {
-      bound = lt;
       at = to;
       later = omega (arith, w.later);
       less = omega (arith, w.less);
-      rest = ap (λ k. drop k (framed_from v from)) (sym left) ∙ sym (drop-drop n (count - skip) (framed_from v from)) ∙ ap (drop n) w.rest ∙ next.0;
-      inside = omega (arith, w.inside, next.1);
+      rest = ap (λ k. drop k (framed_from v from)) (sym left) ∙ sym (drop-drop n (count - skip) (framed_from v from)) ∙ ap (drop n) w.rest ∙ step.0;
+      inside = omega (arith, w.inside, step.1);
     }
 
 -- ---- what is not reached
@@ -83,19 +82,19 @@ later_shorter v a p start le =
     omega (arith, ap (λ l. length (flat_map framed l)) same, shorter (frames_from_by length fs (a - floor_of v)) (p - a))
 
 -- a frame that is not wholly drawn: the starts after it are not reached
-pub not_reached : (v : Stored) (from count index position skip end n : ℕ) → AllByRecursion (λ f. 6 ≤ length f) (frames_of v) → Walks v from count index position skip → index < length (frames_of v)
-    → end ≡ floor_of v + pos_by length (take (index + 1) (frames_of v)) → n ≡ 3 + (end - position) → skip < n
-    → (p : ℕ) → IsStart v p → position < p → count + length (framed_from v p) < length (framed_from v from)
-not_reached v from count index position skip end n longer w lt to is drawn p start above =
+pub not_reached : (v : Stored) (from count : ℕ) (s next : Spot) (skip n : ℕ) → AllByRecursion (λ f. 6 ≤ length f) (frames_of v) → Walks v from count s skip
+    → IsAt (floor_of v) v.base (frames_of v) next → next.index ≡ s.index + 1 → n ≡ 3 + (next.position - s.position) → skip < n
+    → (p : ℕ) → IsStart v p → s.position < p → count + length (framed_from v p) < length (framed_from v from)
+not_reached v from count s next skip n longer w to one is drawn p start above =
     let fs = frames_of v in
-    let next = framed_next v index (index + 1) position end n longer (omega arith) (omega arith) w.at to (omega (arith, is)) in
-    let beyond : end ≤ p = elim (cases_lt index start.1.0) [
-      | inl more ↦ omega (arith, to, start.0, start.1.1, rising fs (index + 1) start.1.0 (omega arith))
-      | inr less ↦ absurd (omega (arith, w.at, above, start.0, start.1.1, rising fs start.1.0 index less))
+    let step = framed_next v s.index next.index s.position next.position n longer (omega (arith, one)) to.within w.at.start to.start (omega (arith, is, one)) in
+    let beyond : next.position ≤ p = elim (cases_lt s.index start.1.0) [
+      | inl more ↦ omega (arith, to.start, start.0, start.1.1, rising fs next.index start.1.0 (omega (arith, one)))
+      | inr less ↦ absurd (omega (arith, w.at.start, above, start.0, start.1.1, rising fs start.1.0 s.index less))
     ] in
-    let fewer = later_shorter v end p (omega (arith, to), (index + 1, omega (arith, to))) beyond in
+    let fewer = later_shorter v next.position p (omega (arith, to.start), (next.index, omega (arith, to.start))) beyond in
     let left = ap length w.rest in
-    omega (arith, next.1, fewer, left, length-drop (count - skip) (framed_from v from), w.less, drawn)
+    omega (arith, step.1, fewer, left, length-drop (count - skip) (framed_from v from), w.less, drawn)
 
 -- no frame starts after the last one ended
 pub all_reached : (v : Stored) (index position p : ℕ) → position ≡ floor_of v + pos_by length (take index (frames_of v)) → length (frames_of v) ≤ index → IsStart v p → p ≤ position

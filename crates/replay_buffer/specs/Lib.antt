@@ -1,4 +1,5 @@
 pub mod Held
+pub mod Laid
 pub mod Stored
 pub mod Marked
 pub mod Blocks

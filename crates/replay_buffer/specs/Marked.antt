@@ -1,19 +1,28 @@
 -- Where frames start, and the marks by which they are found.
-use Rattle.std.specs.Prelude.{◌≡◌, ℕ, ◌+◌, ◌*◌, ◌<◌, ◌≤◌, ◌^◌, List, length, slice_index, take}
+use Rattle.std.specs.Prelude.{◌≡◌, ℕ, ◌+◌, ◌*◌, ◌<◌, ◌≤◌, ◌^◌, List, length, get_or, take}
 use Rattle.position.specs.Boundaries.{pos_by}
+use Rattle.replay_buffer.specs.Laid.{laid_len}
+use Rattle.replay_buffer.specs.declared.rings.Mark.{Mark}
 use Rattle.replay_buffer.specs.declared.marks.Marks.{Marks}
 use Rattle.replay_buffer.specs.declared.marks.Spot.{Spot}
 use Rattle.replay_buffer.specs.declared.marks.TheConstants.{EVERY}
 
--- the frame at the index starts at the position, where the first one starts at `at`; or the newest one ended there
-pub record IsAt (at : ℕ) (frames : List (List ℕ)) (s : Spot) : Type 0 where
+-- the mark at the index
+abbrev pub mark_at : List Mark → ℕ → Mark
+mark_at marks i = get_or marks i (record { position = 0; offset = 0 })
+
+-- the frame at the index starts at the position and lies at the offset, where the first one starts at `at` and lies at
+-- `base`; or the newest one ended there
+pub record IsAt (at base : ℕ) (frames : List (List ℕ)) (s : Spot) : Type 0 where
   pub within : s.index ≤ length frames
   pub start : s.position ≡ at + pos_by length (take s.index frames)
+  pub offset : s.offset ≡ base + laid_len (take s.index frames)
 
--- the marks are the positions where every EVERY-th of the frames starts, from the one at `lead` on
-pub record IsMarked (at : ℕ) (frames : List (List ℕ)) (m : Marks) : Type 0 where
+-- the marks say where every EVERY-th of the frames starts and lies, from the one at `lead` on
+pub record IsMarked (at base : ℕ) (frames : List (List ℕ)) (m : Marks) : Type 0 where
   pub count : m.frames ≡ length frames
-  pub starts : (i : ℕ) → i < length m.starts.items → slice_index m.starts.items i ≡ at + pos_by length (take (m.lead + EVERY * i) frames)
+  pub starts : (i : ℕ) → i < length m.starts.items → (mark_at m.starts.items i).position ≡ at + pos_by length (take (m.lead + EVERY * i) frames)
+  pub offsets : (i : ℕ) → i < length m.starts.items → (mark_at m.starts.items i).offset ≡ base + laid_len (take (m.lead + EVERY * i) frames)
   pub reach : m.frames ≤ m.lead + EVERY * length m.starts.items
   pub tight : m.lead + EVERY * length m.starts.items < m.frames + EVERY
 

@@ -5,15 +5,17 @@ use Rattle.rs_frame.specs.Framed.{framed}
 use Rattle.position.specs.Boundaries.{pos_by, IsBoundaryBy, frames_from_by}
 use Rattle.replay_buffer.specs.Held.{Held, Spare}
 
--- the position where the oldest held frame starts, and the frames before it and from it on
+-- the position where the oldest held frame starts, how many bytes lay before the oldest of all, and the frames before
+-- the oldest held one and from it on
 pub record Stored : Type 0 where
   pub first : ℕ
+  pub base : ℕ
   pub below : List (List ℕ)
   pub held : List (List ℕ)
   pub spare : Spare
 
 abbrev pub nothing_stored : Stored
-nothing_stored = record { first = 0; below = []; held = []; spare = record { frames = 0; bytes = 0 } }
+nothing_stored = record { first = 0; base = 0; below = []; held = []; spare = record { frames = 0; bytes = 0 } }
 
 -- all of them
 abbrev pub frames_of : Stored → List (List ℕ)
@@ -51,12 +53,13 @@ held_in hold s = record { first = s.first; frames = s.held; hold = hold }
 pub record IsPassed (old new : Stored) : Type 0 where
   pub frames : frames_of new ≡ frames_of old
   pub floor : floor_of new ≡ floor_of old
+  pub base : new.base ≡ old.base
   pub end : end_of new ≡ end_of old
   pub spare : new.spare ≡ old.spare
 
 -- the frames before the position are forgotten, none of which was held
 pub record IsTrimmed (old new : Stored) (low : ℕ) : Type 0 where
-  pub same : new ≡ record old { below = new.below }
+  pub same : new ≡ record old { base = new.base; below = new.below }
   pub floor : floor_of new ≡ low
   pub frames : frames_of new ≡ frames_from_by length (frames_of old) (low - floor_of old)
   pub within : pos_by length new.below ≤ new.first

@@ -4,13 +4,11 @@
 ghost use Rattle.std.specs.Prelude.{◌≡◌, ◌+◌, ◌-◌, ◌*◌, ◌<◌, ◌≤◌, ◌++◌, ◌∷◌, [], ◌^◌, ℕ, List, OnErr, OnOk, IfOk, drop, length, max, min, slice_index, take};
 ghost use Rattle.std.specs.List.{AllByRecursion, flat_map};
 ghost use Rattle.byteorder.specs.Endian.{big_number};
-ghost use Rattle.rs_frame.specs.Framed.{framed};
 ghost use Rattle.replay_buffer.specs.Blocks.{IsEmpty, IsFull};
 ghost use Rattle.replay_buffer.specs.declared.block.TheConstants.{BLOCK};
 ghost use Rattle.replay_buffer.specs.declared.blocks.TheConstants.{MOST_BLOCKS};
 
 use crate::block::{BLOCK, Block};
-use byteorder::{BigEndian, ByteOrder};
 use circular_buffer::HeapCircularBuffer;
 use rs_frame::Pieces;
 use rs_wire::OutOfMemory;
@@ -163,7 +161,7 @@ impl Blocks {
     /// How many bytes there are.
     pub fn len(&self) -> usize
         ensures value { result ≡ length self.now.items }
-        ensures bound { result < 2 ^ 63 }
+        ensures bound { result < 3 * 2 ^ 61 }
     {
         BLOCK * self.full.len() + self.last.len() - self.gone
     }
@@ -266,21 +264,6 @@ impl Blocks {
         self.put(content);
     }
 
-    /// Appends the frame after its 24-bit length, for which there is room.
-    pub fn put_framed(&mut self, frame: &[u8])
-        requires room { 3 + length frame.now ≤ self.old.free }
-        requires longest { length frame.now < 2 ^ 24 }
-        ensures { self.new ≡ record {
-          items = self.old.items ++ framed frame.now;
-          free = self.old.free - (3 + length frame.now);
-        } }
-    {
-        let mut length = [0; 3];
-        BigEndian::write_u24(&mut length, frame.len() as u32);
-        self.put(&length);
-        self.put(frame);
-    }
-
     /// Drops the first bytes.
     pub fn drop_front(&mut self, count: usize)
         requires { count ≤ length self.old.items }
@@ -301,8 +284,8 @@ impl Blocks {
         bytes_from(&self.full, &self.last, self.gone + index)
     }
 
-    // The byte at the index.
-    fn byte_at(&self, index: usize) -> usize
+    /// The byte at the index.
+    pub fn byte_at(&self, index: usize) -> usize
         requires { index < length self.now.items }
         ensures value { result ≡ slice_index self.now.items index }
         ensures bound { result < 256 }

@@ -13,9 +13,10 @@
 //! starts at `first` of the crate `position` (the peer may still need it, and no more than `hold`
 //! bytes are held), and [`Replay::copy`] gives the readable frames as they go onto a stream, each
 //! after its length ([`held_of_made`]). No frame is forgotten sooner or later. The frames lie one after
-//! the other in blocks of 16 KiB, and the positions where some of them start in a ring. They are never
-//! moved: a block is made where room for it is reserved, and given back once all of its frames are
-//! forgotten. Only [`Replay::new`], which makes the first block, and [`Replay::reserve`] take memory.
+//! the other in blocks of 16 KiB, each after its length in 1, 3 or 4 bytes, and a ring holds where some
+//! of them start and lie. They are never moved: a block is made where room for it is reserved, and given
+//! back once all of its frames are forgotten. Only [`Replay::new`], which makes the first block, and
+//! [`Replay::reserve`] take memory.
 //!
 //! It leaves out which frames are resumable, how they are spelled, and whether a peer's position
 //! may be believed.
@@ -23,6 +24,9 @@
 
 mod block;
 mod blocks;
+mod copying;
+mod finding;
+mod laid;
 mod laws;
 mod marks;
 mod passing;

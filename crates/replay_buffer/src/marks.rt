@@ -1,64 +1,69 @@
-//! Marks: where some of the frames start. The others are found from these, by their lengths.
+//! Marks: where some of the frames start and lie. The others are found from these, by their lengths.
 
 ghost use Rattle.std.specs.Prelude.{◌≡◌, ◌+◌, ◌-◌, ◌*◌, ◌<◌, ◌^◌, ◌≤◌, ◌++◌, [], ◌∷◌, length, take, drop, true, IfSome, OnOk, OnErr, IfOk, ℕ, List};
 ghost use Rattle.position.specs.Boundaries.{pos_by};
 ghost use Rattle.circular_buffer.specs.Buffer.{buffer};
-ghost use Rattle.replay_buffer.specs.Marked.{Counts, HasRoom, IsAt, IsMarked};
+ghost use Rattle.replay_buffer.specs.Laid.{laid_len};
+ghost use Rattle.replay_buffer.specs.Marked.{Counts, HasRoom, IsAt, IsMarked, mark_at};
 
-use crate::rings::{at, count_up_to, drop_front, make_room, push};
+use crate::rings::{Mark, at, count_up_to, drop_front, make_room, push};
 use circular_buffer::HeapCircularBuffer;
 use rs_wire::OutOfMemory;
 use std::alloc::Global;
 
-/// Every so many frames there is a mark, of 8 bytes: an eighth of a byte for each frame. From a
+/// Every so many frames there is a mark, of 16 bytes: an eighth of a byte for each frame. From a
 /// mark fewer than so many lengths are read, in less time than the frames take to be copied.
-pub const EVERY: usize = 64;
+pub const EVERY: usize = 128;
 
 /// So few marks don't pay for looking whether their ring has far more room.
 const SOME_MARKS: usize = 64;
 
-/// The index of a frame, and the position where it starts; or how many frames there are, and the
-/// position where the newest one ended.
+/// The index of a frame, the position where it starts, and how many bytes lay before it; or how many
+/// frames there are, the position where the newest one ended, and how many bytes lay in all.
 #[derive(Debug, Clone, Copy)]
 pub struct Spot {
     /// The index, the oldest frame's being 0.
     pub index: usize,
     /// The position, in bytes.
     pub position: u64,
+    /// How many bytes lay before it, those of forgotten frames with them.
+    pub offset: usize,
 }
 
 impl Spot {
-    /// The frame of this index, which starts at the position.
+    /// The place of the first frame, which starts at the position and lies after so many bytes.
     #[inline(always)]
-    pub fn new(index: usize, position: u64) -> Spot
-        ensures { result ≡ record { index = index; position = position } }
+    pub fn first(position: u64, offset: usize) -> Spot
+        ensures { result ≡ record { index = 0; position = position; offset = offset } }
     {
-        Spot { index, position }
+        Spot {
+            index: 0,
+            position,
+            offset,
+        }
     }
 
-    /// The same place once the first `count` frames are gone, so that the first one left starts at
-    /// `floor`; that one, where the place lay before it.
-    pub fn without_front(self, count: usize, floor: u64) -> Spot
-        ensures { (at : ℕ) (frames : List (List ℕ)) → IsAt at frames self →
-            count ≤ length frames → floor ≡ at + pos_by length (take count frames) →
-            IsAt floor (drop count frames) result }
+    /// The same place once the frames before another one are gone; that one, where this place lay
+    /// before it.
+    pub fn without_front(self, gone: Spot) -> Spot
+        ensures { (at base : ℕ) (frames : List (List ℕ)) → IsAt at base frames self →
+            IsAt at base frames gone →
+            IsAt gone.position gone.offset (drop gone.index frames) result }
     {
-        if self.index < count {
-            return Spot {
-                index: 0,
-                position: floor,
-            };
+        if self.index < gone.index {
+            return Spot::first(gone.position, gone.offset);
         }
         Spot {
-            index: self.index - count,
+            index: self.index - gone.index,
             position: self.position,
+            offset: self.offset,
         }
     }
 
     /// The later of two places, or this one where the other lies beyond the position.
     pub fn or_later(self, other: Spot, position: u64) -> Spot
-        ensures at { (at : ℕ) (frames : List (List ℕ)) → IsAt at frames self →
-            IsAt at frames other → IsAt at frames result }
+        ensures at { (at base : ℕ) (frames : List (List ℕ)) → IsAt at base frames self →
+            IsAt at base frames other → IsAt at base frames result }
         ensures low { self.position ≤ position → result.position ≤ position }
     {
         if self.position < other.position && other.position <= position {
@@ -77,11 +82,11 @@ pub struct Place {
     pub skip: u64,
 }
 
-/// How many frames there are, and where every [`EVERY`]-th of them starts.
+/// How many frames there are, and where every [`EVERY`]-th of them starts and lies.
 #[derive(Debug, Drop)]
 pub struct Marks {
-    // The position where every so many-th frame starts, the oldest first.
-    starts: HeapCircularBuffer<u64>,
+    // Where every so many-th frame starts and lies, the oldest first.
+    starts: HeapCircularBuffer<Mark>,
     // How many frames lie before the first that has a mark.
     lead: usize,
     // How many frames there are.
@@ -133,18 +138,19 @@ impl Marks {
         make_room(&mut self.starts, 1 + spare / EVERY)
     }
 
-    /// Appends a frame that starts at the position.
-    pub fn append(&mut self, start: u64)
+    /// Appends a frame that starts at the position and lies after so many bytes.
+    pub fn append(&mut self, position: u64, offset: usize)
         requires room { HasRoom self.old 1 }
         requires counts { Counts self.old }
-        ensures marked { (at : ℕ) (frames : List (List ℕ)) (frame : List ℕ) →
-            IsMarked at frames self.old → start ≡ at + pos_by length frames →
-            IsMarked at (frames ++ frame ∷ []) self.new }
+        ensures marked { (at base : ℕ) (frames : List (List ℕ)) (frame : List ℕ) →
+            IsMarked at base frames self.old → position ≡ at + pos_by length frames →
+            offset ≡ base + laid_len frames →
+            IsMarked at base (frames ++ frame ∷ []) self.new }
         ensures count { self.new.frames ≡ self.old.frames + 1 }
         ensures room { (spare : ℕ) → HasRoom self.old (1 + spare) → HasRoom self.new spare }
     {
         if self.frames == self.lead + EVERY * self.starts.len() {
-            push(&mut self.starts, start);
+            push(&mut self.starts, Mark { position, offset });
         }
         self.frames += 1;
     }
@@ -153,8 +159,10 @@ impl Marks {
     pub fn drop_front(&mut self, count: usize)
         requires within { count ≤ self.old.frames }
         requires counts { Counts self.old }
-        ensures marked { (at : ℕ) (frames : List (List ℕ)) → IsMarked at frames self.old →
-            IsMarked (at + pos_by length (take count frames)) (drop count frames) self.new }
+        ensures marked { (at base : ℕ) (frames : List (List ℕ)) →
+            IsMarked at base frames self.old →
+            IsMarked (at + pos_by length (take count frames)) (base + laid_len (take count frames))
+            (drop count frames) self.new }
         ensures count { self.new.frames ≡ self.old.frames - count }
         ensures room { (spare : ℕ) → HasRoom self.old spare → HasRoom self.new spare }
     {
@@ -168,34 +176,48 @@ impl Marks {
         drop_front(&mut self.starts, marks);
     }
 
-    /// The last frame with a mark that starts at or before the position; where there is none the
-    /// first frame, which starts at `floor`.
-    pub fn before(&self, floor: u64, position: u64) -> Spot
-        requires marked { (frames : List (List ℕ)) × IsMarked floor frames self.now }
+    // The frame with the mark of this index.
+    fn place(&self, mark: usize) -> Spot
+        requires within { mark < length self.now.starts.items }
         requires counts { Counts self.now }
-        ensures at { (frames : List (List ℕ)) → IsMarked floor frames self.now →
-            IsAt floor frames result }
-        ensures low { floor ≤ position → result.position ≤ position }
+        ensures index { result.index ≡ self.now.lead + EVERY * mark }
+        ensures position { result.position ≡ (mark_at self.now.starts.items mark).position }
+        ensures at { (at base : ℕ) (frames : List (List ℕ)) →
+            IsMarked at base frames self.now → IsAt at base frames result }
+    {
+        let Mark { position, offset } = at(&self.starts, mark);
+        Spot {
+            index: self.lead + EVERY * mark,
+            position,
+            offset,
+        }
+    }
+
+    /// The last frame with a mark that starts at or before the position; where there is none the
+    /// first frame, whose place is given.
+    pub fn before(&self, first: Spot, position: u64) -> Spot
+        requires first { first.index ≡ 0 }
+        requires marked { (frames : List (List ℕ)) ×
+            IsMarked first.position first.offset frames self.now }
+        requires counts { Counts self.now }
+        ensures at { (frames : List (List ℕ)) →
+            IsMarked first.position first.offset frames self.now →
+            IsAt first.position first.offset frames result }
+        ensures low { first.position ≤ position → result.position ≤ position }
     {
         let count = count_up_to(&self.starts, position);
         if count == 0 {
-            return Spot {
-                index: 0,
-                position: floor,
-            };
+            return first;
         }
-        Spot {
-            index: self.lead + EVERY * (count - 1),
-            position: at(&self.starts, count - 1),
-        }
+        self.place(count - 1)
     }
 
     /// The first frame with a mark after the index.
     pub fn after(&self, index: usize) -> Option<Spot>
         requires within { index ≤ self.now.frames }
         requires counts { Counts self.now }
-        ensures at { IfSome result (λ spot. (floor : ℕ) (frames : List (List ℕ)) →
-            IsMarked floor frames self.now → IsAt floor frames spot) }
+        ensures at { IfSome result (λ spot. (at base : ℕ) (frames : List (List ℕ)) →
+            IsMarked at base frames self.now → IsAt at base frames spot) }
         ensures later { IfSome result (λ spot. index < spot.index) }
     {
         let place = if index < self.lead {
@@ -206,9 +228,6 @@ impl Marks {
         if place >= self.starts.len() {
             return None;
         }
-        Some(Spot {
-            index: self.lead + EVERY * place,
-            position: at(&self.starts, place),
-        })
+        Some(self.place(place))
     }
 }

@@ -167,7 +167,7 @@ impl Replay {
     }
 
     /// Whether a frame that can be read starts at the position, or the newest frame ended there. It
-    /// takes the time to find the frame: a binary search among marks, and the lengths of fewer than 64
+    /// takes the time to find the frame: a binary search among marks, and the lengths of fewer than 128
     /// frames.
     pub fn readable(&self, position: u64) -> bool
         ensures { IsTrue result ↔ IsReadable self.now position }
@@ -233,7 +233,7 @@ impl Replay {
 
     /// The last readable boundary that the first `count` framed bytes from a readable boundary on
     /// reach, and how many of them lie after it. It takes the time to find the two frames, as
-    /// [`Replay::readable`] does, and a constant for every 64 frames between them.
+    /// [`Replay::readable`] does, and a constant for every 128 frames between them.
     pub fn place_after(&self, from: u64, count: u64) -> Place
         requires boundary { CanReadFrom self.now from }
         requires within { count ≤ length (framed_from (readable self.now) from) }

@@ -1,6 +1,7 @@
-//! Rings of positions: how they grow, and what is read of them.
+//! Rings of marks: how they grow, and what is read of them.
 
-ghost use Rattle.std.specs.Prelude.{◌≡◌, ◌+◌, ◌-◌, ◌<◌, ◌≤◌, ◌++◌, ◌∷◌, [], ℕ, OnErr, OnOk, drop, length, slice_index};
+ghost use Rattle.std.specs.Prelude.{◌≡◌, ◌+◌, ◌-◌, ◌<◌, ◌≤◌, ◌++◌, ◌∷◌, [], ℕ, OnErr, OnOk, drop, length};
+ghost use Rattle.replay_buffer.specs.Marked.{mark_at};
 
 use circular_buffer::HeapCircularBuffer;
 use rs_wire::OutOfMemory;
@@ -11,6 +12,15 @@ const PART: usize = 4;
 /// The fewest items that a ring has room for beyond what is wanted, where it grows.
 const SOME_ITEMS: usize = 64;
 
+/// Where a frame starts, and where it lies.
+#[derive(Debug, Clone, Copy)]
+pub struct Mark {
+    /// The position, in bytes.
+    pub position: u64,
+    /// How many bytes lay before it.
+    pub offset: usize,
+}
+
 /// The capacity of a ring that is to have room for so many items.
 fn grown(wanted: usize) -> usize
     ensures { wanted ≤ result }
@@ -19,7 +29,7 @@ fn grown(wanted: usize) -> usize
 }
 
 /// Moves the items to memory for so many, which has to hold them.
-fn move_over(ring: &mut HeapCircularBuffer<u64>, capacity: usize) -> Result<(), OutOfMemory>
+fn move_over(ring: &mut HeapCircularBuffer<Mark>, capacity: usize) -> Result<(), OutOfMemory>
     requires { length ring.old.items ≤ capacity }
     ensures ok { OnOk result (ring.new ≡ record { items = ring.old.items; capacity = capacity }) }
     ensures err { OnErr result (ring.new ≡ ring.old) }
@@ -33,7 +43,7 @@ fn move_over(ring: &mut HeapCircularBuffer<u64>, capacity: usize) -> Result<(), 
 }
 
 /// Makes room for `count` items more. Where there is far more room, some of it is given back.
-pub fn make_room(ring: &mut HeapCircularBuffer<u64>, count: usize) -> Result<(), OutOfMemory>
+pub fn make_room(ring: &mut HeapCircularBuffer<Mark>, count: usize) -> Result<(), OutOfMemory>
     ensures items { ring.new.items ≡ ring.old.items }
     ensures room { OnOk result (length ring.new.items + count ≤ ring.new.capacity) }
     ensures err { OnErr result (ring.new ≡ ring.old) }
@@ -50,27 +60,27 @@ pub fn make_room(ring: &mut HeapCircularBuffer<u64>, count: usize) -> Result<(),
     Ok(())
 }
 
-/// How many of the positions, none of which is below the one before, are at most `position`.
-pub fn count_up_to(positions: &HeapCircularBuffer<u64>, position: u64) -> usize
-    requires { (i j : ℕ) → i ≤ j → j < length positions.now.items →
-        slice_index positions.now.items i ≤ slice_index positions.now.items j }
-    ensures bound { result ≤ length positions.now.items }
-    ensures within { (k : ℕ) → k < result → slice_index positions.now.items k ≤ position }
-    ensures after { (k : ℕ) → result ≤ k → k < length positions.now.items →
-        position < slice_index positions.now.items k }
+/// How many of the marks, none of which starts below the one before, start at or before `position`.
+pub fn count_up_to(marks: &HeapCircularBuffer<Mark>, position: u64) -> usize
+    requires { (i j : ℕ) → i ≤ j → j < length marks.now.items →
+        (mark_at marks.now.items i).position ≤ (mark_at marks.now.items j).position }
+    ensures bound { result ≤ length marks.now.items }
+    ensures within { (k : ℕ) → k < result → (mark_at marks.now.items k).position ≤ position }
+    ensures after { (k : ℕ) → result ≤ k → k < length marks.now.items →
+        position < (mark_at marks.now.items k).position }
 {
-    let mut high = positions.len();
+    let mut high = marks.len();
     let mut step = 1;
     let mut low = high;
     // Mostly it is one of the last.
-    while low > 0 && at(positions, low - 1) > position {
+    while low > 0 && at(marks, low - 1).position > position {
         high = low - 1;
         low = high.saturating_sub(step);
         step = step.saturating_mul(2);
     }
     while low < high {
         let middle = low + (high - low) / 2;
-        if at(positions, middle) <= position {
+        if at(marks, middle).position <= position {
             low = middle + 1;
         } else {
             high = middle;
@@ -79,17 +89,16 @@ pub fn count_up_to(positions: &HeapCircularBuffer<u64>, position: u64) -> usize
     low
 }
 
-/// Appends a position, for which there is room.
-pub fn push(positions: &mut HeapCircularBuffer<u64>, position: u64)
-    requires { length positions.old.items < positions.old.capacity }
-    ensures { positions.new ≡
-        record positions.old { items = positions.old.items ++ position ∷ [] } }
+/// Appends a mark, for which there is room.
+pub fn push(marks: &mut HeapCircularBuffer<Mark>, mark: Mark)
+    requires { length marks.old.items < marks.old.capacity }
+    ensures { marks.new ≡ record marks.old { items = marks.old.items ++ mark ∷ [] } }
 {
-    let _room = positions.try_push_back(position);
+    let _room = marks.try_push_back(mark);
 }
 
 /// Drops the first items.
-pub fn drop_front(ring: &mut HeapCircularBuffer<u64>, count: usize)
+pub fn drop_front(ring: &mut HeapCircularBuffer<Mark>, count: usize)
     requires { count ≤ length ring.old.items }
     ensures { ring.new ≡ record ring.old { items = drop count ring.old.items } }
 {
@@ -97,10 +106,14 @@ pub fn drop_front(ring: &mut HeapCircularBuffer<u64>, count: usize)
     ring.truncate_front(left);
 }
 
-/// The position at the index.
-pub fn at(positions: &HeapCircularBuffer<u64>, index: usize) -> u64
-    requires { index < length positions.now.items }
-    ensures { result ≡ slice_index positions.now.items index }
+/// The mark at the index.
+pub fn at(marks: &HeapCircularBuffer<Mark>, index: usize) -> Mark
+    requires { index < length marks.now.items }
+    ensures { result ≡ mark_at marks.now.items index }
 {
-    positions.get(index).copied().unwrap_or(0)
+    let none = Mark {
+        position: 0,
+        offset: 0,
+    };
+    marks.get(index).copied().unwrap_or(none)
 }

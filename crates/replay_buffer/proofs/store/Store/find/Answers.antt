@@ -1,11 +1,9 @@
-use Rattle.std.proofs.Common.{◌-◌, length, subst, arith}
+use Rattle.std.proofs.Common.{◌-◌, length, arith}
 use Rattle.position.proofs.Boundaries.{boundary-le}
-use Rattle.replay_buffer.specs.Marked.{IsAt}
 use Rattle.replay_buffer.specs.Stored.{floor_of, frames_of}
 use Rattle.replay_buffer.proofs.Boundaries.{rising_more}
 use Rattle.replay_buffer.proofs.Found.{boundary_is, last_here}
-use Rattle.replay_buffer.proofs.Known.{known}
-use Rattle.replay_buffer.proofs.Marked.{first_at}
+use Rattle.replay_buffer.proofs.Known.{first_here, known}
 use Rattle.replay_buffer.proofs.store.Store.find.Goals as goal
 
 pub returns-then-position-self-clause-start : goal.returns-then-position-self-clause-start
@@ -15,21 +13,15 @@ returns-then-position-self-clause-start c = λ start.
     omega (arith, k.whole, boundary-le length (frames_of v) (c.args.position - floor_of v) start.1, start.0, c.if-position-self.true)
 
 pub returns-then-position-self-2-clause-at : goal.returns-then-position-self-2-clause-at
-returns-then-position-self-2-clause-at c =
-    let v = c.args.self.now in
-    let k = known _ _ c.self.invariant c.self.view_is in
-    subst (λ p. IsAt (floor_of v) (frames_of v) (record { index = 0; position = p })) k.floor (first_at (floor_of v) (frames_of v))
+returns-then-position-self-2-clause-at c = first_here _ _ c.first.result (known _ _ c.self.invariant c.self.view_is) c.first.ensures
 
 pub returns-then-position-self-2-clause-next : goal.returns-then-position-self-2-clause-next
 returns-then-position-self-2-clause-next c = λ j more le.
     let v = c.args.self.now in
     let k = known _ _ c.self.invariant c.self.view_is in
-    last_here (floor_of v) (frames_of v) 0 c.args.position (omega (arith, c.if-position-self-2.true, k.floor, rising_more (frames_of v) 0 k.longer (omega arith))) j more le
-
-pub nearest-requires : goal.nearest-requires
-nearest-requires c = omega (arith, (known _ _ c.self.invariant c.self.view_is).floor, c.if-position-self-2.false)
+    last_here (floor_of v) (frames_of v) 0 c.args.position (omega (arith, c.if-position-self-2.true, k.floor, rising_more (frames_of v) 0 k.longer (omega (arith, more, le)))) j (omega (arith, more)) le
 
 pub returns-clause-start : goal.returns-clause-start
 returns-clause-start c = λ start.
     let v = c.args.self.now in
-    boundary_is (floor_of v) (frames_of v) c.walk.result c.args.position c.walk.ensures.at (λ some. c.walk.ensures.low) c.walk.ensures.next start.0 start.1
+    boundary_is (floor_of v) v.base (frames_of v) c.walk.result c.args.position c.walk.ensures.at (λ some. c.walk.ensures.low) c.walk.ensures.next start.0 start.1

@@ -16,10 +16,11 @@ pub returns-clause-passed : goal.returns-clause-passed
 returns-clause-passed c =
     let r = c.self.inside in
     let fs = all_of r in
-    let n = c.args.spot.index - length (take r.passed fs) in
-    let few = length-take-le r.passed fs c.self.invariant.passed in
-    let whole : r.passed + (c.args.spot.index - length (take r.passed fs)) ≡ c.args.spot.index = omega (arith, few, c.requires.later, ap (λ (v : Stored). length v.below) c.self.view_is) in
-    rw (← c.self.view_is) (same_stored _ _ refl (ap (λ k. take k fs) (sym whole) ∙ take-add r.passed n fs) (sym (drop-drop n r.passed fs ∙ ap (λ k. drop k fs) whole)) refl)
+    let i = r.oldest.index in
+    let n = c.args.spot.index - length (take r.oldest.index fs) in
+    let few = length-take-le i fs c.self.invariant.oldest.within in
+    let whole : r.oldest.index + (c.args.spot.index - length (take r.oldest.index fs)) ≡ c.args.spot.index = omega (arith, few, c.requires.later, ap (λ (v : Stored). length v.below) c.self.view_is) in
+    rw (← c.self.view_is) (same_stored _ _ refl refl (ap (λ k. take k fs) (sym whole) ∙ take-add i n fs) (sym (drop-drop n i fs ∙ ap (λ k. drop k fs) whole)) refl)
 
 pub returns-clause-first : goal.returns-clause-first
 returns-clause-first c =
