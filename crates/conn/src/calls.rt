@@ -1,12 +1,13 @@
 //! Calls that wait for a turn.
 
-ghost use Rattle.std.specs.Prelude.{◌≡◌, ◌↔◌, ◌<◌, ◌^◌, IsTrue, None, Some, length};
+ghost use Rattle.std.specs.Prelude.{◌≡◌, ◌↔◌, ◌<◌, ◌^◌, IsTrue, None, Some, false, length, true};
 ghost use Rattle.rs_wire.specs.Calls.{CanBeAsked};
 ghost use Rattle.session_model.specs.Frames.{queued};
 ghost use Rattle.session_model.specs.Legal.{CanBring};
 ghost use Rattle.session_model.specs.Life.{asked_token, carrying, closed, live, setup};
 ghost use Rattle.session_core.specs.Queued.{IsUntouched};
 ghost use Rattle.session_core.specs.Seen.{IsNoDrawEvent};
+ghost use Rattle.tape.specs.declared.answer.Answer.TheVariants as answers;
 ghost use Rattle.tape.specs.declared.event.Event.TheVariants as events;
 ghost use Rattle.conn_shared.specs.Members.{Follows};
 ghost use Rattle.conn_shared.specs.Calls.{IsCalled, IsDrawCall};
@@ -50,6 +51,23 @@ impl<T: Tape> Connection<T> {
         give_back(&mut caller.member, member);
         self.announce(&answer);
         answer
+    }
+
+    /// Brings a tick with this moment, if nothing is due at it. It waits for a turn, and rouses nobody.
+    /// Answers whether it did: if not, the caller has only seen what others did, and the tick has yet
+    /// to be brought.
+    pub fn tick_if_quiet<R: Wait>(&self, rt: &R, caller: &mut Caller<T>, now: u64) -> bool
+        requires of { caller.old.of ≡ self.now }
+        ensures same { caller.new ≡ record caller.old { front = caller.new.front; note = None } }
+        ensures called { result ≡ true → IsCalled self.now.settings caller.old
+            (events.Tick now) answers.Quiet caller.new.front }
+        ensures follows { result ≡ false →
+            Follows caller.old.names caller.old.front caller.new.front }
+    {
+        let member = take(&mut caller.member);
+        let (member, is_quiet) = self.shared.tick_if_quiet(rt, member, now);
+        give_back(&mut caller.member, member);
+        is_quiet
     }
 
     /// Asks something of the session. It waits for a turn, and for a second one where the call has to

@@ -7,6 +7,7 @@ use Rattle.tape.specs.Answers.{leaves}
 use Rattle.tape.specs.Told.{entry_of}
 use Rattle.tape.specs.declared.entry.Entry.{Entry}
 use Rattle.tape.specs.declared.event.Event.{Event}
+use Rattle.tape.specs.declared.event.Event.TheVariants as event
 use Rattle.tape.specs.declared.answer.Answer.{Answer}
 use Rattle.tape.specs.declared.answer.Answer.TheVariants as answer
 use Rattle.session_core.specs.Seen.{Seen, entries_after}
@@ -31,6 +32,11 @@ gains_own past n e a = one (leaves a)
 pub gains_answered : (old new : Seen) (n : ℕ) (e : Event) (o : Option Answer) → IfSome o (λ a. new ≡ record old { entries = entries_after n e a old.entries; spare = new.spare }) → (o ≡ None → new ≡ old) → Gains n old.entries new.entries
 gains_answered old new n e None some none = subst (λ (s : Seen). Gains n old.entries s.entries) (sym (none refl)) ([], refl, refl)
 gains_answered old new n e (Some a) some none = subst (Gains n old.entries) (sym (ap (λ (s : Seen). s.entries) some)) (gains_own old.entries n e a)
+
+-- and so does a tick that is noted if it is quiet, and adds nothing if it is not
+pub gains_noted : (old new : Seen) (n now : ℕ) (noted : Bool) → (noted ≡ true → new ≡ record old { entries = entry_of n (event.Tick now) answer.Quiet ∷ old.entries; spare = new.spare }) → (noted ≡ false → new ≡ record old { spare = new.spare }) → Gains n old.entries new.entries
+gains_noted old new n now true after same = subst (Gains n old.entries) (sym (ap (λ (s : Seen). s.entries) (after refl))) (gains_own old.entries n (event.Tick now) answer.Quiet)
+gains_noted old new n now false after same = subst (Gains n old.entries) (sym (ap (λ (s : Seen). s.entries) (same refl))) ([], refl, refl)
 
 pub follows_on : (names : List ℕ) (a b c : List Entry) → Follows names a b → Follows names b c → Follows names a c
 follows_on names a b c p q = (

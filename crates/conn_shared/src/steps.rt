@@ -1,12 +1,13 @@
 //! Steps that wait for a turn.
 
-ghost use Rattle.std.specs.Prelude.{◌≡◌, ◌↔◌, ◌<◌, ◌^◌, IfSome, IsTrue, None, Some, length};
+ghost use Rattle.std.specs.Prelude.{◌≡◌, ◌↔◌, ◌<◌, ◌^◌, IfSome, IsTrue, None, Some, false, length, true};
 ghost use Rattle.rs_wire.specs.Calls.{CanBeAsked};
 ghost use Rattle.session_model.specs.Frames.{queued};
 ghost use Rattle.session_model.specs.Legal.{CanBring};
 ghost use Rattle.session_model.specs.Life.{asked_token, carrying, closed, live, setup};
 ghost use Rattle.session_core.specs.Queued.{IsUntouched};
 ghost use Rattle.session_core.specs.Seen.{IsNoDrawEvent};
+ghost use Rattle.tape.specs.declared.answer.Answer.TheVariants as answers;
 ghost use Rattle.tape.specs.declared.event.Event.TheVariants as events;
 ghost use Rattle.conn_shared.specs.Members.{Follows};
 ghost use Rattle.conn_shared.specs.Calls.{IsCalled, IsDrawCall};
@@ -107,6 +108,22 @@ impl<T: Tape> SharedSession<T> {
             (member, Some(answer)) => (member, answer),
             (member, None) => self.ask_by_copy(rt, member, call),
         }
+    }
+
+    /// Brings a tick with this moment, if nothing is due at it. It waits for a turn. Answers whether
+    /// it did: if not, the member has only seen what others did, and the tick has yet to be brought.
+    #[inline(always)]
+    pub fn tick_if_quiet<R: Wait>(&self, rt: &R, member: Member<T>, now: u64) -> (Member<T>, bool)
+        requires of { member.of ≡ self.now }
+        ensures same { result.0 ≡ record member { front = result.0.front; note = None } }
+        ensures called { result.1 ≡ true → IsCalled self.now.settings member
+            (events.Tick now) answers.Quiet result.0.front }
+        ensures follows { result.1 ≡ false →
+            Follows member.names member.front result.0.front }
+    {
+        let turn = self.enter(rt, member.into_seat());
+        let (seat, is_quiet) = self.tick_in(turn, now);
+        (Member { seat }, is_quiet)
     }
 
     /// Draws bytes that are due on a connection into the buffer, which has 1 to 4,294,967,295 bytes.

@@ -1,6 +1,6 @@
 //! The session under the lock.
 
-ghost use Rattle.std.specs.Prelude.{◌≡◌, ◌↔◌, ◌<◌, ◌^◌, IfErr, IfOk, IfSome, IsTrue, None, Some, length};
+ghost use Rattle.std.specs.Prelude.{◌≡◌, ◌↔◌, ◌<◌, ◌^◌, IfErr, IfOk, IfSome, IsTrue, None, Some, false, length, true};
 ghost use Rattle.rs_wire.specs.Calls.{CanBeAsked};
 ghost use Rattle.session_model.specs.Frames.{queued};
 ghost use Rattle.session_model.specs.Life.{asked_token, carrying, closed, live, setup};
@@ -9,6 +9,7 @@ ghost use Rattle.session_core.specs.Queued.{IsUntouched};
 ghost use Rattle.session_core.specs.Seen.{IsNoDrawEvent};
 ghost use Rattle.conn_shared.specs.Members.{Gains};
 ghost use Rattle.conn_shared.specs.Calls.{AreNext, IsStep};
+ghost use Rattle.tape.specs.declared.answer.Answer.TheVariants as answers;
 ghost use Rattle.tape.specs.declared.event.Event.TheVariants as events;
 
 use crate::line::Line;
@@ -115,6 +116,24 @@ impl<T: Tape> Stored<T> {
         let answer = self.session.ask(who, call);
         self.session.legal();
         answer
+    }
+
+    /// One tick of the session, if nothing is due at it. Answers whether it was noted: if not, the
+    /// session has no new entry.
+    #[inline(always)]
+    pub(crate) fn tick_if_quiet(&mut self, who: u32, now: u64) -> bool
+        ensures step { result ≡ true → IsStep self.old.settings who self.old.entries
+            (events.Tick now) answers.Quiet self.new.entries }
+        ensures none { result ≡ false → self.new.entries ≡ self.old.entries }
+        ensures own { Gains who self.old.entries self.new.entries }
+        ensures settings { self.new.settings ≡ self.old.settings }
+        ensures tells { self.new.tells ≡ self.old.tells }
+        ensures legal { Legal self.new.settings self.new.entries }
+        ensures fair { Fair self.new.settings self.new.entries }
+    {
+        let is_quiet = self.session.tick_if_quiet(who, now);
+        self.session.legal();
+        is_quiet
     }
 
     /// One draw of the session.

@@ -1,12 +1,13 @@
 //! Turns at the lock, with the session that is found there.
 
-ghost use Rattle.std.specs.Prelude.{◌≡◌, ◌<◌, ◌^◌, ◌⊎◌, ◌+◌, ◌-◌, ◌↔◌, IfErr, IfOk, IfSome, IsTrue, None, Some, length};
+ghost use Rattle.std.specs.Prelude.{◌≡◌, ◌<◌, ◌^◌, ◌⊎◌, ◌+◌, ◌-◌, ◌↔◌, IfErr, IfOk, IfSome, IsTrue, None, Some, false, length, true};
 ghost use Rattle.rs_wire.specs.Calls.{CanBeAsked};
 ghost use Rattle.session_model.specs.Frames.{queued};
 ghost use Rattle.session_model.specs.Life.{asked_token, carrying, closed, live, setup};
 ghost use Rattle.session_model.specs.Legal.{CanBring, Fair, Legal};
 ghost use Rattle.session_core.specs.Queued.{IsUntouched};
 ghost use Rattle.session_core.specs.Seen.{IsNoDrawEvent};
+ghost use Rattle.tape.specs.declared.answer.Answer.TheVariants as answers;
 ghost use Rattle.tape.specs.declared.event.Event.TheVariants as events;
 ghost use Rattle.conn_shared.specs.Members.{Follows, Gains, IsMember};
 ghost use Rattle.conn_shared.specs.Calls.{AreNext, IsStep};
@@ -163,6 +164,30 @@ impl<T: Tape> SharedSession<T> {
         let answer = turn.value().ask(who, call);
         let seat = self.leave(turn);
         (seat, answer)
+    }
+
+    /// One tick in a turn, which is then over, if nothing is due at it.
+    #[inline(always)]
+    pub(crate) fn tick_in(&self, turn: Turn<Stored<T>>, now: u64) -> (Seat<Stored<T>>, bool)
+        requires of { turn.seat.lock ≡ self.now.lock }
+        requires settings { turn.value.settings ≡ self.now.settings }
+        requires tells { turn.value.tells ≡ self.now.tells }
+        requires was { turn.seat.front ≡
+            lines_with self.now.settings self.now.tells (entries_in turn.seat.front) }
+        requires front { entries_in turn.seat.front ≡ turn.value.entries }
+        ensures same { result.0 ≡ record turn.seat { front = result.0.front } }
+        ensures settings { settings_in result.0.front ≡ self.now.settings }
+        ensures tells { tells_in result.0.front ≡ self.now.tells }
+        ensures member { IsMember result.0 }
+        ensures step { result.1 ≡ true → IsStep self.now.settings turn.seat.number
+            turn.value.entries (events.Tick now) answers.Quiet (entries_in result.0.front) }
+        ensures none { result.1 ≡ false → entries_in result.0.front ≡ turn.value.entries }
+    {
+        let mut turn = turn;
+        let who = turn.number();
+        let is_quiet = turn.value().tick_if_quiet(who, now);
+        let seat = self.leave(turn);
+        (seat, is_quiet)
     }
 
     /// One draw in a turn, which is then over.

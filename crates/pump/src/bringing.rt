@@ -101,7 +101,7 @@ pub(crate) fn bring_event<T: Tape, R: Wait>(
     brought
 }
 
-/// Brings a tick with the moment that the clock gives.
+/// Brings a tick with the moment that the clock gives. Most find nothing due, and take the short way.
 pub(crate) fn tick<T: Tape, K: Clock, R: Wait>(
     rt: &R,
     connection: &Connection<T>,
@@ -114,8 +114,8 @@ pub(crate) fn tick<T: Tape, K: Clock, R: Wait>(
         result caller.new.front }
 {
     let now = clock.now();
-    let answer = connection.bring(rt, caller, Event::Tick { now });
-    let brought = brought_by(&answer);
-    drop(answer);
-    brought
+    if connection.tick_if_quiet(rt, caller, now) {
+        return Brought::Noted;
+    }
+    bring_event(rt, connection, caller, Event::Tick { now })
 }

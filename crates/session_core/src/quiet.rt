@@ -92,4 +92,28 @@ impl<T: Tape> Session<T> {
             Err(OutOfMemory) => Answer::OutOfMemory,
         }
     }
+
+    /// Takes the moment of a tick at which nothing is due, and notes it. Answers whether it did: where
+    /// something is due, where the tape is full, or where there is no memory to note it, nothing has
+    /// changed but what is reserved, and the tick has yet to be brought.
+    #[inline(always)]
+    pub fn tick_if_quiet(&mut self, who: u32, now: u64) -> bool
+        ensures quiet { result ≡ true →
+            answer_to self.old.settings self.old.entries (Event.Tick now) ≡ Answer.Quiet }
+        ensures not_full { result ≡ true → length self.old.entries < 2 ^ 63 }
+        ensures after { result ≡ true → self.new ≡ record self.old {
+          entries = entry_of who (Event.Tick now) Answer.Quiet ∷ self.old.entries;
+          spare = self.new.spare;
+        } }
+        ensures same { result ≡ false → self.new ≡ record self.old { spare = self.new.spare } }
+        ensures spare { self.old.spare ≤ self.new.spare + 1 }
+    {
+        if self.tape.count() >= FULL {
+            return false;
+        }
+        let event = Event::Tick { now };
+        let taken = self.take_moment(who, &event, now);
+        let_tick_go(event);
+        matches!(taken, Ok(true))
+    }
 }
