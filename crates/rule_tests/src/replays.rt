@@ -124,3 +124,79 @@ fn reads_across_blocks(rt: HostRuntime) {
     }
     drop(replay);
 }
+
+/// A draw from a boundary on, without the first so many bytes, into room for so many, and what is drawn.
+type Draw = (u64, u64, usize, &'static [u8]);
+
+/// Draws of frames of 6, 16, 17 and 6 bytes.
+const DRAWS: &[Draw] = &[
+    (0, 0, 4, &[0, 0, 6, 0xa1]),
+    (0, 8, 5, &[0xa1, 0, 0, 16, 0xb2]),
+    (0, 28, 3, &[0, 0, 17]),
+    (0, 57, 3, &[]),
+    (6, 0, 2, &[0, 0]),
+    (6, 2, 2, &[16, 0xb2]),
+    (6, 18, 6, &[0xb2, 0, 0, 17, 0xc3, 0xc3]),
+    (22, 0, 5, &[0, 0, 17, 0xc3, 0xc3]),
+    (22, 19, 9, &[0xc3, 0, 0, 6, 0xd4, 0xd4, 0xd4, 0xd4, 0xd4]),
+    (39, 0, 12, &[0, 0, 6, 0xd4, 0xd4, 0xd4, 0xd4, 0xd4, 0xd4]),
+    (39, 7, 6, &[0xd4, 0xd4]),
+    (45, 0, 6, &[]),
+];
+
+// Keeps a frame of at most so many bytes as one of these.
+fn keeps(rt: &impl Abort, replay: &mut Replay, frame: &[u8]) {
+    let count = frame.len();
+    assert!(rt; 6 <= count && count <= 1_000_000 && replay.end() < 1_000_000);
+    replay.reserve(1, count).expect(rt, "there is memory");
+    replay.keep(frame);
+}
+
+// That a row is drawn.
+fn draws(rt: &impl Abort, replay: &Replay, row: Draw) {
+    let (from, skip, room, want) = row;
+    assert!(rt; replay.readable(from));
+    assert!(rt; skip <= replay.framed_len(from) && room <= 12);
+    let mut buffer = [9; 12];
+    let count = replay.copy(from, skip, &mut buffer[..room]);
+    assert!(rt; count == want.len());
+    assert!(rt; &buffer[..count] == want);
+    assert!(rt; buffer[count..].iter().all(|byte| *byte == 9));
+}
+
+#[test]
+fn draws_short_frames_after_their_length_fields(rt: HostRuntime) {
+    let mut replay = Replay::new(rt.alloc(), 1_000).expect(&rt, "there is memory");
+    keeps(&rt, &mut replay, &[0xa1; 6]);
+    keeps(&rt, &mut replay, &[0xb2; 16]);
+    keeps(&rt, &mut replay, &[0xc3; 17]);
+    keeps(&rt, &mut replay, &[0xd4; 6]);
+    for row in DRAWS {
+        draws(&rt, &replay, *row);
+    }
+    drop(replay);
+}
+
+// Frames on both sides of the length from which on three bytes of it don't begin with a 0.
+fn draws_long(rt: &impl Abort, alloc: Global, frame: &[u8], field: [u8; 3]) {
+    let mut replay = Replay::new(alloc, 100_000).expect(rt, "there is memory");
+    keeps(rt, &mut replay, frame);
+    let mut buffer = [9; 4];
+    let end = 2 + frame.len() as u64;
+    assert!(rt; replay.readable(0));
+    assert!(rt; replay.framed_len(0) == end + 1);
+    assert!(rt; replay.copy(0, 0, &mut buffer) == 4);
+    assert!(rt; buffer == [field[0], field[1], field[2], 0x5a]);
+    assert!(rt; replay.copy(0, end, &mut buffer) == 1);
+    assert!(rt; buffer == [0x5a, field[1], field[2], 0x5a]);
+    drop(replay);
+}
+
+#[test]
+fn draws_long_frames_after_their_length_fields(rt: HostRuntime) {
+    let mut frame = Vec::new(rt.alloc());
+    frame.resize(65_535, 0x5a).expect(&rt, "there is memory");
+    draws_long(&rt, rt.alloc(), &frame, [0, 255, 255]);
+    frame.push(0x5a).expect(&rt, "there is memory");
+    draws_long(&rt, rt.alloc(), &frame, [1, 0, 0]);
+}
