@@ -26,15 +26,15 @@ const TIMES: u32 = 50_000;
 /// How many steps are made where nothing is timed.
 const FEW: u32 = 100;
 
-// Opens the connection of a client that nobody shares.
-fn open_alone(session: &mut Session<Blank>)
+/// Opens the connection of a client that nobody shares.
+pub fn open_alone(session: &mut Session<Blank>)
     requires side { session.old.settings.side ≡ Client }
 {
     drop(session.bring(0, Event::opening()));
 }
 
-// Opens one that its callers share.
-fn open_shared<R: Wait>(rt: &R, connection: &Connection<Blank>, caller: &mut Caller<Blank>)
+/// Opens one that its callers share.
+pub fn open_shared<R: Wait>(rt: &R, connection: &Connection<Blank>, caller: &mut Caller<Blank>)
     requires of { caller.old.of ≡ connection.now }
     requires side { connection.now.settings.side ≡ Client }
     ensures of { caller.new.of ≡ connection.now }

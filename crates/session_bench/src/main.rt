@@ -1,11 +1,11 @@
-//! Times turns of a lock, calls through a connection, and what two ends say to one another through
-//! their pumps, over a wire in memory and over TCP on the loopback.
+//! Times turns of a lock, calls and ticks through a connection, and what two ends say to one another
+//! through their pumps, over a wire in memory and over TCP on the loopback.
 //!
-//! The first word says what: `lock`, `conn`, `pump` or `edge`. With a word after it, as `times`, what is
-//! printed are nanoseconds; with none it is what a short run leaves, which is always the same. With
-//! no word at all there is a short run of each.
+//! The first word says what: `lock`, `conn`, `tick`, `pump` or `edge`. With a word after it, as `times`,
+//! what is printed are nanoseconds, for `tick` tenths of them; with none it is what a short run leaves,
+//! which is always the same. With no word at all there is a short run of each.
 //!
-//! `held` with the number of a row lets a replay buffer hold what the row says, until the input ends.
+//! `held` with six numbers lets a replay buffer hold what they say, until the input ends.
 #![tactic(auto)]
 
 mod asks;
@@ -16,6 +16,7 @@ mod held;
 mod locks;
 mod pumps;
 mod sessions;
+mod ticks;
 mod times;
 
 use anyhow::{Context, Result};
@@ -37,18 +38,26 @@ const USAGE: u8 = 2;
 enum Bench {
     Lock,
     Conn,
+    Tick,
     Pump,
     Edge,
 }
 
 /// In the order in which they are run.
-const ALL: [Bench; 4] = [Bench::Lock, Bench::Conn, Bench::Pump, Bench::Edge];
+const ALL: [Bench; 5] = [
+    Bench::Lock,
+    Bench::Conn,
+    Bench::Tick,
+    Bench::Pump,
+    Bench::Edge,
+];
 
 impl Bench {
     fn named(name: &str) -> Option<Bench> {
         match name {
             "lock" => Some(Bench::Lock),
             "conn" => Some(Bench::Conn),
+            "tick" => Some(Bench::Tick),
             "pump" => Some(Bench::Pump),
             "edge" => Some(Bench::Edge),
             _ => None,
@@ -72,6 +81,7 @@ impl Bench {
         match self {
             Bench::Lock => locks::run(&rt, alloc, is_timed),
             Bench::Conn => calls::run(&rt, alloc, is_timed),
+            Bench::Tick => ticks::run(&rt, alloc, is_timed),
             Bench::Pump => pumps::run(&rt, alloc, is_timed),
             Bench::Edge => edges::run(rt, alloc, is_timed),
         }
@@ -89,12 +99,12 @@ fn main(rt: HostRuntime) -> Result<ExitCode> {
         return Ok(ExitCode::SUCCESS);
     };
     if name.as_str() == "held" {
-        let number = words.next().context("the number of a row is missing")?;
-        held::hold(&rt, alloc, &number, &mut StdSource::new(rt.stdin()))?;
+        let row = held::Row::read(&mut words)?;
+        held::hold(&rt, alloc, row, &mut StdSource::new(rt.stdin()))?;
         return Ok(ExitCode::SUCCESS);
     }
     let Some(bench) = Bench::named(&name) else {
-        eprintln!(rt; "session_bench: cannot time {name:?}, only lock, conn, pump and edge")?;
+        eprintln!(rt; "session_bench: cannot time {name:?}, only lock, conn, tick, pump and edge")?;
         return Ok(ExitCode::from(USAGE));
     };
     bench.run(rt, alloc, words.next().is_some())?;

@@ -19,15 +19,26 @@ pub fn now<R: Clock>(rt: &R) -> Option<Instant> {
     Instant::now(rt).ok()
 }
 
-/// Nanoseconds since a moment, for each of some steps. 2^64 - 1, where the clock cannot be read.
-pub fn nanos_since<R: Clock>(rt: &R, start: Option<Instant>, steps: u32) -> u64 {
+// So many parts of a nanosecond since a moment, for each of some steps.
+fn parts_since<R: Clock>(rt: &R, start: Option<Instant>, steps: u32, parts: u128) -> u64 {
     let Some(start) = start else {
         return u64::MAX;
     };
     let Ok(elapsed) = start.elapsed(rt) else {
         return u64::MAX;
     };
-    u64::try_from(elapsed.as_nanos() / u128::from(steps.max(1))).unwrap_or(u64::MAX)
+    let parts = elapsed.as_nanos().saturating_mul(parts);
+    u64::try_from(parts / u128::from(steps.max(1))).unwrap_or(u64::MAX)
+}
+
+/// Nanoseconds since a moment, for each of some steps. 2^64 - 1, where the clock cannot be read.
+pub fn nanos_since<R: Clock>(rt: &R, start: Option<Instant>, steps: u32) -> u64 {
+    parts_since(rt, start, steps, 1)
+}
+
+/// The same in tenths of a nanosecond.
+pub fn tenths_since<R: Clock>(rt: &R, start: Option<Instant>, steps: u32) -> u64 {
+    parts_since(rt, start, steps, 10)
 }
 
 /// The one in the middle.
