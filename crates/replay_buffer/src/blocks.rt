@@ -275,8 +275,8 @@ impl Blocks {
         }
     }
 
-    // The bytes from the one at the index on that lie in the same block.
-    fn part_from(&self, index: usize) -> &[u8]
+    /// The bytes from the one at the index on that lie in the same block.
+    pub fn part_from(&self, index: usize) -> &[u8]
         requires { index < length self.now.items }
         ensures some { 0 < length result.now }
         ensures bytes { result.now ≡ take (length result.now) (drop index self.now.items) }

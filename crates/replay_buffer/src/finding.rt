@@ -53,9 +53,6 @@ impl Store {
         ensures at { IsAt (floor_of self.now) self.now.base (frames_of self.now) result }
         ensures low { result.position ≤ position }
     {
-        if self.near.position == position {
-            return self.near;
-        }
         let first = Spot::first(self.floor, self.base);
         self.marks
             .before(first, position)
@@ -82,6 +79,9 @@ impl Store {
         }
         if position <= self.floor {
             return Spot::first(self.floor, self.base);
+        }
+        if position == self.near.position {
+            return self.near;
         }
         self.walk(self.nearest(position), position)
     }

@@ -121,7 +121,13 @@ impl Blocks {
         ensures { (frame : List ℕ) → Begins (drop index self.now.items) frame →
             result ≡ record { size = prefix_len (length frame); length = length frame } }
     {
-        match self.byte_at(index) {
+        let part = self.part_from(index);
+        match part[0] {
+            // Mostly the length lies in one block.
+            0 if part.len() >= 3 => Prefix {
+                size: 3,
+                length: usize::from(part[1]) * 256 + usize::from(part[2]),
+            },
             0 => Prefix {
                 size: 3,
                 length: self.number_at(index),
@@ -130,7 +136,10 @@ impl Blocks {
                 size: 4,
                 length: self.number_at(index + 1),
             },
-            length => Prefix { size: 1, length },
+            length => Prefix {
+                size: 1,
+                length: usize::from(length),
+            },
         }
     }
 }

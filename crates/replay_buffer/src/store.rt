@@ -133,9 +133,8 @@ impl Store {
           spare = spare_after self.old.spare (length frame.now);
         } }
     {
-        let offset = self.base + self.bytes.len();
+        self.marks.append(self.end, self.base + self.bytes.len());
         self.bytes.put_laid(frame);
-        self.marks.append(self.end, offset);
         self.end += frame.len() as u64;
         self.plain = plain_after(self.plain, self.end, frame.len());
         self.spare_frames -= 1;
@@ -154,10 +153,9 @@ impl Store {
           spare = spare_after self.old.spare (length (drop 3 bytes.now));
         } }
     {
-        let offset = self.base + self.bytes.len();
         let count = bytes.len() - 3;
+        self.marks.append(self.end, self.base + self.bytes.len());
         self.bytes.put_laid_pieces(bytes);
-        self.marks.append(self.end, offset);
         self.end += count as u64;
         self.plain = plain_after(self.plain, self.end, count);
         self.spare_frames -= 1;
