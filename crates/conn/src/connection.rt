@@ -91,17 +91,18 @@ impl<T: Tape> Connection<T> {
     }
 
     /// The bell, for a link to hear. It rings after each step, whoever made it, that left an entry
-    /// other than a draw or a quiet moment: there may be something to draw then.
+    /// other than a draw, a quiet moment or a refused call: there may be something to draw then.
     pub fn bell(&self) -> &Arc<Bell> {
         &self.bell
     }
 
     /// Rings where others may wait for what an event so answered left: also where the connection is
-    /// parted or the peer counts as dead. Nobody waits for a draw, or for a moment alone.
+    /// parted or the peer counts as dead. Nobody waits for a draw, for a moment alone, or for a call
+    /// that was refused, which changes nothing.
     #[inline(always)]
     pub(crate) fn announce(&self, answer: &Answer) {
         match answer {
-            Answer::Drawn(_) | Answer::Quiet => {}
+            Answer::Drawn(_) | Answer::Quiet | Answer::Refused(_) => {}
             answer => {
                 if answer.leaves_entry() {
                     self.bell.ring();

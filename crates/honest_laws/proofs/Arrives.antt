@@ -62,14 +62,14 @@ pub record Arrives (g h : Settings) (before peer : List Entry) (f : Frame) : Typ
 
 -- ---- the entries before it
 
-earlier_joins : (g : Settings) (made : List Frame) (newer past : List Entry) → Joins g made (newer ++ past) → Joins g made past
+pub earlier_joins : (g : Settings) (made : List Frame) (newer past : List Entry) → Joins g made (newer ++ past) → Joins g made past
 unfolding came due
 earlier_joins g made [] past joins = joins
 earlier_joins g made (x ∷ newer) past joins = earlier_joins g made newer past (λ c base part p begins old.
     joins c base part (prefix_more part (came (newer ++ past) c) (brings (newer ++ past) c x.event) p)
     (begins_more g.side (came (newer ++ past) c) (due g (newer ++ past) c) base (brings (newer ++ past) c x.event) (owes g (newer ++ past) c x.answer x.event) begins) old)
 
-came_grows : (newer past : List Entry) (c : ℕ) → IsPrefix (came past c) (came (newer ++ past) c)
+pub came_grows : (newer past : List Entry) (c : ℕ) → IsPrefix (came past c) (came (newer ++ past) c)
 unfolding came
 came_grows [] past c = prefix_refl (came past c)
 came_grows (x ∷ newer) past c = prefix_more (came past c) (came (newer ++ past) c) (brings (newer ++ past) c x.event) (came_grows newer past c)
@@ -89,19 +89,19 @@ pub record IsArrival (g : Settings) (before : List Entry) (x : Entry) (conn : �
   pub error : peer_error f ≡ None
 
 -- it comes after all that came there before, and what counts of it follows what was handled
-record Comes (g : Settings) (made : List Frame) (before : List Entry) (x : Entry) (conn : ℕ) (f : Frame) : Type 0 where
-  base : List Frame
-  begins : Begins g.side (came before conn) (due g before conn) base
-  brought : came (x ∷ before) conn ≡ came before conn ++ f ∷ []
-  next : IsPrefix (handled before ++ counting (f ∷ [])) made
+pub record Comes (g : Settings) (made : List Frame) (before : List Entry) (x : Entry) (conn : ℕ) (f : Frame) : Type 0 where
+  pub base : List Frame
+  pub begins : Begins g.side (came before conn) (due g before conn) base
+  pub brought : came (x ∷ before) conn ≡ came before conn ++ f ∷ []
+  pub next : IsPrefix (handled before ++ counting (f ∷ [])) made
 
-live_at : (now c : ℕ) → is_live now c ≡ true → (now ≡ c) × (0 < now)
+pub live_at : (now c : ℕ) → is_live now c ≡ true → (now ≡ c) × (0 < now)
 live_at now c is = (grind (arith, nat_tests), grind (arith, nat_tests))
 
 brings_one : (g : Settings) (past : List Entry) (conn : ℕ) (f : Frame) → Legal g past → is_live (live past) conn ≡ true → first_bad past conn ≡ None → brings past conn (event.Came conn f) ≡ f ∷ []
 brings_one g past conn f legal here clean = let within = live_le g past legal in grind (arith, common_steps)
 
-comes : (g : Settings) (made : List Frame) (before : List Entry) (x : Entry) (conn : ℕ) (f : Frame) → IsLawful g before → Joins g made (x ∷ before) → IsArrival g before x conn f → Comes g made before x conn f
+pub comes : (g : Settings) (made : List Frame) (before : List Entry) (x : Entry) (conn : ℕ) (f : Frame) → IsLawful g before → Joins g made (x ∷ before) → IsArrival g before x conn f → Comes g made before x conn f
 unfolding came due
 comes g made before x conn f lawful joins is =
     let k = kept g made before lawful.legal lawful.fair (earlier_joins g made (x ∷ []) before joins) in

@@ -1,5 +1,6 @@
 pub mod Plain
 pub mod Arrives
+pub mod Told
 pub mod Judged
 pub mod Counts
 pub mod Roles

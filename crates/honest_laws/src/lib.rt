@@ -13,4 +13,6 @@
 
 mod accusing;
 
-pub use accusing::honest_ends_accuse_nobody;
+pub use accusing::{
+    honest_ends_accuse_nobody, what_is_not_handled_is_held, what_is_told_was_handled,
+};

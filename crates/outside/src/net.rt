@@ -117,6 +117,16 @@ pub trait Net {
         ensures cause { result ≡ Err NetFault.Failed → Rose (faults self.old) (faults self.new) }
         ensures faults { faults self.new ≡ faults_after result (faults self.old) };
 
+    /// Hears no more of links that others open: the address is free, and who opens a link to it is refused
+    /// by the system. It asks for nothing, and can't fail. A net in memory, which no other opens links to,
+    /// does nothing.
+    fn stop_listening(&mut self)
+        ensures asked { asked self.new ≡ asked self.old }
+        ensures out { out self.new ≡ out self.old }
+        ensures back { back self.new ≡ back self.old }
+        ensures faults { faults self.new ≡ faults self.old }
+    {}
+
     /// Takes a link back: more were handed out than put back. Its place was reserved as it was
     /// handed out.
     fn put_back(&mut self, link: Self::Link)

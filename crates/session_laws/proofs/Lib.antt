@@ -9,6 +9,7 @@ pub mod Quiet
 pub mod Waiting
 pub mod Verdict
 pub mod Told
+pub mod Bounded
 pub mod Runs
 pub mod FromClient
 pub mod FromServer

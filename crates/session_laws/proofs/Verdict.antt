@@ -155,7 +155,7 @@ opened_only None (Some x) n is = absurd (cc)
 opened_only None None n is = (refl, refl)
 
 -- in the words of the entries
-kept_by : (g : Settings) (past : List Entry) (r : Resume) (token : Option (List ℕ)) → g.side ≡ Server → asked_token (setup past) ≡ token → closed g past ≡ None → gone_with (facts g past) r token ≡ None → CanResume g past r
+pub kept_by : (g : Settings) (past : List Entry) (r : Resume) (token : Option (List ℕ)) → g.side ≡ Server → asked_token (setup past) ≡ token → closed g past ≡ None → gone_with (facts g past) r token ≡ None → CanResume g past r
 unfolding facts
 kept_by g past r None side is free none = absurd (cc)
 kept_by g past r (Some token) side is free none =
@@ -235,12 +235,12 @@ refused_live past who f taken why = refl
 
 -- ---- RESUME_OK
 
-record IsOkHandled (here : Bool) (why : Option Cause) (busy carries : Bool) (o : Option Gone) : Type 0 where
-  live : here ≡ true
-  free : why ≡ None
-  place : busy ≡ false
-  waits : carries ≡ false
-  holds : o ≡ None
+pub record IsOkHandled (here : Bool) (why : Option Cause) (busy carries : Bool) (o : Option Gone) : Type 0 where
+  pub live : here ≡ true
+  pub free : why ≡ None
+  pub place : busy ≡ false
+  pub waits : carries ≡ false
+  pub holds : o ≡ None
 
 -- the answer, test by test
 ok_answer : Bool → Option Cause → Bool → Bool → Option Gone → ℕ → ℕ → Answer
@@ -257,7 +257,7 @@ handled_only true None false true o now queued is = absurd (cc)
 handled_only true None false false (Some x) now queued is = absurd (cc)
 handled_only true None false false None now queued is = record { live = refl; free = refl; place = refl; waits = refl; holds = refl }
 
-ok_handled_so : (g : Settings) (past : List Entry) (conn position : ℕ) → Legal g past
+pub ok_handled_so : (g : Settings) (past : List Entry) (conn position : ℕ) → Legal g past
     → IsOkHandled (is_live (live past) conn) (closed g past) (ltb (out_limit_of g) (queued g past + length_of (frame.ResumeOk position) + ANSWER_ROOM)) (carrying g past) (ok_gone (facts g past) position)
     → CanGoOn g past conn position
 unfolding facts

@@ -119,7 +119,7 @@ resume_alone g (x ∷ past) h waits =
 
 -- ---- how long it is
 
-resume_length : (g : Settings) (told from : ℕ) → length (framed_all (resume_frame g told from ∷ [])) ≤ length g.token + 31
+pub resume_length : (g : Settings) (told from : ℕ) → length (framed_all (resume_frame g told from ∷ [])) ≤ length g.token + 31
 resume_length g told from =
     let f = resume_frame g told from in
     let one : framed_all (f ∷ []) ≡ framed_frame f = append-nil (framed_frame f) in

@@ -35,7 +35,7 @@ pub use leases::{
 pub use one_end::{
     closed_stays_closed, frames_are_spellable, frames_only_grow,
     no_fragment_is_longer_than_the_mtu, nothing_more_is_agreed, queued_is_what_is_left,
-    seen_is_made_and_handled,
+    seen_is_made_and_handled, the_queue_stays_within_its_limit,
 };
 pub use openings::{
     an_opening_is_accepted_once, no_resume_is_accepted_where_none_is_agreed,

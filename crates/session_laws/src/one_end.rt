@@ -3,7 +3,7 @@
 ghost use Rattle.std.specs.Prelude.{◌≡◌, ◌≤◌, ◌+◌, ◌++◌, ℕ, IfSome, List, length, Some, false};
 ghost use Rattle.std.specs.List.{AllByRecursion};
 ghost use Rattle.rs_wire.specs.declared.fault.Cause.{Cause};
-ghost use Rattle.rs_wire.specs.Settings.{IsChecked};
+ghost use Rattle.rs_wire.specs.Settings.{IsChecked, out_limit_of};
 ghost use Rattle.rs_wire.specs.declared.settings.Settings.{Settings};
 ghost use Rattle.rs_frame.specs.Spelling.{IsSpellable};
 ghost use Rattle.rs_frame.specs.Framed.{framed_all};
@@ -16,6 +16,7 @@ ghost use Rattle.session_model.specs.Frames.{queued, refusal, seen};
 ghost use Rattle.session_model.specs.Legal.{Fair, Legal};
 ghost use Rattle.session_laws.specs.Fragments.{FitsMtu};
 ghost use Rattle.session_laws.specs.Marks.{got, sent};
+ghost use Rattle.session_laws.specs.Streams.{IsLawful};
 
 /// A closed session stays closed, for the cause that closed it first.
 pub fn closed_stays_closed()
@@ -44,6 +45,13 @@ pub fn queued_is_what_is_left()
         drawn past (live past) + queued g past ≡ length (framed_all (due g past (live past))) }
     ensures never_past { (g : Settings) (past : List Entry) (c : ℕ) → Legal g past →
         drawn past c ≤ length (framed_all (due g past c)) }
+{}
+
+/// The queue never has more bytes than its limit, whatever the peer sends and callers ask: a call
+/// that finds no room is refused, and what comes waits until there is room for its answer.
+pub fn the_queue_stays_within_its_limit()
+    ensures { (g : Settings) (past : List Entry) → IsChecked g → IsLawful g past →
+        queued g past ≤ out_limit_of g }
 {}
 
 /// An end whose settings have no resumption agrees to none, and likewise leases: a server refuses
