@@ -10,7 +10,7 @@ use conn::{Caller, Connection};
 use outside::{After, MemClock, MemLink};
 use pump::{Brought, Pump, Turned};
 use rs_chunk::Reader;
-use rs_wire::{Blob, Call, Checked, Settings, Side, check};
+use rs_wire::{Amount, Blob, Call, Checked, Kind, Message, Settings, Side, check};
 use session_core::Session;
 use std::alloc::Global;
 use std::process::Abort;
@@ -108,6 +108,21 @@ fn request<R: Abort>(rt: &R, alloc: Global, length: usize) -> Call
     Call::fire_and_forget(Blob::from_vec(content))
 }
 
+// A request of a stream, which lets this many items in at first.
+fn stream_request(alloc: Global, initial: Amount) -> Call
+    ensures { CanBeAsked result }
+{
+    Call::Request {
+        kind: Kind::Stream,
+        initial: Some(initial),
+        message: Message {
+            metadata: None,
+            content: Blob::from_vec(Vec::new(alloc)),
+        },
+        complete: false,
+    }
+}
+
 // The id of the stream that a call started.
 fn started(answer: &Answer) -> Option<u32> {
     match answer {
@@ -188,16 +203,29 @@ impl<T: Tape> End<T> {
         self.pump.gave();
     }
 
-    /// Makes a fire-and-forget request of this many bytes. The id of the stream that it starts.
-    pub fn ask<R: Abort + Wait>(&mut self, rt: &R, alloc: Global, length: usize) -> Option<u32>
-        requires { length ≤ 16000000 }
+    // Makes a call. The id of the stream that it starts.
+    fn call<R: Wait>(&mut self, rt: &R, call: Call) -> Option<u32>
+        requires { CanBeAsked call }
     {
-        let call = request(rt, alloc, length);
         let answer = self.connection.call(rt, &mut self.caller, &call);
         let started = started(&answer);
         drop(answer);
         drop(call);
         started
+    }
+
+    /// Makes a fire-and-forget request of this many bytes. The id of the stream that it starts.
+    pub fn ask<R: Abort + Wait>(&mut self, rt: &R, alloc: Global, length: usize) -> Option<u32>
+        requires { length ≤ 16000000 }
+    {
+        let call = request(rt, alloc, length);
+        self.call(rt, call)
+    }
+
+    /// Asks for a stream, and lets one item in. The id of the stream.
+    pub fn ask_item<R: Abort + Wait>(&mut self, rt: &R, alloc: Global) -> Option<u32> {
+        let one = Amount::of(1).expect(rt, "1 is an amount");
+        self.call(rt, stream_request(alloc, one))
     }
 
     /// The tape, once the connection is closed.

@@ -1,10 +1,12 @@
-//! A peer that sends on while its frames find no room in the queue.
+//! A peer that sends on while its frames find no room in the queue, and one that sends more items than
+//! were let in.
 
 ghost use Rattle.std.specs.Prelude.{◌≡◌};
 
 use super::ends::{End, compare, link};
 use outside::After;
 use pump::Turned;
+use rs_wire::{Cause, Rule};
 use std::alloc::Global;
 use std::process::Abort;
 use std::sync::Wait;
@@ -66,4 +68,27 @@ fn flood<R: Abort + Wait, T: Tape>(rt: &R, alloc: Global, tape: T) -> T
 #[test]
 fn nothing_is_taken_while_a_frame_waits(rt: HostRuntime) {
     flood(&rt, rt.alloc(), Blank::new());
+}
+
+/// An item on stream 1 whose content is `b`, twice over (RSocket 1.0, "PAYLOAD Frame").
+const TWO_ITEMS: &[u8] = &[
+    0, 0, 7, 0, 0, 0, 1, 0x28, 0x20, 0x62, //
+    0, 0, 7, 0, 0, 0, 1, 0x28, 0x20, 0x62, //
+];
+
+// The session is over at the second item, of which one was let in.
+fn overdraw<R: Abort + Wait, T: Tape>(rt: &R, alloc: Global, tape: T) -> T
+    requires empty { T.count tape ≡ 0 }
+{
+    let link = link(rt, alloc, TWO_ITEMS, After::Lulls, 100, 0);
+    let mut end = End::new(rt, alloc, 1, link, 0, tape);
+    assert!(rt; end.ask_item(rt, alloc) == Some(1));
+    let over = Turned::Over(Cause::Broken(Rule::OverCredit(1)));
+    compare(rt, end.run(rt, 10), over);
+    end.close(rt)
+}
+
+#[test]
+fn an_item_more_than_was_let_in_ends_the_session(rt: HostRuntime) {
+    overdraw(&rt, rt.alloc(), Blank::new());
 }
