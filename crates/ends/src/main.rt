@@ -1,5 +1,5 @@
 //! Sessions by rows of text: each list sets an end up, and each of its rows brings an event and says
-//! what it is to answer. `docs/development.md` has the grammar.
+//! what it is to answer. `docs/rows.md` has the grammar.
 //!
 //! Plays the files of the folder that a word names, or of the one that it is run in. Writes a line for each file, and
 //! before it the first ten of its rows that differ. The status is 1 where one does.
